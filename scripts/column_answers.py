@@ -18,8 +18,7 @@ A row `Slots 5 20 Int8 9 ..` has a column of 40 slots of the column that comes a
 its slots and one of those that are kept, the next turn's five further on, and from the front again after the last. Under
 a null of fixed width it has zeros, and where the column has a dictionary it is one of texts.
 
-A row `Coded ..` has the column of texts that comes after the word: as indices over its own texts, then those texts, and then
-the indices once more, since the program codes the column in a batch and alone.
+A row `Coded ..` has the column of texts that comes after the word: as indices over its own texts, and then those texts.
 """
 
 import sys
@@ -209,7 +208,7 @@ def coded(slots):
     firsts = {text: place for place, text in enumerate(dict.fromkeys(slot for slot in slots if slot is not None))}
     indices = told(slots, anew("Int32", [None if slot is None else firsts[slot] for slot in slots]))
     texts = list(firsts)
-    return "\n".join([indices, told(texts, anew("Utf8", texts)), indices])
+    return "\n".join([indices, told(texts, anew("Utf8", texts))])
 
 
 def answer(line):

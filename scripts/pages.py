@@ -12,7 +12,8 @@ named in backticks are there; that each wrong body has its row in the README of 
 stands, and fits the code; that plants/README.md names each crate with plants; that code which is shown stands
 so in a source file; that the definitions of docs/PROMISE.md leave out no file to believe, and that what a row says of its
 files stands in them; that no sentence and no cell of a table has more than 35 words, where a code span is one word and
-quotations are left out; that README.md has at most 9,216 bytes; and what `page_style.py` says of the words of a page.
+quotations are left out; that README.md has at most 9,216 bytes; what `page_style.py` says of the words of a page;
+and what `names.py` says of names.
 """
 
 import pathlib
@@ -21,6 +22,7 @@ import sys
 
 sys.dont_write_bytecode = True
 
+import names as name_rules  # noqa: E402
 import trusted_base  # noqa: E402
 from page_style import look_at_style, look_at_totals  # noqa: E402
 from wrong_bodies import misfits, wrong_bodies  # noqa: E402
@@ -340,6 +342,7 @@ def main(words):
         look_at_style(str(page.relative_to(TOP)), text, amiss)
     look_at_totals(texts, amiss)
     look_at_sections(amiss)
+    amiss.extend(name_rules.amiss())
     look_at_wrong_bodies(amiss)
     look_at_edits(amiss)
     look_at_plants(amiss)

@@ -32,8 +32,8 @@ LAWS = (("commands", "history_is_told"), ("commands", "history_is_marked"), ("co
         ("commands", "taken_connections_are_whole"),
         ("flight_calls", "new_connections_are_whole"), ("flight_calls", "seats_meet_joined"))
 # (what these define is a standard's, or the grammar's; what all other crates define is our own machine, and what queries mean)
-FORMATS = {"proto_wire", "flatbuf", "bitmap", "arrow_schema", "arrays", "array_buffers", "ipc_batch", "ipc_stream",
-           "flight_proto", "sql_text", "grammar", "sql_parse"}
+FORMATS = {"proto_wire", "flatbuf", "bitmap", "arrow_types", "arrow_schema", "arrays", "array_buffers", "ipc_batch",
+           "ipc_stream", "flight_proto", "sql_text", "grammar", "sql_parse"}
 MACHINE_GOAL, FORMATS_GOAL = 1_000, 1_300  # lines
 LONGEST_FILE = 150
 

@@ -1,9 +1,9 @@
-"""The rooms of crates/call_cases: puts, streams of a client, and connections. The script of a room writes its rows, and
-leaves those of the other rooms as they are."""
+"""The rooms of crates/call_cases: puts, streams of a client, connections, and checks. The script of a room writes its rows,
+and leaves those of the other rooms as they are. No script writes the rows of checks, which are names."""
 import pathlib
 
 PROGRAM = pathlib.Path(__file__).resolve().parent.parent / "crates/call_cases"
-ROOMS = ("puts", "streams", "connections")
+ROOMS = ("puts", "streams", "connections", "checks")
 
 
 def rooms_of(text):

@@ -8,7 +8,7 @@ use Rattle.std.specs.declared.result.Result.TheVariants.{Ok, Err}
 use Rattle.std.specs.Simd.Lanes.{mask_l}
 use Rattle.std.proofs.lemmas.List.{drop-drop, drop-take, take-take, take-append-le, length-drop, length-take, map-append}
 use Rattle.bitmap.proofs.Masks.{range-append}
-use Rattle.array_buffers.specs.Written.{packed_bits}
+use Rattle.array_buffers.specs.ColumnBuffers.{packed_bits}
 use Rattle.array_buffers.proofs.Packed.{word_then, short_word_bytes}
 
 pub begins_more : (base old new part : List ℕ) → new ≡ old ++ part → take (length base) old ≡ base → take (length base) new ≡ base

@@ -8,8 +8,8 @@ use Rattle.arrays.specs.Number.{element_at, AreBytes}
 use Rattle.arrays.specs.Texts.{TextsAt, text_at, AreTexts}
 use Rattle.arrays.specs.declared.layout.Layout.TheVariants as layout
 use Rattle.arrays.specs.Column.{ColumnAt, slot_of, values_of, IsColumn}
-use Rattle.arrays.specs.Written.{text_bytes, offsets_from}
-use Rattle.array_buffers.specs.Written.{buffer_of}
+use Rattle.arrays.specs.WrittenSlots.{text_bytes, offsets_from}
+use Rattle.array_buffers.specs.ColumnBuffers.{buffer_of}
 use Rattle.arrays.proofs.Adjoining.{parts_joined, ordered, ends, shifted}
 use Rattle.array_buffers.proofs.Lengths.{written_as, stands_as}
 

@@ -17,7 +17,7 @@ use Rattle.scan_base.specs.Value.{is_null}
 use Rattle.arrays.specs.Validity.{is_valid, where_valid, validity_of}
 use Rattle.arrays.specs.Column.{ColumnAt, slot_of, values_of}
 use Rattle.arrays.specs.Nulls.{null_count, valid_slots}
-use Rattle.array_buffers.specs.Written.{packed_bits, validity_written, validity_read}
+use Rattle.array_buffers.specs.ColumnBuffers.{packed_bits, validity_written, validity_read}
 use Rattle.array_buffers.proofs.Packed.{byte_of, bits_mask}
 use Rattle.arrays.proofs.NullSlots.{length-valid_slots, valid_map}
 use Rattle.array_buffers.proofs.Lengths.{length-packed, some_validity}

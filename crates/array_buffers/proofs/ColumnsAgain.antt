@@ -7,11 +7,11 @@ use Rattle.std.proofs.lemmas.Bool.{le-leb}
 use Rattle.std.proofs.lemmas.List.FromFn.{length-map-range_with_len, get_or-map-range_with_len}
 use Rattle.scan_base.specs.declared.value.Value.{Value}
 use Rattle.scan_base.specs.declared.value.Value.TheVariants.{Null, Bool, Int, Text}
-use Rattle.arrow_schema.specs.declared.data_type.DictionaryEncoding.{DictionaryEncoding}
-use Rattle.arrow_schema.specs.declared.data_type.IntegerType.{IntegerType}
-use Rattle.arrow_schema.specs.declared.data_type.IntegerType.TheVariants.{Int32}
-use Rattle.arrow_schema.specs.declared.data_type.DataType.{DataType}
-use Rattle.arrow_schema.specs.declared.data_type.DataType.TheVariants as type
+use Rattle.arrow_types.specs.declared.data_type.DictionaryEncoding.{DictionaryEncoding}
+use Rattle.arrow_types.specs.declared.data_type.IntegerType.{IntegerType}
+use Rattle.arrow_types.specs.declared.data_type.IntegerType.TheVariants.{Int32}
+use Rattle.arrow_types.specs.declared.data_type.DataType.{DataType}
+use Rattle.arrow_types.specs.declared.data_type.DataType.TheVariants as type
 use Rattle.arrays.specs.declared.layout.Layout.{Layout}
 use Rattle.arrays.specs.declared.layout.Layout.TheVariants as layout
 use Rattle.arrays.specs.Number.{byte_width, integer_at, decimal_at, number_from}
@@ -22,10 +22,10 @@ use Rattle.arrays.specs.Indices.{IndicesAt, indices_of, index_stands, entry_of}
 use Rattle.scan_base.specs.Value.{IsTextOrNull}
 use Rattle.arrays.specs.Texts.{texts_of, text_at}
 use Rattle.arrays.specs.Column.{ColumnAt, IsColumn, slot_of, values_of}
-use Rattle.arrays.specs.Typed.{IsOfType}
+use Rattle.arrays.specs.TypedLayouts.{IsOfType}
 use Rattle.arrays.specs.Buffers.{values_layout, texts_layout}
-use Rattle.arrays.specs.Written.{elements, texts_joined, offsets_from}
-use Rattle.array_buffers.specs.Written.{packed_bits, values_written, validity_read, LeadsAlike, IsLedBy, SaySlots, ColumnsReadBack, HasShortTexts}
+use Rattle.arrays.specs.WrittenSlots.{elements, texts_joined, offsets_from}
+use Rattle.array_buffers.specs.ColumnBuffers.{packed_bits, values_written, validity_read, LeadsAlike, IsLedBy, SaySlots, ColumnsReadBack, HasShortTexts}
 use Rattle.array_buffers.proofs.ElementsAgain.{element_again, values_again}
 use Rattle.array_buffers.proofs.Lengths.{length-elements}
 use Rattle.arrays.proofs.TextSlots.{slot_is_text}

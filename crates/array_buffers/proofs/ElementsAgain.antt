@@ -9,7 +9,7 @@ use Rattle.arrays.specs.declared.layout.Layout.{Layout}
 use Rattle.arrays.specs.Layout.{layout_slot, layout_count}
 use Rattle.arrays.specs.Number.{element_at}
 use Rattle.arrays.specs.Column.{ColumnAt, slot_of, values_of, whole}
-use Rattle.arrays.specs.Written.{elements}
+use Rattle.arrays.specs.WrittenSlots.{elements}
 use Rattle.array_buffers.proofs.Packed.{map_same}
 
 -- an element of some elements is one of all

@@ -10,8 +10,8 @@ use Rattle.arrays.specs.Validity.{where_valid}
 use Rattle.arrays.specs.Dictionary.{entry_at}
 use Rattle.arrays.specs.Indices.{IndicesAt, entry_of, index_stands}
 use Rattle.arrays.specs.Column.{ColumnAt, slot_of}
-use Rattle.arrays.specs.Written.{elements}
-use Rattle.array_buffers.specs.Written.{LeadsAlike}
+use Rattle.arrays.specs.WrittenSlots.{elements}
+use Rattle.array_buffers.specs.ColumnBuffers.{LeadsAlike}
 use Rattle.array_buffers.proofs.ElementsAgain.{element_again}
 use Rattle.array_buffers.proofs.BitsAgain.{validity_again, valid_again, valid_value}
 

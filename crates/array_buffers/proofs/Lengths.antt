@@ -11,8 +11,8 @@ use Rattle.arrays.specs.declared.layout.Layout.TheVariants as layout
 use Rattle.arrays.specs.Texts.{TextsAt}
 use Rattle.arrays.specs.Column.{ColumnAt, IsColumn, values_of}
 use Rattle.arrays.specs.Nulls.{null_count, valid_slots}
-use Rattle.array_buffers.specs.Written.{packed_bits, validity_written, written_by, values_written, buffers_written, buffer_of}
-use Rattle.arrays.specs.Written.{elements, offsets_from, texts_joined}
+use Rattle.array_buffers.specs.ColumnBuffers.{packed_bits, validity_written, written_by, values_written, buffers_written, buffer_of}
+use Rattle.arrays.specs.WrittenSlots.{elements, offsets_from, texts_joined}
 use Rattle.arrays.proofs.Entries.{dropped}
 
 pub no_validity : (column : ColumnAt) → null_count column ≡ 0 → validity_written column ≡ []

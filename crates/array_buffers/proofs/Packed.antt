@@ -7,7 +7,7 @@ use Rattle.std.proofs.Math.Nat.{div-div-eq-div-mul, pow-succ', mul_assoc, div-on
 use Rattle.std.proofs.lemmas.List.{drop-drop, drop-take, take-take, map-append, length-drop, length-take}
 use Rattle.byteorder.proofs.Bytes.{take-bytes_low_first}
 use Rattle.bitmap.proofs.Masks.{mask_room, range-append}
-use Rattle.array_buffers.specs.Written.{bits_number, packed_bits}
+use Rattle.array_buffers.specs.ColumnBuffers.{bits_number, packed_bits}
 use Rattle.arrays.proofs.Slices.{map_shifted}
 
 -- one byte of packed bits

@@ -10,7 +10,7 @@ use Rattle.arrays.specs.Number.{element_at}
 use Rattle.scan_base.specs.Value.{is_null, IsTextOrNull}
 use Rattle.arrays.specs.Texts.{TextsAt, text_at, is_offset, text_stands, texts_stand}
 use Rattle.arrays.specs.Column.{ColumnAt, slot_of, values_of}
-use Rattle.arrays.specs.Written.{text_bytes, offsets_from, texts_joined}
+use Rattle.arrays.specs.WrittenSlots.{text_bytes, offsets_from, texts_joined}
 use Rattle.arrays.proofs.Offsets.{length-offsets, offset_again, text_again, joined-le, joined-next}
 use Rattle.array_buffers.proofs.BitsAgain.{validity_again, valid_again}
 

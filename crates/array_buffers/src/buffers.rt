@@ -3,11 +3,11 @@
 ghost use Rattle.std.specs.Prelude.{◌≡◌, ◌<◌, ◌+◌, ℕ, IfOk, IfSome, length};
 ghost use Rattle.arrays.specs.Column.{slot_of};
 ghost use Rattle.arrays.specs.Texts.{text_at};
-ghost use Rattle.arrays.specs.Written.{text_bytes};
-ghost use Rattle.array_buffers.specs.Written.{buffer_of, buffers_written, HasShortTexts};
+ghost use Rattle.arrays.specs.WrittenSlots.{text_bytes};
+ghost use Rattle.array_buffers.specs.ColumnBuffers.{buffer_of, buffers_written, HasShortTexts};
 ghost use Rattle.arrays.specs.declared.layout.Layout.TheVariants.{Texts as TextsLayout};
 
-use crate::written::append_buffer;
+use crate::buffer_writing::append_buffer;
 use arrays::{Cells, Column, Layout, TextsRef};
 use bytes::Bytes;
 use std::alloc::{AllocError, Global};

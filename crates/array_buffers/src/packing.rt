@@ -1,7 +1,7 @@
 //! Bits packed after bytes.
 
 ghost use Rattle.std.specs.Prelude.{◌≡◌, ◌≤◌, ◌+◌, ◌++◌, OnOk, length, take, drop};
-ghost use Rattle.array_buffers.specs.Written.{packed_bits};
+ghost use Rattle.array_buffers.specs.ColumnBuffers.{packed_bits};
 
 use bitmap::Bits;
 use std::alloc::AllocError;

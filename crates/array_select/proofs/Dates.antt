@@ -2,14 +2,14 @@
 use Rattle.std.proofs.Common.{ℕ, List, get_or, All}
 use Rattle.scan_base.specs.declared.value.Value.{Value}
 use Rattle.scan_base.specs.declared.value.Value.TheVariants.{Null, Bool, Int, Text}
-use Rattle.arrow_schema.specs.declared.data_type.IntegerType.TheVariants.{Int32}
-use Rattle.arrow_schema.specs.declared.data_type.DataType.TheVariants as type
+use Rattle.arrow_types.specs.declared.data_type.IntegerType.TheVariants.{Int32}
+use Rattle.arrow_types.specs.declared.data_type.DataType.TheVariants as type
 use Rattle.arrays.specs.declared.layout.Layout.{Layout}
 use Rattle.arrays.specs.declared.layout.Layout.TheVariants as layout
 use Rattle.arrays.specs.declared.slots.Values.{Values}
 use Rattle.arrays.specs.Column.{ColumnAt}
-use Rattle.arrays.specs.Typed.{IsOfType, IsValueOf}
-use Rattle.array_select.specs.inside.Filled.{AreOfType, FillSlots}
+use Rattle.arrays.specs.TypedLayouts.{IsOfType, IsValueOf}
+use Rattle.array_select.specs.inside.SlotFilling.{AreOfType, FillSlots}
 
 value_is : (value : Value) → IsValueOf type.Date value → IsValueOf (type.Integer Int32) value
 value_is Null is = is

@@ -14,21 +14,19 @@ use Rattle.byteorder.specs.Endian.{little_from}
 use Rattle.scan_base.specs.declared.value.Value.{Value}
 use Rattle.scan_base.specs.declared.value.Value.TheVariants.{Null, Bool, Int, Text}
 use Rattle.scan_base.specs.Value.{is_null}
-use Rattle.arrow_schema.specs.declared.data_type.IntegerType.{IntegerType}
-use Rattle.arrow_schema.specs.declared.data_type.IntegerType.TheVariants.{Int8, Int16, Int32, Int64, UInt8, UInt16, UInt32, UInt64}
-use Rattle.arrow_schema.specs.declared.data_type.DataType.TheVariants as type
-use Rattle.arrow_schema.specs.declared.data_type.DictionaryEncoding.{DictionaryEncoding}
+use Rattle.arrow_types.specs.declared.data_type.IntegerType.{IntegerType}
+use Rattle.arrow_types.specs.declared.data_type.IntegerType.TheVariants.{Int8, Int16, Int32, Int64, UInt8, UInt16, UInt32, UInt64}
+use Rattle.arrow_types.specs.declared.data_type.DataType.TheVariants as type
 use Rattle.arrays.specs.declared.layout.Layout.{Layout}
-use Rattle.arrays.specs.declared.slots.Values.{Values}
 use Rattle.arrays.specs.declared.slots.Values.TheVariants as kind
 use Rattle.arrays.specs.Number.{AreBytes, byte_width, element_at, number_from, integer_at, decimal_at, signed_from}
 use Rattle.arrays.specs.Validity.{is_valid, where_valid}
 use Rattle.arrays.specs.Layout.{layout_count, layout_slot}
 use Rattle.arrays.specs.Column.{slot_of, values_of, whole}
-use Rattle.arrays.specs.Typed.{IsInteger, IsValueOf}
-use Rattle.array_select.specs.inside.Filled.{low_bytes, AreOfType, AreValidUnlessNull, AreNumbersOf, FillSlots}
+use Rattle.arrays.specs.TypedLayouts.{IsInteger, IsValueOf}
+use Rattle.array_select.specs.inside.SlotFilling.{low_bytes, AreOfType, AreValidUnlessNull, AreNumbersOf, FillSlots}
 use Rattle.arrays.specs.Texts.{text_at}
-use Rattle.arrays.specs.Written.{text_bytes, offsets_from, texts_joined}
+use Rattle.arrays.specs.WrittenSlots.{text_bytes, offsets_from, texts_joined}
 use Rattle.array_select.proofs.Gathered.{front, behind}
 use Rattle.array_select.proofs.GatheredTexts.{texts_made, text_made, texts_stand}
 
@@ -201,21 +199,6 @@ texts_fill offsets bytes made_offsets made_bytes values count a b c d many short
           (λ some. ap Text (text_made validity values k Null low short) ∙ text_value (get_or values k Null) some (of k (omega (arith, many))));
       typed = tt;
     }))
-
--- the values of a dictionary of texts are texts
-led_value : (encoding : DictionaryEncoding) (value : Value) → IsValueOf (type.Dictionary encoding) value → IsValueOf type.Utf8 value
-led_value encoding Null of = tt
-led_value encoding (Int number) of = absurd of
-led_value encoding (Bool flag) of = absurd of
-led_value encoding (Text bytes) of = of
-
-pub led_of : (encoding : DictionaryEncoding) (values : List Value) (count : ℕ) → AreOfType (type.Dictionary encoding) values count → AreOfType type.Utf8 values count
-led_of encoding values count of = λ k low. led_value encoding (get_or values k Null) (of k low)
-
-pub led_fill : (encoding : DictionaryEncoding) (kept : Values) (values : List Value) → FillSlots kept type.Utf8 values → FillSlots kept (type.Dictionary encoding) values
-led_fill encoding kept values fill = λ validity valid.
-    let f = fill validity valid in
-    record { stand = f.stand; count = f.count; slots = f.slots; typed = f.typed }
 
 -- the values of a column whose slots have them
 pub values_filled : (layout : Layout) (values : List Value) → layout_count layout ≡ length values → ((k : ℕ) → k < length values → layout_slot layout k ≡ get_or values k Null) →

@@ -11,9 +11,9 @@ use Rattle.bitmap.proofs.Masks.{little_drop, little_part}
 use Rattle.arrays.specs.Number.{element_at, byte_width, integer_at, decimal_at, number_from, signed_from}
 use Rattle.scan_base.specs.declared.value.Value.{Value}
 use Rattle.scan_base.specs.declared.value.Value.TheVariants.{Null, Int, Bool as Truth}
-use Rattle.arrow_schema.specs.declared.data_type.IntegerType.{IntegerType}
-use Rattle.arrow_schema.specs.declared.data_type.DataType.{DataType}
-use Rattle.arrow_schema.specs.declared.data_type.DataType.TheVariants as type
+use Rattle.arrow_types.specs.declared.data_type.IntegerType.{IntegerType}
+use Rattle.arrow_types.specs.declared.data_type.DataType.{DataType}
+use Rattle.arrow_types.specs.declared.data_type.DataType.TheVariants as type
 use Rattle.arrays.specs.declared.layout.Layout.{Layout}
 use Rattle.arrays.specs.declared.layout.Layout.TheVariants as layout
 use Rattle.arrays.specs.Validity.{is_valid, where_valid}
@@ -24,9 +24,9 @@ use Rattle.arrays.specs.Bools.{BoolsAt}
 use Rattle.arrays.specs.Indices.{IndicesAt, AreIndices}
 use Rattle.arrays.specs.Dictionary.{entry_at}
 use Rattle.arrays.specs.Layout.{layout_count, layout_slot}
-use Rattle.arrays.specs.Typed.{IsOfType}
+use Rattle.arrays.specs.TypedLayouts.{IsOfType}
 use Rattle.arrays.specs.Column.{ColumnAt, IsColumn, slot_of, values_of, whole}
-use Rattle.array_select.specs.inside.Gathered.{AreAmong, HasElementsAt, AreValidAt, AreGathered}
+use Rattle.array_select.specs.inside.GatheredSlots.{AreAmong, HasElementsAt, AreValidAt, AreGathered}
 
 -- a number in the front of some bytes, and one at their end
 pub front : (at width : ℕ) (xs ys : List ℕ) → at + width ≤ length xs → little_from at width (xs ++ ys) ≡ little_from at width xs

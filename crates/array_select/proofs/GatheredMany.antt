@@ -1,8 +1,8 @@
 -- Slots of several columns that are gathered at places.
-use Rattle.std.proofs.Common.{◌≡◌, ◌≤◌, ◌<◌, ◌+◌, ◌-◌, ◌*◌, ℕ, zero, suc, ℤ, Bool, true, false, if◌then◌else◌, not, ◌||◌, nat_lt, List, [], ◌∷◌, ◌++◌, All, length, map, take, drop, get_or, Option, None, Some, inl, inr, refl, sym, ap, ◌∙◌, subst, arith, length-append}
+use Rattle.std.proofs.Common.{◌≡◌, ◌≤◌, ◌<◌, ◌+◌, ◌-◌, ◌*◌, ℕ, zero, suc, ℤ, Bool, true, false, if◌then◌else◌, not, ◌||◌, nat_lt, List, [], ◌∷◌, ◌++◌, All, length, map, take, drop, get_or, Option, None, inl, inr, refl, sym, ap, ◌∙◌, subst, arith, length-append}
 use Rattle.std.specs.List.{filter}
 use Rattle.std.proofs.lemmas.Bool.{cases_lt, lt-ltb}
-use Rattle.std.proofs.lemmas.List.{get_or-map, length-map, length-drop, get_or_append_left, get_or-append-add, take_all, take_more, map-append}
+use Rattle.std.proofs.lemmas.List.{get_or-map, length-map, length-drop, get_or_append_left, get_or-append-add, take_all, map-append}
 use Rattle.std.proofs.lemmas.List.FromFn.{get_or-map-range_with_len, length-map-range_with_len}
 use Rattle.std.proofs.Math.Nat.{mul-le-mul_left}
 use Rattle.byteorder.specs.Endian.{little_from}
@@ -10,9 +10,9 @@ use Rattle.bitmap.proofs.Masks.{little_drop, little_part}
 use Rattle.scan_base.specs.declared.value.Value.{Value}
 use Rattle.scan_base.specs.declared.value.Value.TheVariants.{Null, Bool as Flag, Int, Text}
 use Rattle.scan_base.specs.Value.{is_null}
-use Rattle.arrow_schema.specs.declared.data_type.IntegerType.{IntegerType}
-use Rattle.arrow_schema.specs.declared.data_type.DataType.{DataType}
-use Rattle.arrow_schema.specs.declared.data_type.DataType.TheVariants as type
+use Rattle.arrow_types.specs.declared.data_type.IntegerType.{IntegerType}
+use Rattle.arrow_types.specs.declared.data_type.DataType.{DataType}
+use Rattle.arrow_types.specs.declared.data_type.DataType.TheVariants as type
 use Rattle.arrays.specs.declared.layout.Layout.{Layout}
 use Rattle.arrays.specs.declared.layout.Layout.TheVariants as layout
 use Rattle.arrays.specs.declared.slots.Values.TheVariants as kind
@@ -23,11 +23,11 @@ use Rattle.arrays.specs.Integers.{IntegersAt}
 use Rattle.arrays.specs.Decimals.{DecimalsAt}
 use Rattle.arrays.specs.Nulls.{null_count}
 use Rattle.arrays.specs.Column.{ColumnAt, IsColumn, slot_of, values_of}
-use Rattle.arrays.specs.Typed.{IsOfType, IsValueOf}
-use Rattle.arrays.specs.Written.{text_bytes, texts_joined}
+use Rattle.arrays.specs.TypedLayouts.{IsOfType, IsValueOf}
+use Rattle.arrays.specs.WrittenSlots.{text_bytes, texts_joined}
 use Rattle.array_select.specs.GatherMany.{value_in, IsPlaceIn}
-use Rattle.array_select.specs.inside.Filled.{flag_of, AreOfType, AreValidUnlessNull, FillSlots}
-use Rattle.array_select.specs.inside.GatheredMany.{place_at, cell_at, HasNumbers, HaveNumbers, HaveRoom, HasCellsAt}
+use Rattle.array_select.specs.inside.SlotFilling.{flag_of, AreOfType, AreValidUnlessNull, FillSlots}
+use Rattle.array_select.specs.inside.GatheredMany.{slot_place_at, cell_at, HasNumbers, HaveNumbers, HaveRoom, HasCellsAt}
 use Rattle.array_select.proofs.Gathered.{front, behind}
 use Rattle.array_select.proofs.FilledSlots.{differ, slot_filled}
 use Rattle.arrays.proofs.OfType.{of_type}
@@ -151,7 +151,7 @@ room_there number width sources columns places count e have there = record {
   source = λ k low. omega (arith, have.long, e, (there k first_place low).column);
   room = λ k low.
       let is = there k first_place low in
-      (have.each (place_at places k).column _ (omega (arith, is.column, e))).room (place_at places k).place is.slot;
+      (have.each (slot_place_at places k).column _ (omega (arith, is.column, e))).room (slot_place_at places k).place is.slot;
 }
 
 -- ---- cells at places
@@ -204,7 +204,7 @@ number_at number width packed sources columns places validity count e have there
     let low : k < length places = omega (arith, under, length-map places (value_in columns)) in
     let is = there k first_place low in
     let value = get_or-map (value_in columns) places k first_place Null low in
-    let held = (have.each (place_at places k).column _ (omega (arith, is.column, e))).numbers (place_at places k).place is.slot (ap is_null (sym value) ∙ some) in
+    let held = (have.each (slot_place_at places k).column _ (omega (arith, is.column, e))).numbers (slot_place_at places k).place is.slot (ap is_null (sym value) ∙ some) in
     value ∙ held ∙ ap (λ (bits : ℕ). Int (number bits)) (sym (has.each k low (valid.each k under ∙ ap not some)))
 
 pub integers_filled : (integer : IntegerType) (kept packed : List ℕ) (values : List Value) (count : ℕ) → kept ≡ packed → AreBytes kept → length packed ≡ byte_width integer * count → length values ≡ count →
@@ -237,10 +237,10 @@ pub values_typed : (data_type : DataType) (columns : List ColumnAt) (places : Li
 values_typed data_type columns places count typed stand there e k under =
     let low : k < length places = omega (arith, under, e) in
     let is = there k first_place low in
-    let number = (place_at places k).column in
+    let number = (slot_place_at places k).column in
     let column = get_or columns number _ in
     subst (IsValueOf data_type) (sym (get_or-map (value_in columns) places k first_place Null low))
-    (of_type data_type column.layout column.first column.len (stand number _ is.column) (typed number _ is.column) (place_at places k).place is.slot)
+    (of_type data_type column.layout column.first column.len (stand number _ is.column) (typed number _ is.column) (slot_place_at places k).place is.slot)
 
 -- where no slot of the columns is null, each is valid
 none_null : (xs : List Value) (k : ℕ) → length (filter is_null xs) ≡ 0 → k < length xs → is_null (get_or xs k Null) ≡ false
@@ -260,8 +260,8 @@ all_valid columns places none there = record {
   each = λ k under.
       let low : k < length places = omega (arith, under, length-map places (value_in columns)) in
       let is = there k first_place low in
-      let number = (place_at places k).column in
-      let place = (place_at places k).place in
+      let number = (slot_place_at places k).column in
+      let place = (slot_place_at places k).place in
       let column = get_or columns number _ in
       let value = get_or-map (value_in columns) places k first_place Null low in
       let slot = get_or-map-range_with_len (slot_of column) 0 column.len place place Null is.slot (omega arith) in
@@ -269,22 +269,6 @@ all_valid columns places none there = record {
       let some = none_null (values_of column) place (none number _ is.column) (omega (arith, wide, is.slot)) in
       sym (ap (λ (v : Value). not (is_null v)) (value ∙ sym slot) ∙ ap not some);
 }
-
--- one bit more
-pub bits_more : (flag : Value → Bool) (values : List Value) (i : ℕ) (bits new : List Bool) (next : Bool) → i < length values → new ≡ bits ++ next ∷ [] → next ≡ flag (get_or values i Null) →
-    bits ≡ map flag (take i values) → new ≡ map flag (take (i + 1) values)
-bits_more flag values i bits new next low e is so_far =
-    e ∙ ap (λ (some : List Bool). some ++ next ∷ []) so_far ∙ ap (λ (b : Bool). map flag (take i values) ++ b ∷ []) is
-    ∙ sym (ap (map flag) (take_more values i Null low) ∙ map-append flag (take i values) (get_or values i Null ∷ []))
-
--- all bits are those of the values
-pub bits_valid : (values : List Value) (i : ℕ) (bits new : List Bool) → length values ≤ i → new ≡ bits → bits ≡ map (λ value. not (is_null value)) (take i values) → AreValidUnlessNull (Some new) values
-bits_valid values i bits new all e so_far =
-    let is : new ≡ map (λ value. not (is_null value)) values = e ∙ so_far ∙ ap (map (λ (value : Value). not (is_null value))) (take_all i values all) in
-    record {
-      long = ap length is ∙ length-map values (λ value. not (is_null value));
-      each = λ k low. ap (λ (xs : List Bool). get_or xs k false) is ∙ get_or-map (λ value. not (is_null value)) values k Null false low;
-    }
 
 -- the validity bits are those of all places
 pub valid_long : (columns : List ColumnAt) (places : List SlotPlace) (validity : Option (List Bool)) → AreValidUnlessNull validity (map (value_in columns) places) → IsLong validity (length places)

@@ -6,15 +6,15 @@ use Rattle.std.proofs.lemmas.List.{length-append, length-map, get_or-map, length
 use Rattle.std.proofs.lemmas.Str.{is_utf8-from_IsUtf8}
 use Rattle.scan_base.specs.declared.value.Value.{Value}
 use Rattle.scan_base.specs.declared.value.Value.TheVariants.{Null, Text}
-use Rattle.arrow_schema.specs.declared.data_type.DataType.{DataType}
-use Rattle.arrow_schema.specs.declared.data_type.DataType.TheVariants as type
+use Rattle.arrow_types.specs.declared.data_type.DataType.{DataType}
+use Rattle.arrow_types.specs.declared.data_type.DataType.TheVariants as type
 use Rattle.arrays.specs.declared.layout.Layout.TheVariants as layout
 use Rattle.arrays.specs.Number.{element_at}
 use Rattle.arrays.specs.Validity.{is_valid, IsLong}
 use Rattle.arrays.specs.Texts.{TextsAt, text_at, AreTexts}
-use Rattle.arrays.specs.Typed.{IsOfType}
-use Rattle.arrays.specs.Written.{text_bytes, texts_joined, offsets_from}
-use Rattle.array_select.specs.inside.Gathered.{AreAmong, AreValidAt, AreGathered, texts_at}
+use Rattle.arrays.specs.TypedLayouts.{IsOfType}
+use Rattle.arrays.specs.WrittenSlots.{text_bytes, texts_joined, offsets_from}
+use Rattle.array_select.specs.inside.GatheredSlots.{AreAmong, AreValidAt, AreGathered, texts_at}
 use Rattle.arrays.proofs.Offsets.{length-offsets}
 use Rattle.arrays.proofs.Adjoining.{ordered, ends, rising}
 use Rattle.array_select.proofs.Gathered.{slot_is}

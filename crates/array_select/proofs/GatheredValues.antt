@@ -1,7 +1,7 @@
 -- The values of slots that were gathered at places, whichever of these are valid.
 use Rattle.std.proofs.Common.{◌≡◌, ℕ, ◌+◌, Bool, false, List, length, map, get_or, Option, refl, ap, ◌∙◌, arith}
 use Rattle.std.proofs.lemmas.List.{length-map}
-use Rattle.arrow_schema.specs.declared.data_type.IntegerType.{IntegerType}
+use Rattle.arrow_types.specs.declared.data_type.IntegerType.{IntegerType}
 use Rattle.arrays.specs.declared.slots.Values.TheVariants as kind
 use Rattle.arrays.specs.declared.layout.Layout.TheVariants as layout
 use Rattle.arrays.specs.Number.{byte_width, AreBytes}
@@ -10,7 +10,7 @@ use Rattle.arrays.specs.Decimals.{DecimalsAt}
 use Rattle.arrays.specs.Bools.{BoolsAt}
 use Rattle.arrays.specs.Indices.{IndicesAt, AreIndices}
 use Rattle.scan_base.specs.declared.value.Value.{Value}
-use Rattle.array_select.specs.inside.Gathered.{AreAmong, HasElementsAt, AreValidAt, AreValuesAt, AreGathered}
+use Rattle.array_select.specs.inside.GatheredSlots.{AreAmong, HasElementsAt, AreValidAt, AreValuesAt, AreGathered}
 use Rattle.array_select.proofs.Gathered.{integers_gathered, decimals_gathered, bools_gathered, indices_stand, indices_gathered}
 
 pub integers_at : (cells : IntegersAt) (integer : IntegerType) (values packed read_values : List ℕ) (first : ℕ) (places : List ℕ) →

@@ -6,5 +6,6 @@ mod GatheredMany
 mod TooMany
 mod FilledSlots
 mod Textless
-pub mod Short
+pub mod Light
+pub mod Shares
 pub mod Dates

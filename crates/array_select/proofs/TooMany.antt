@@ -2,10 +2,7 @@
 use Rattle.std.proofs.Common.{◌≡◌, ◌<◌, ℕ, zero, suc, ◌+◌, List, [], ◌∷◌, Some, length, map, take, slice_get, arith, length-append}
 use Rattle.array_select.specs.declared.of_slots.SlotRef.{SlotRef}
 use Rattle.array_select.specs.OfSlots.{slot_value}
-use Rattle.arrays.specs.Written.{text_bytes, texts_joined}
-
-abbrev bytes_of : List SlotRef → ℕ
-bytes_of slots = length (texts_joined (map slot_value slots))
+use Rattle.arrays.specs.WrittenSlots.{text_bytes, texts_joined}
 
 -- where the texts of the first slots leave less than the next one has, all have too many bytes
 pub past : (slots : List SlotRef) (i left : ℕ) (slot : SlotRef) → slice_get slots i ≡ Some slot →

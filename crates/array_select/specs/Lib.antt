@@ -1,6 +1,6 @@
 pub mod Selection
 pub mod SetBits
-pub mod Built
+pub mod ColumnValues
 pub mod OfSlots
 pub mod GatherMany
 pub mod Fitting

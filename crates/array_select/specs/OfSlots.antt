@@ -1,10 +1,10 @@
 -- Slots of any columns, one after another.
 use Rattle.std.specs.Prelude.{◌<◌}
 use Rattle.scan_base.specs.declared.value.Value.{Value}
-use Rattle.arrow_schema.specs.declared.data_type.DataType.{DataType}
+use Rattle.arrow_types.specs.declared.data_type.DataType.{DataType}
 use Rattle.array_select.specs.declared.of_slots.SlotRef.{SlotRef}
 use Rattle.arrays.specs.Column.{slot_of}
-use Rattle.arrays.specs.Typed.{IsOfType}
+use Rattle.arrays.specs.TypedLayouts.{IsOfType}
 
 -- the value of a slot
 abbrev pub slot_value : SlotRef → Value

@@ -1,4 +1,4 @@
 -- What contracts of this crate's private functions alone cite.
-pub mod Gathered
+pub mod GatheredSlots
 pub mod GatheredMany
-pub mod Filled
+pub mod SlotFilling

@@ -1,21 +1,22 @@
 //! Slots of a column at places, in buffers of their own.
 
 ghost use Rattle.std.specs.Prelude.{◌≡◌, ◌<◌, ◌≤◌, ◌+◌, ◌*◌, ℕ, All, IfOk, get_or, length, map};
-ghost use Rattle.arrow_schema.specs.declared.data_type.DataType.{DataType};
+ghost use Rattle.arrow_types.specs.declared.data_type.DataType.{DataType};
 ghost use Rattle.arrays.specs.declared.layout.Layout.TheVariants as layout;
 ghost use Rattle.arrays.specs.Number.{byte_width};
 ghost use Rattle.arrays.specs.Validity.{IsLong};
 ghost use Rattle.arrays.specs.Layout.{layout_count, IsLayout};
 ghost use Rattle.arrays.specs.Column.{slot_of, values_of};
-ghost use Rattle.arrays.specs.Typed.{IsOfType};
-ghost use Rattle.array_select.specs.inside.Gathered.{AreAmong, HasElementsAt, AreValidAt};
-ghost use Rattle.array_select.specs.inside.Gathered.{AreValuesAt, AreGathered};
+ghost use Rattle.arrays.specs.TypedLayouts.{IsOfType};
+ghost use Rattle.array_select.specs.inside.GatheredSlots.{AreAmong, HasElementsAt, AreValidAt};
+ghost use Rattle.array_select.specs.inside.GatheredSlots.{AreValuesAt, AreGathered};
 
 use crate::gather_texts::gather_texts;
 use crate::selection::Selection;
-use arrays::{Bools, Cells, Column, Decimals, Indices, Integers, Layout, Slots, Values, are_bytes};
-use arrow_schema::IntegerType;
-use bitmap::Bits;
+use arrays::{
+    Bools, Cells, Column, Decimals, Indices, Integers, Layout, Slots, Validity, Values, are_bytes,
+};
+use arrow_types::IntegerType;
 use bytes::Bytes;
 use std::alloc::{AllocError, Global};
 
@@ -138,16 +139,16 @@ fn gather_indices(
 // Which of the slots at places are valid. Where each slot is, no bits are made.
 fn gather_validity(
     alloc: Global,
-    validity: &Option<Bits>,
+    validity: &Validity,
     first: usize,
     places: &[u32],
-) -> Result<Option<Bits>, AllocError>
+) -> Result<Validity, AllocError>
     requires { (len : ℕ) × IsLong validity.now len × AreAmong first places.now len }
     ensures { IfOk result (λ gathered. AreValidAt gathered validity.now first places.now) }
 {
-    match validity {
-        None => Ok(None),
-        Some(bits) => Ok(Some(bits.gather(alloc, first, places)?)),
+    match validity.bits() {
+        None => Ok(Validity::new(None)),
+        Some(bits) => Ok(Validity::new(Some(bits.gather(alloc, first, places)?))),
     }
 }
 

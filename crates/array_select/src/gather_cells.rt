@@ -1,21 +1,21 @@
 //! Packed numbers and truth values of several columns at places, in buffers of their own.
 
 ghost use Rattle.std.specs.Prelude.{◌≡◌, ◌≤◌, ◌<◌, ◌+◌, ◌*◌, ℕ, All, IfOk, length, map, true};
-ghost use Rattle.arrow_schema.specs.declared.data_type.DataType.TheVariants as type;
+ghost use Rattle.arrow_types.specs.declared.data_type.DataType.TheVariants as type;
 ghost use Rattle.byteorder.specs.Endian.{little_from};
 ghost use Rattle.arrays.specs.Number.{byte_width, element_at, number_from, signed_from};
 ghost use Rattle.arrays.specs.Column.{IsColumn};
-ghost use Rattle.arrays.specs.Typed.{IsOfType};
-ghost use Rattle.arrays.specs.Validity.{is_valid, IsLong};
-ghost use Rattle.array_select.specs.inside.Filled.{flag_of, AreValidUnlessNull, FillSlots};
+ghost use Rattle.arrays.specs.TypedLayouts.{IsOfType};
+ghost use Rattle.arrays.specs.Validity.{IsLong};
+ghost use Rattle.array_select.specs.inside.SlotFilling.{flag_of, AreValidUnlessNull, FillSlots};
 ghost use Rattle.array_select.specs.inside.GatheredMany.{columns_of, values_at, AreThere};
 ghost use Rattle.array_select.specs.inside.GatheredMany.{cell_at, HasNumbers, HaveNumbers};
 ghost use Rattle.array_select.specs.inside.GatheredMany.{HaveRoom, HasCellsAt};
 
-use crate::filled::flag_of;
 use crate::many_places::SlotPlaces;
-use arrays::{Cells, Column, Layout, Values, are_bytes, byte_width};
-use arrow_schema::IntegerType;
+use crate::slot_filling::flag_of;
+use arrays::{Cells, Column, Layout, Validity, Values, are_bytes, byte_width};
+use arrow_types::IntegerType;
 use bitmap::{Bits, BitsBuilder};
 use bytes::Bytes;
 use std::alloc::{AllocError, Global};
@@ -51,7 +51,7 @@ impl<'a> SlotPlaces<'a> {
         &self,
         alloc: Global,
         integer: IntegerType,
-        validity: &Option<Bits>,
+        validity: &Validity,
     ) -> Result<Values, AllocError>
         requires there { AreThere self.now }
         requires typed { All (λ column. IsOfType (type.Integer integer) column.layout)
@@ -70,7 +70,7 @@ impl<'a> SlotPlaces<'a> {
     pub(crate) fn gather_dates(
         &self,
         alloc: Global,
-        validity: &Option<Bits>,
+        validity: &Validity,
     ) -> Result<Values, AllocError>
         requires there { AreThere self.now }
         requires typed { All (λ column. IsOfType type.Date column.layout) (columns_of self.now) }
@@ -84,7 +84,7 @@ impl<'a> SlotPlaces<'a> {
     pub(crate) fn gather_decimals(
         &self,
         alloc: Global,
-        validity: &Option<Bits>,
+        validity: &Validity,
     ) -> Result<Values, AllocError>
         requires there { AreThere self.now }
         requires typed { All (λ column. IsOfType type.Decimal128 column.layout)
@@ -139,7 +139,7 @@ impl<'a> SlotPlaces<'a> {
         alloc: Global,
         integer: IntegerType,
         sources: &[&[u8]],
-        validity: &Option<Bits>,
+        validity: &Validity,
     ) -> Result<Vec<u8>, AllocError>
         requires room { HaveRoom (byte_width integer)
             (map (λ source. source.now) sources.now) self.now.places.now }
@@ -170,7 +170,7 @@ impl<'a> SlotPlaces<'a> {
         &self,
         alloc: Global,
         sources: &[&[u8]],
-        validity: &Option<Bits>,
+        validity: &Validity,
     ) -> Result<Vec<u8>, AllocError>
         requires width { WIDTH ≤ 16 }
         requires room { HaveRoom WIDTH
@@ -182,7 +182,7 @@ impl<'a> SlotPlaces<'a> {
     {
         let mut packed = Vec::with_capacity(alloc, WIDTH.saturating_mul(self.places.len()))?;
         for number in 0..self.places.len() {
-            let valid = is_valid(validity, number);
+            let valid = validity.is_valid(number);
             packed.extend_from_slice(self.cell::<WIDTH>(sources, number, valid))?;
         }
         Ok(packed)
@@ -242,15 +242,4 @@ fn cell<'a, const WIDTH: usize>(source: &'a [u8], place: usize, valid: bool) -> 
     }
     let at = WIDTH * place;
     &source[at..at + WIDTH]
-}
-
-// Whether the slot at a place is valid: each is, where there are no bits.
-fn is_valid(validity: &Option<Bits>, place: usize) -> bool
-    requires { (len : ℕ) × (place < len) × IsLong validity.now len }
-    ensures { result ≡ is_valid validity.now place }
-{
-    match validity {
-        None => true,
-        Some(bits) => bits.get(place),
-    }
 }

@@ -3,15 +3,15 @@
 ghost use Rattle.std.specs.Prelude.{◌≡◌, ◌<◌, ◌^◌, All, IfOk, length, get_or};
 ghost use Rattle.scan_base.specs.Value.{value_of};
 ghost use Rattle.scan_base.specs.declared.value.Value.TheVariants.{Null};
-ghost use Rattle.arrow_schema.specs.declared.data_type.DataType.TheVariants.{Utf8};
+ghost use Rattle.arrow_types.specs.declared.data_type.DataType.TheVariants.{Utf8};
 ghost use Rattle.arrays.specs.Column.{IsColumn};
-ghost use Rattle.arrays.specs.Typed.{IsOfType};
-ghost use Rattle.arrays.specs.Written.{text_bytes, offsets_from, texts_joined};
-ghost use Rattle.array_select.specs.inside.Filled.{FillSlots};
+ghost use Rattle.arrays.specs.TypedLayouts.{IsOfType};
+ghost use Rattle.arrays.specs.WrittenSlots.{text_bytes, offsets_from, texts_joined};
+ghost use Rattle.array_select.specs.inside.SlotFilling.{FillSlots};
 ghost use Rattle.array_select.specs.inside.GatheredMany.{columns_of, values_at, AreThere};
 
-use crate::filled_texts::text_bytes;
 use crate::many_places::SlotPlaces;
+use crate::text_filling::text_bytes;
 use arrays::{Cells, Values};
 use bytes::Bytes;
 use scan_base::ValueRef;

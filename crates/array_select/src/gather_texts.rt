@@ -2,8 +2,8 @@
 
 ghost use Rattle.std.specs.Prelude.{◌≡◌, ◌<◌, ◌^◌, IfOk, length};
 ghost use Rattle.arrays.specs.declared.layout.Layout.TheVariants as layout;
-ghost use Rattle.arrays.specs.Written.{offsets_from, texts_joined};
-ghost use Rattle.array_select.specs.inside.Gathered.{AreAmong, AreValuesAt, texts_at};
+ghost use Rattle.arrays.specs.WrittenSlots.{offsets_from, texts_joined};
+ghost use Rattle.array_select.specs.inside.GatheredSlots.{AreAmong, AreValuesAt, texts_at};
 
 use arrays::{TextsRef, Values};
 use bytes::Bytes;

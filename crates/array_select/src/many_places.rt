@@ -2,20 +2,20 @@
 
 ghost use Rattle.std.specs.Prelude.{◌≡◌, ◌<◌, ◌^◌, All, IfOk, false, get_or, length, map, nat_le};
 ghost use Rattle.std.specs.Prelude.{not};
-ghost use Rattle.arrow_schema.specs.Answer.{copied_type};
+ghost use Rattle.arrow_types.specs.Answer.{copied_type};
 ghost use Rattle.scan_base.specs.Value.{is_null};
 ghost use Rattle.scan_base.specs.declared.value.Value.TheVariants.{Null};
 ghost use Rattle.arrays.specs.Column.{slot_of, values_of, IsColumn};
 ghost use Rattle.arrays.specs.Nulls.{null_count};
-ghost use Rattle.arrays.specs.Typed.{IsOfType};
-ghost use Rattle.arrays.specs.Written.{texts_joined};
+ghost use Rattle.arrays.specs.TypedLayouts.{IsOfType};
+ghost use Rattle.arrays.specs.WrittenSlots.{texts_joined};
 ghost use Rattle.array_select.specs.GatherMany.{value_in, IsPlaceIn};
-ghost use Rattle.array_select.specs.inside.Filled.{AreValidUnlessNull, FillSlots};
+ghost use Rattle.array_select.specs.inside.SlotFilling.{AreValidUnlessNull, FillSlots};
 ghost use Rattle.array_select.specs.inside.GatheredMany.{columns_of, values_at, AreThere};
 
-use arrays::{Cells, Column, Nulls, Slots, Values, is_null};
-use arrow_schema::DataType;
-use bitmap::{Bits, BitsBuilder};
+use arrays::{Cells, Column, Nulls, Slots, Validity, Values, is_null};
+use arrow_types::DataType;
+use bitmap::BitsBuilder;
 use std::alloc::{AllocError, Global};
 
 /// A slot of one of several columns: the number of the column, and the slot's place in it, both
@@ -96,20 +96,20 @@ pub fn texts_fit_many(columns: &[&Column], places: &[SlotPlace], most: usize) ->
 }
 
 impl<'a> SlotPlaces<'a> {
-    // The validity bits of the slots, and none where no slot of the columns is null.
-    fn gather_validity(&self, alloc: Global) -> Result<Option<Bits>, AllocError>
+    // Which of the slots are valid: without bits, where no slot of the columns is null.
+    fn gather_validity(&self, alloc: Global) -> Result<Validity, AllocError>
         requires { AreThere self.now }
         ensures valid { IfOk result (λ validity. AreValidUnlessNull validity (values_at self.now)) }
         ensures stand { IfOk result (λ _. All IsColumn (columns_of self.now)) }
     {
         if !self.have_nulls() {
-            return Ok(None);
+            return Ok(Validity::new(None));
         }
         let mut bits = BitsBuilder::with_capacity(alloc, self.places.len())?;
         for number in 0..self.places.len() {
             bits.push(self.has_value(number))?;
         }
-        Ok(Some(bits.into_bits()?))
+        Ok(Validity::new(Some(bits.into_bits()?)))
     }
 
     // Whether a slot, by its number, is not null.
@@ -141,7 +141,7 @@ impl<'a> SlotPlaces<'a> {
         &self,
         alloc: Global,
         data_type: DataType,
-        validity: &Option<Bits>,
+        validity: &Validity,
     ) -> Result<Values, AllocError>
         requires there { AreThere self.now }
         requires plain { copied_type data_type ≡ data_type }

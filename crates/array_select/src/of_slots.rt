@@ -1,15 +1,15 @@
 //! Columns of the slots of others.
 
 ghost use Rattle.std.specs.Prelude.{◌≡◌, ◌<◌, ◌^◌, All, IfOk, length, map, nat_le};
-ghost use Rattle.arrow_schema.specs.Answer.{copied_type};
+ghost use Rattle.arrow_types.specs.Answer.{copied_type};
 ghost use Rattle.arrays.specs.Column.{values_of};
 ghost use Rattle.array_select.specs.OfSlots.{slot_value, IsSlotOf};
-ghost use Rattle.arrays.specs.Typed.{IsOfType};
-ghost use Rattle.arrays.specs.Written.{texts_joined};
+ghost use Rattle.arrays.specs.TypedLayouts.{IsOfType};
+ghost use Rattle.arrays.specs.WrittenSlots.{texts_joined};
 
-use crate::filled::fill_column;
+use crate::slot_filling::fill_column;
 use arrays::Column;
-use arrow_schema::DataType;
+use arrow_types::DataType;
 use std::alloc::{AllocError, Global};
 
 /// A slot of a column, by its place, counted from 0.

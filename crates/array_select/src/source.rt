@@ -4,12 +4,12 @@ ghost use Rattle.std.specs.Prelude.{◌≡◌, ◌<◌};
 ghost use Rattle.scan_base.specs.declared.value.Value.{Value};
 ghost use Rattle.scan_base.specs.declared.value.Value.TheVariants as value;
 ghost use Rattle.scan_base.specs.Value.{value_of};
-ghost use Rattle.arrow_schema.specs.declared.data_type.DataType.{DataType};
-ghost use Rattle.arrow_schema.specs.declared.data_type.DataType.TheVariants as type;
-ghost use Rattle.arrow_schema.specs.declared.data_type.IntegerType.TheVariants as integer;
-ghost use Rattle.arrays.specs.Typed.{IsOfType, IsValueOf};
+ghost use Rattle.arrow_types.specs.declared.data_type.DataType.{DataType};
+ghost use Rattle.arrow_types.specs.declared.data_type.DataType.TheVariants as type;
+ghost use Rattle.arrow_types.specs.declared.data_type.IntegerType.TheVariants as integer;
+ghost use Rattle.arrays.specs.TypedLayouts.{IsOfType, IsValueOf};
 ghost use Rattle.array_select.specs.OfSlots.{slot_value};
-ghost use Rattle.array_select.specs.Built.{value_or_null};
+ghost use Rattle.array_select.specs.ColumnValues.{value_or_null};
 
 use crate::of_slots::SlotRef;
 use arrays::Cells;

@@ -11,7 +11,7 @@ use Rattle.scan_base.specs.Value.{is_null}
 use Rattle.arrays.specs.Validity.{is_valid}
 use Rattle.arrays.specs.Texts.{TextsAt, text_at, texts_slot, AreTexts}
 use Rattle.arrays.specs.Column.{ColumnAt, slot_of, values_of}
-use Rattle.arrays.specs.Written.{text_bytes, texts_joined}
+use Rattle.arrays.specs.WrittenSlots.{text_bytes, texts_joined}
 
 -- a part, and the part after it
 pub parts_joined : (xs : List ℕ) (a b c : ℕ) → a ≤ b → b ≤ c → slice_range xs a b ++ slice_range xs b c ≡ slice_range xs a c

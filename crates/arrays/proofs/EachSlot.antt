@@ -14,15 +14,6 @@ pub slots_more : (stands : ℕ → Bool) (place len : ℕ) → place < len → s
     list_all stands (range_with_len place (len - place)) ≡ list_all stands (range_with_len (place + 1) (len - (place + 1)))
 slots_more stands place len lt e = let f : len - place ≡ suc (len - (place + 1)) = omega arith in rw (f, e) refl
 
--- at one that fails, that is the answer
-pub slots_stop : (stands : ℕ → Bool) (place len : ℕ) → place < len → stands place ≡ false →
-    list_all stands (range_with_len place (len - place)) ≡ false
-slots_stop stands place len lt e = let f : len - place ≡ suc (len - (place + 1)) = omega arith in rw (f, e) refl
-
--- with none left, all passed
-pub slots_end : (stands : ℕ → Bool) (place len : ℕ) → len ≤ place → list_all stands (range_with_len place (len - place)) ≡ true
-slots_end stands place len le = let f : len - place ≡ 0 = omega arith in rw f refl
-
 -- where all pass, each does
 pub slots_at : (stands : ℕ → Bool) (first len place : ℕ) → list_all stands (range_with_len first len) ≡ true → first ≤ place → place < first + len → stands place ≡ true
 slots_at stands first zero place all low high = absurd (omega arith)

@@ -1,15 +1,10 @@
 -- Values none of which is null.
-use Rattle.std.proofs.Common.{◌≡◌, ◌<◌, ◌≤◌, ℤ, pos, negsuc, ℕ, zero, suc, ◌+◌, List, [], ◌∷◌, map, slice_get, Option, Some, None, unwrap_or, is_some, Bool, true, false, ◌||◌, refl, arith}
+use Rattle.std.proofs.Common.{◌≡◌, ◌<◌, ◌≤◌, ℤ, pos, negsuc, ℕ, zero, suc, ◌+◌, List, [], ◌∷◌, map, slice_get, unwrap_or, is_some, Bool, true, false, ◌||◌, refl, arith}
 use Rattle.std.specs.List.{list_any, range_with_len}
 use Rattle.scan_base.specs.declared.value.Value.{Value}
 use Rattle.scan_base.specs.declared.value.Value.TheVariants.{Null}
-use Rattle.arrow_schema.specs.declared.data_type.IntegerType.{IntegerType}
-use Rattle.arrays.specs.Number.{integer_at}
 use Rattle.scan_base.specs.Value.{is_null}
 use Rattle.arrays.specs.Dictionary.{entry_at}
-use Rattle.arrays.specs.Indices.{IndicesAt, index_stands}
-use Rattle.arrays.specs.declared.layout.Layout.TheVariants as layout
-use Rattle.arrays.specs.Layout.{layout_slot}
 
 -- where no slot is null, no value of them is
 pub none_listed : (slot : ℕ → Value) (first len : ℕ) → ((place : ℕ) → first ≤ place → place < first + len → is_null (slot place) ≡ false) →
@@ -38,10 +33,3 @@ pub led_to : (dictionary : List Value) (index : ℤ) → list_any is_null dictio
     is_null (unwrap_or (entry_at dictionary index) Null) ≡ false
 led_to dictionary (pos index) none some = none_at dictionary index none some
 led_to dictionary (negsuc index) none some = absurd (let no : ⊥ = cc in no)
-
-pub none_led_to : (index : IntegerType) (validity : Option (List Bool)) (values : List ℕ) (dictionary : List Value) (len : ℕ) → is_some validity ≡ false →
-    list_any is_null dictionary ≡ false →
-    let cells : IndicesAt = record { index = index; validity = validity; values = values; dictionary = dictionary; len = len } in
-    ((place : ℕ) → place < len → index_stands cells place ≡ true) → (place : ℕ) → place < len → is_null (layout_slot (layout.Indices cells) place) ≡ false
-none_led_to index None values dictionary len all none stands place low = led_to dictionary (integer_at index values place) none (stands place low)
-none_led_to index (Some bits) values dictionary len all none stands place low = absurd (let no : ⊥ = cc in no)

@@ -1,5 +1,5 @@
 -- Slots that are null, and those that are not.
-use Rattle.std.proofs.Common.{◌≡◌, ℕ, zero, suc, ◌+◌, ◌<◌, ◌≤◌, Bool, true, false, not, ◌||◌, cond, if◌then◌else◌, List, [], ◌∷◌, length, map, get_or, take, drop, count_by, Option, is_some, unwrap_or, refl, sym, ap, ◌∙◌, arith}
+use Rattle.std.proofs.Common.{◌≡◌, ℕ, zero, suc, ◌+◌, ◌<◌, ◌≤◌, Bool, true, false, not, ◌||◌, cond, List, [], ◌∷◌, length, map, get_or, take, drop, count_by, is_some, unwrap_or, refl, sym, ap, ◌∙◌, arith}
 use Rattle.std.specs.List.{filter, list_any, range_with_len}
 use Rattle.std.proofs.lemmas.List.FromFn.{length-map-range_with_len}
 use Rattle.std.proofs.lemmas.List.Sums.{length-filter, sum_by-cons}
@@ -7,7 +7,7 @@ use Rattle.std.proofs.lemmas.Simd.{map-map}
 use Rattle.scan_base.specs.declared.value.Value.{Value}
 use Rattle.scan_base.specs.declared.value.Value.TheVariants.{Null}
 use Rattle.scan_base.specs.Value.{is_null}
-use Rattle.arrays.specs.Validity.{is_valid, where_valid}
+use Rattle.arrays.specs.Validity.{is_valid}
 use Rattle.arrays.specs.Indices.{IndicesAt, entry_of, index_stands}
 use Rattle.arrays.specs.Column.{ColumnAt, slot_of, values_of}
 use Rattle.arrays.specs.Number.{integer_at}
@@ -24,15 +24,6 @@ led_valid cells place none stands valid = led_to cells.dictionary (integer_at ce
     by : (a b : Bool) → a ≡ true → (not a || b) ≡ true → b ≡ true
     by true b e h = h
     by false b e h = absurd (let no : ⊥ = cc in no)
-
--- where the validity bits tell, a slot is null where they say so
-pub null_where : (validity : Option (List Bool)) (value : ℕ → Value) (place : ℕ) → (is_valid validity place ≡ true → is_null (value place) ≡ false) →
-    is_null (where_valid validity value place) ≡ not (is_valid validity place)
-null_where validity value place some = by (is_valid validity place) some
-  where
-    by : (valid : Bool) → (valid ≡ true → is_null (value place) ≡ false) → is_null (if valid then value place else Null) ≡ not valid
-    by true some = some refl
-    by false some = refl
 
 not_not : (a : Bool) → not (not a) ≡ a
 not_not true = refl

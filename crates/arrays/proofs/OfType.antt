@@ -1,15 +1,15 @@
 -- The values of a column are of its type.
 use Rattle.std.proofs.Common.{◌≡◌, ◌≤ℤ◌, ◌<ℤ◌, ℕ, subst, FitsSigned, w32, ◌+◌, ◌*◌, ◌^◌, ◌<◌, ℤ, pos, negsuc, Bool as Truth, true, false, if◌then◌else◌, List, length, Option, unwrap_or, All, get_or, inl, inr, arith}
+use Rattle.std.specs.Int.{Width, w8, w16, w64, w128}
 use Rattle.std.proofs.lemmas.Bool.{cases_lt}
 use Rattle.std.proofs.lemmas.Option.{slice_get-get_or, slice_get_past}
 use Rattle.std.proofs.Math.Facts.{sfits_to_z, yes_leb, yes_ltb}
-use Rattle.byteorder.specs.Numbers.{little_from-lt}
 use Rattle.scan_base.specs.declared.value.Value.{Value}
 use Rattle.scan_base.specs.declared.value.Value.TheVariants.{Null, Bool, Int, Text}
-use Rattle.arrow_schema.specs.declared.data_type.IntegerType.{IntegerType}
-use Rattle.arrow_schema.specs.declared.data_type.IntegerType.TheVariants.{Int8, Int16, Int32, Int64, UInt8, UInt16, UInt32, UInt64}
-use Rattle.arrow_schema.specs.declared.data_type.DataType.{DataType}
-use Rattle.arrow_schema.specs.declared.data_type.DataType.TheVariants as type
+use Rattle.arrow_types.specs.declared.data_type.IntegerType.{IntegerType}
+use Rattle.arrow_types.specs.declared.data_type.IntegerType.TheVariants.{Int8, Int16, Int32, Int64, UInt8, UInt16, UInt32, UInt64}
+use Rattle.arrow_types.specs.declared.data_type.DataType.{DataType}
+use Rattle.arrow_types.specs.declared.data_type.DataType.TheVariants as type
 use Rattle.arrays.specs.declared.layout.Layout.{Layout}
 use Rattle.arrays.specs.declared.layout.Layout.TheVariants as layout
 use Rattle.arrays.specs.Number.{AreBytes, element_at, integer_at, decimal_at}
@@ -19,7 +19,8 @@ use Rattle.arrays.specs.Indices.{IndicesAt}
 use Rattle.arrays.specs.Layout.{layout_slot}
 use Rattle.scan_base.specs.Value.{IsTextOrNull}
 use Rattle.arrays.specs.Column.{IsColumn, slot_of}
-use Rattle.arrays.specs.Typed.{IsOfType, IsInteger, IsValueOf, ValuesAreOfTheirType}
+use Rattle.arrays.specs.inside.SignedNumbers.{element_small, fits8, fits16, fits32, fits64}
+use Rattle.arrays.specs.TypedLayouts.{IsOfType, IsInteger, IsValueOf, ValuesAreOfTheirType}
 use Rattle.arrays.proofs.EachSlot.{all_slots}
 use Rattle.arrays.proofs.TextSlots.{slot_is_text}
 
@@ -39,22 +40,39 @@ index_is_text cells place texts = by (is_valid cells.validity place) (led_text c
     by true text = text
     by false text = tt
 
-element_small : (width place : ℕ) (values : List ℕ) → AreBytes values → element_at width values place < 256 ^ width
-unfolding element_at
-element_small width place values bytes = little_from-lt (width * place) width values bytes
-
 unsigned : (n k : ℕ) → n < k → (pos 0 ≤ℤ pos n) × (pos n <ℤ pos k)
 unsigned n k low = (record { le = yes_leb (omega arith) }, record { lt = yes_ltb low })
 
 integer_in : (integer : IntegerType) (values : List ℕ) (place : ℕ) → AreBytes values → IsInteger integer (integer_at integer values place)
-integer_in Int8 values place bytes = sfits_to_z (record { fits = element_small 1 place values bytes })
-integer_in Int16 values place bytes = sfits_to_z (record { fits = element_small 2 place values bytes })
-integer_in Int32 values place bytes = sfits_to_z (record { fits = element_small 4 place values bytes })
-integer_in Int64 values place bytes = sfits_to_z (record { fits = element_small 8 place values bytes })
+integer_in Int8 values place bytes = fits8 values place bytes
+integer_in Int16 values place bytes = fits16 values place bytes
+integer_in Int32 values place bytes = fits32 values place bytes
+integer_in Int64 values place bytes = fits64 values place bytes
 integer_in UInt8 values place bytes = unsigned (element_at 1 values place) (2 ^ 8) (element_small 1 place values bytes)
 integer_in UInt16 values place bytes = unsigned (element_at 2 values place) (2 ^ 16) (element_small 2 place values bytes)
 integer_in UInt32 values place bytes = unsigned (element_at 4 values place) (2 ^ 32) (element_small 4 place values bytes)
 integer_in UInt64 values place bytes = unsigned (element_at 8 values place) (2 ^ 64) (element_small 8 place values bytes)
+
+signed_wide : (w : Width) (number : ℤ) → FitsSigned w number → FitsSigned w128 number
+signed_wide w8 number fits = record { sfits = omega (arith, fits.sfits) }
+signed_wide w16 number fits = record { sfits = omega (arith, fits.sfits) }
+signed_wide w32 number fits = record { sfits = omega (arith, fits.sfits) }
+signed_wide w64 number fits = record { sfits = omega (arith, fits.sfits) }
+signed_wide w128 number fits = fits
+
+unsigned_wide : (number : ℕ) → number < 2 ^ 64 → FitsSigned w128 (pos number)
+unsigned_wide number low = record { sfits = omega (arith, low) }
+
+-- an integer of any type fits 128 bits
+pub integer_wide : (integer : IntegerType) (values : List ℕ) (place : ℕ) → AreBytes values → FitsSigned w128 (integer_at integer values place)
+integer_wide Int8 values place bytes = signed_wide w8 _ (fits8 values place bytes)
+integer_wide Int16 values place bytes = signed_wide w16 _ (fits16 values place bytes)
+integer_wide Int32 values place bytes = signed_wide w32 _ (fits32 values place bytes)
+integer_wide Int64 values place bytes = signed_wide w64 _ (fits64 values place bytes)
+integer_wide UInt8 values place bytes = let small = element_small 1 place values bytes in unsigned_wide _ (omega (arith, small))
+integer_wide UInt16 values place bytes = let small = element_small 2 place values bytes in unsigned_wide _ (omega (arith, small))
+integer_wide UInt32 values place bytes = let small = element_small 4 place values bytes in unsigned_wide _ (omega (arith, small))
+integer_wide UInt64 values place bytes = let small = element_small 8 place values bytes in unsigned_wide _ (omega (arith, small))
 
 -- a number of a slot of dates fits 32 signed bits
 dates_fit : (integer : IntegerType) (values : List ℕ) (place : ℕ) → integer ≡ Int32 → AreBytes values → FitsSigned w32 (integer_at integer values place)

@@ -8,7 +8,7 @@ use Rattle.byteorder.specs.Numbers.{little_number-reads_back, length-bytes_low_f
 use Rattle.bitmap.proofs.Masks.{little_drop}
 use Rattle.scan_base.specs.declared.value.Value.{Value}
 use Rattle.arrays.specs.Number.{element_at}
-use Rattle.arrays.specs.Written.{text_bytes, offsets_from, texts_joined}
+use Rattle.arrays.specs.WrittenSlots.{text_bytes, offsets_from, texts_joined}
 
 -- what a loop keeps that writes them after others
 pub out_more : (old new part rest whole : List ℕ) → new ≡ old ++ part → old ++ (part ++ rest) ≡ whole → new ++ rest ≡ whole

@@ -6,7 +6,7 @@ use Rattle.scan_base.specs.declared.value.Value.TheVariants.{Null}
 use Rattle.arrays.specs.Number.{integer_at}
 use Rattle.arrays.specs.Dictionary.{entry_at}
 use Rattle.arrays.specs.Indices.{IndicesAt, index_stands}
-use Rattle.arrays.specs.inside.Placed.{IsPlaced}
+use Rattle.arrays.specs.inside.PlacedIndices.{IsPlaced}
 
 or_passes : (a b : Bool) → b ≡ true → (a || b) ≡ true
 or_passes true b e = refl

@@ -1,7 +1,7 @@
 -- Worked rows: the definitions, tried on buffers whose values were worked out by hand.
 use Rattle.std.proofs.Common.{◌≡◌, pos, negsuc, Bool as Bit, true, false, List, [], ◌∷◌, map, Option, Some, None, codes, replicate, Ok, refl}
 use Rattle.std.specs.List.{range_with_len}
-use Rattle.arrow_schema.specs.declared.data_type.IntegerType.TheVariants.{Int8, Int16, Int64, UInt8}
+use Rattle.arrow_types.specs.declared.data_type.IntegerType.TheVariants.{Int8, Int16, Int64, UInt8}
 use Rattle.scan_base.specs.declared.value.Value.TheVariants.{Null, Bool, Int, Text}
 use Rattle.arrays.specs.Number.{element_at, number_from}
 use Rattle.arrays.specs.Integers.{IntegersAt}

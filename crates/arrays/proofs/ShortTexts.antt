@@ -7,17 +7,15 @@ use Rattle.scan_base.specs.declared.value.Value.{Value}
 use Rattle.scan_base.specs.declared.value.Value.TheVariants.{Null, Bool, Int, Text}
 use Rattle.arrays.specs.declared.layout.Layout.{Layout}
 use Rattle.arrays.specs.declared.layout.Layout.TheVariants as layout
-use Rattle.arrays.specs.Number.{element_at, integer_at, decimal_at}
+use Rattle.arrays.specs.Number.{integer_at, decimal_at}
 use Rattle.arrays.specs.Validity.{is_valid, where_valid}
-use Rattle.arrays.specs.Texts.{TextsAt, texts_slot, text_at, texts_values, AreTexts}
+use Rattle.arrays.specs.Texts.{TextsAt, texts_slot, text_at, texts_values}
 use Rattle.arrays.specs.Dictionary.{entry_at}
 use Rattle.arrays.specs.Indices.{IndicesAt}
 use Rattle.arrays.specs.Layout.{layout_slot}
 use Rattle.arrays.specs.Column.{ColumnAt, slot_of, values_of}
-use Rattle.arrays.specs.Written.{text_bytes}
+use Rattle.arrays.specs.WrittenSlots.{text_bytes}
 use Rattle.arrays.proofs.EachSlot.{all_slots}
-use Rattle.arrays.proofs.TextCuts.{cut_long}
-use Rattle.arrays.proofs.Adjoining.{ends}
 
 -- a null has no bytes
 where_short : (validity : Option (List Truth)) (value : ℕ → Value) (place most : ℕ) → length (text_bytes (value place)) ≤ most → length (text_bytes (where_valid validity value place)) ≤ most
@@ -26,12 +24,6 @@ where_short validity value place most low = by (is_valid validity place)
     by : (valid : Truth) → length (text_bytes (if valid then value place else Null)) ≤ most
     by true = low
     by false = omega arith
-
--- a text has the bytes between its offsets
-pub cut_short : (cells : TextsAt) (place most : ℕ) → AreTexts cells → place < cells.len → element_at 4 cells.offsets (place + 1) ≤ element_at 4 cells.offsets place + most →
-    length (text_at cells place) ≤ most
-cut_short cells place most are low short =
-    omega (arith, cut_long cells.bytes (element_at 4 cells.offsets place) (element_at 4 cells.offsets (place + 1)) (ends cells place are low).0, short)
 
 pub texts_short : (cells : TextsAt) (most : ℕ) → ((place : ℕ) → place < cells.len → length (text_at cells place) ≤ most) → All (λ value. length (text_bytes value) ≤ most) (texts_values cells)
 texts_short cells most each =

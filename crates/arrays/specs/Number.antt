@@ -3,8 +3,8 @@
 use Rattle.std.specs.Prelude.{ℕ, ◌-◌, ◌*◌, ◌/◌, ◌^◌, ◌<◌, ℤ, pos, negsuc, suc, List, slice_index}
 use Rattle.std.specs.Prelude.{nat_lt, if◌then◌else◌}
 use Rattle.byteorder.specs.Endian.{little_from}
-use Rattle.arrow_schema.specs.declared.data_type.IntegerType.{IntegerType}
-use Rattle.arrow_schema.specs.DataType.{bit_width, is_signed}
+use Rattle.arrow_types.specs.declared.data_type.IntegerType.{IntegerType}
+use Rattle.arrow_types.specs.DataType.{bit_width, is_signed}
 
 -- how many bytes a number has
 abbrev pub byte_width : IntegerType → ℕ

@@ -1,5 +1,5 @@
 -- Which slots are valid: each, where there are no bits, and else those whose bit is 1.
-use Rattle.std.specs.Prelude.{◌≡◌, ℕ, ◌*◌, Bool, true, false, List, length, Option, Some, None}
+use Rattle.std.specs.Prelude.{◌≡◌, ◌≤◌, ℕ, ◌*◌, Bool, true, false, List, length, Option, Some, None}
 use Rattle.std.specs.Prelude.{get_or, nat_le, if◌then◌else◌, Result, Ok}
 use Rattle.bitmap.specs.Bits.{bits_of}
 use Rattle.scan_base.specs.declared.fault.Fault.{Fault}
@@ -27,3 +27,7 @@ validity_of (Some bytes) len =
 abbrev pub IsLong : Option (List Bool) → ℕ → Type 0
 IsLong None len = Unit {0}
 IsLong (Some bits) len = length bits ≡ len
+
+-- the bits, where there are some, are those of the slots below a place, and maybe of more
+abbrev pub HasBits : Option (List Bool) → ℕ → Type 0
+HasBits validity to = (len : ℕ) × (to ≤ len) × IsLong validity len

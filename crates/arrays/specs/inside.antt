@@ -1,7 +1,8 @@
 -- What contracts of this crate's private functions alone cite.
 pub mod Dictionary
 pub mod Nulls
-pub mod Placed
+pub mod PlacedIndices
 pub mod Runs
 pub mod TextCuts
+pub mod SignedNumbers
 pub mod Slots

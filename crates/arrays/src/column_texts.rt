@@ -2,7 +2,7 @@
 
 ghost use Rattle.std.specs.Prelude.{◌≡◌, ◌<◌, ◌≤◌, All, length};
 ghost use Rattle.arrays.specs.Column.{slot_of, values_of};
-ghost use Rattle.arrays.specs.Written.{text_bytes};
+ghost use Rattle.arrays.specs.WrittenSlots.{text_bytes};
 
 use crate::cells::Cells;
 use crate::column::Column;

@@ -7,7 +7,7 @@ ghost use Rattle.scan_base.specs.Value.{value_of, is_null, IsTextOrNull};
 ghost use Rattle.std.specs.List.{flat_map, list_any};
 ghost use Rattle.arrays.specs.Dictionary.{extended_by};
 ghost use Rattle.arrays.specs.Texts.{texts_values};
-ghost use Rattle.arrays.specs.Written.{text_bytes};
+ghost use Rattle.arrays.specs.WrittenSlots.{text_bytes};
 
 use crate::cells::Cells;
 use crate::runs::Runs;

@@ -2,10 +2,10 @@
 
 ghost use Rattle.std.specs.Prelude.{◌≡◌, ◌≤◌, ◌<◌, ◌≤ℤ◌, ◌*◌, ℕ, pos, true, length};
 ghost use Rattle.arrays.specs.Number.{byte_width, element_at, integer_at, number_from};
-ghost use Rattle.arrays.specs.inside.Placed.{IsPlaced};
+ghost use Rattle.arrays.specs.inside.PlacedIndices.{IsPlaced};
 
 use crate::element::Element;
-use arrow_schema::IntegerType;
+use arrow_types::IntegerType;
 
 /// Whether each of `len` indices is one of `count` places, null ones too. Where the answer is no,
 /// each valid one may be: the index of a null may be anything.

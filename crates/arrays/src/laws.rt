@@ -2,7 +2,7 @@
 
 ghost use Rattle.arrays.specs.Column.{ColumnSlicesKeepValues};
 ghost use Rattle.arrays.specs.Batch.{BatchSlicesKeepRows};
-ghost use Rattle.arrays.specs.Typed.{ValuesAreOfTheirType};
+ghost use Rattle.arrays.specs.TypedLayouts.{ValuesAreOfTheirType};
 
 /// The slots of a column from one up to, not with, another have the values that they had.
 #[tactic(auto, using(crate::proofs::Slices::columns_keep))]

@@ -40,7 +40,7 @@ impl Slots {
         if self.may_be_null_where_valid() {
             return Nulls::AtValues;
         }
-        match self.validity() {
+        match self.validity().bits() {
             None => Nulls::Nowhere,
             Some(bits) => Nulls::AtZeros(bits),
         }

@@ -3,8 +3,8 @@
 ghost use Rattle.std.specs.Prelude.{◌≡◌, ◌≤◌, ◌+◌, ◌*◌, length, nat_le};
 ghost use Rattle.arrays.specs.Number.{byte_width, integer_at, decimal_at, AreBytes};
 
-use crate::element::Element;
-use arrow_schema::IntegerType;
+use crate::element::{Element, Integer};
+use arrow_types::IntegerType;
 
 /// How many bytes a number has.
 pub fn byte_width(integer: IntegerType) -> usize
@@ -47,14 +47,14 @@ pub(crate) fn integer_at(integer: IntegerType, values: &[u8], place: usize) -> i
     ensures { result ≡ integer_at integer values.now place }
 {
     match integer {
-        IntegerType::Int8 => i128::from(i8::read(values, place)),
-        IntegerType::Int16 => i128::from(i16::read(values, place)),
-        IntegerType::Int32 => i128::from(i32::read(values, place)),
-        IntegerType::Int64 => i128::from(i64::read(values, place)),
-        IntegerType::UInt8 => i128::from(u8::read(values, place)),
-        IntegerType::UInt16 => i128::from(u16::read(values, place)),
-        IntegerType::UInt32 => i128::from(u32::read(values, place)),
-        IntegerType::UInt64 => i128::from(u64::read(values, place)),
+        IntegerType::Int8 => i8::number_at(values, place),
+        IntegerType::Int16 => i16::number_at(values, place),
+        IntegerType::Int32 => i32::number_at(values, place),
+        IntegerType::Int64 => i64::number_at(values, place),
+        IntegerType::UInt8 => u8::number_at(values, place),
+        IntegerType::UInt16 => u16::number_at(values, place),
+        IntegerType::UInt32 => u32::number_at(values, place),
+        IntegerType::UInt64 => u64::number_at(values, place),
     }
 }
 

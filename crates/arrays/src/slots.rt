@@ -22,8 +22,8 @@ use crate::integers::Integers;
 use crate::layout::Layout;
 use crate::numbers::{has_decimals, has_elements};
 use crate::texts::{Texts, TextsRef};
-use crate::validity::{is_valid, read_validity, share};
-use arrow_schema::IntegerType;
+use crate::validity::Validity;
+use arrow_types::IntegerType;
 use bitmap::Bits;
 use bytes::Bytes;
 use scan_base::{Fault, ValueRef};
@@ -87,7 +87,7 @@ impl Values {
 /// Slots: which of them are valid, how many there are, and their values. Its buffers are cuts of
 /// the body that they came in. A contract sees the slots by their layout.
 pub struct Slots {
-    validity: Option<Bits>,
+    validity: Validity,
     len: usize,
     values: Values,
 }
@@ -132,7 +132,7 @@ impl Slots {
             (read_as layout.Integers (integers_of integer validity values len)) }
         ensures long { IfOk result (λ slots. layout_count slots ≡ len) }
     {
-        let validity = read_validity(validity, len)?;
+        let validity = Validity::read(validity, len)?;
         if !has_elements(integer, values.as_slice(), len) {
             return Err(Fault::BadBatch);
         }
@@ -155,7 +155,7 @@ impl Slots {
             (read_as layout.Decimals (decimals_of validity values len)) }
         ensures long { IfOk result (λ slots. layout_count slots ≡ len) }
     {
-        let validity = read_validity(validity, len)?;
+        let validity = Validity::read(validity, len)?;
         if !has_decimals(values.as_slice(), len) {
             return Err(Fault::BadBatch);
         }
@@ -178,7 +178,7 @@ impl Slots {
             (read_as layout.Bools (bools_of validity values len)) }
         ensures long { IfOk result (λ slots. layout_count slots ≡ len) }
     {
-        let validity = read_validity(validity, len)?;
+        let validity = Validity::read(validity, len)?;
         if values.len() < len.div_ceil(8) {
             return Err(Fault::BadBatch);
         }
@@ -225,7 +225,7 @@ impl Slots {
             (read_as layout.Indices (indices_of index validity values (arc_value dictionary) len)) }
         ensures long { IfOk result (λ slots. layout_count slots ≡ len) }
     {
-        let validity = read_validity(validity, len)?;
+        let validity = Validity::read(validity, len)?;
         if !has_elements(index, values.as_slice(), len) {
             return Err(Fault::BadBatch);
         }
@@ -248,7 +248,7 @@ impl Slots {
     }
 
     /// The slots of these parts, which stand. It takes no memory, and looks at no slot.
-    pub fn from_parts(validity: Option<Bits>, len: usize, values: Values) -> Slots
+    pub fn from_parts(validity: Validity, len: usize, values: Values) -> Slots
         requires { AreSlots validity len values }
         ensures { result ≡ layout_of validity len values }
     {
@@ -259,8 +259,8 @@ impl Slots {
         }
     }
 
-    /// The validity bits, where there are some: one for each slot.
-    pub fn validity(&self) -> &Option<Bits>
+    /// Which of the slots are valid.
+    pub fn validity(&self) -> &Validity
         ensures { result.now ≡ layout_validity self.now }
     {
         &self.validity
@@ -318,7 +318,7 @@ impl Slots {
         ensures { IfOk result (λ slots. slots ≡ self.now) }
     {
         Ok(Slots {
-            validity: share(&self.validity)?,
+            validity: self.validity.share()?,
             len: self.len,
             values: self.values.share()?,
         })
@@ -341,7 +341,7 @@ impl Cells for Slots {
 
     fn value_at(&self, place: usize) -> ValueRef<'_> {
         let _count = self.len();
-        if !is_valid(self.validity(), place) {
+        if !self.validity().is_valid(place) {
             return ValueRef::Null;
         }
         match self.layout() {
@@ -354,6 +354,6 @@ impl Cells for Slots {
     }
 
     fn may_have_nulls(&self) -> bool {
-        self.validity().is_some() || self.may_be_null_where_valid()
+        self.validity().bits().is_some() || self.may_be_null_where_valid()
     }
 }

@@ -8,14 +8,13 @@ ghost use Rattle.arrays.specs.Texts.{text_at, is_offset, text_stands, texts_stan
 
 use crate::element::Element;
 use crate::text_checks::{are_cut_from_text, is_utf8};
-use crate::validity::is_valid;
-use bitmap::Bits;
+use crate::validity::Validity;
 use std::marker::Model;
 
 // The buffers of texts, which may not stand.
 #[derive(Drop)]
 pub(crate) struct TextParts<'a> {
-    pub validity: &'a Option<Bits>,
+    pub validity: &'a Validity,
     pub offsets: &'a [u8],
     pub bytes: &'a [u8],
     pub len: usize,
@@ -74,7 +73,7 @@ impl<'a> TextParts<'a> {
         if !self.is_offset(place + 1) || self.offset(place) > self.offset(place + 1) {
             return false;
         }
-        !is_valid(self.validity, place) || is_utf8(self.text(place))
+        !self.validity.is_valid(place) || is_utf8(self.text(place))
     }
 
     // Whether each slot's text stands. They are looked at one by one only where they are not cut

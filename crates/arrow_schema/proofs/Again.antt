@@ -11,27 +11,27 @@ use Rattle.flatbuf.specs.Place.{TableAt, VectorAt, field_of, scalar_at, scalar_o
 use Rattle.flatbuf.specs.Layout.{Stands}
 use Rattle.flatbuf.specs.Block.{IsWhole, Given, Absent, Number, Offset, AreWhole, little, children, table_part, text_part, tables_part, buffer_of}
 use Rattle.flatbuf.proofs.Standing.{length-little}
-use Rattle.flatbuf.specs.Written.{table_at, LeadsToBlock, SlotReads}
+use Rattle.flatbuf.specs.WrittenTables.{table_at, LeadsToBlock, SlotReads}
 use Rattle.flatbuf.specs.Fits.{FitsTable, FitsTables}
 use Rattle.flatbuf.proofs.Written.{table_reads}
 use Rattle.flatbuf.proofs.Lengths.{whole_table, whole_text, whole_tables, short_table, short_text, short_tables, fits_table}
 use Rattle.flatbuf.proofs.Led.{led_table, led_text, led_vector, Elements, absent_scalar, absent_table}
+use Rattle.arrow_types.specs.declared.data_type.IntegerType.{IntegerType}
+use Rattle.arrow_types.specs.declared.data_type.IntegerType.TheVariants.{Int8, Int16, Int32, Int64, UInt8, UInt16, UInt32, UInt64}
+use Rattle.arrow_types.specs.declared.data_type.DataType.{DataType}
+use Rattle.arrow_types.specs.declared.data_type.DataType.TheVariants.{Integer, Utf8, Bool as Flags, Decimal128, Date, Dictionary}
+use Rattle.arrow_types.specs.declared.data_type.DictionaryEncoding.{DictionaryEncoding}
+use Rattle.arrow_types.specs.declared.schema.Field.{Field}
+use Rattle.arrow_types.specs.declared.schema.Schema.{Schema}
+use Rattle.arrow_types.specs.DataType.{bit_width, is_signed}
+use Rattle.arrow_types.specs.Schema.{IsName, IsType, IsField, IsSchema}
 use Rattle.arrow_schema.specs.declared.header.HeaderKind.TheVariants as header
 use Rattle.arrow_schema.specs.declared.reading.TypeKind.{TypeKind}
 use Rattle.arrow_schema.specs.declared.reading.TypeKind.TheVariants as kinds
-use Rattle.arrow_schema.specs.declared.data_type.IntegerType.{IntegerType}
-use Rattle.arrow_schema.specs.declared.data_type.IntegerType.TheVariants.{Int8, Int16, Int32, Int64, UInt8, UInt16, UInt32, UInt64}
-use Rattle.arrow_schema.specs.declared.data_type.DataType.{DataType}
-use Rattle.arrow_schema.specs.declared.data_type.DataType.TheVariants.{Integer, Utf8, Bool as Flags, Decimal128, Date, Dictionary}
-use Rattle.arrow_schema.specs.declared.data_type.DictionaryEncoding.{DictionaryEncoding}
-use Rattle.arrow_schema.specs.declared.schema.Field.{Field}
-use Rattle.arrow_schema.specs.declared.schema.Schema.{Schema}
-use Rattle.arrow_schema.specs.DataType.{bit_width, is_signed}
 use Rattle.arrow_schema.specs.Fields.{table_wanted, vector_wanted, name_of, integer_type, integer_of, decimal_of, date_of, type_kind, type_of, value_type_of, childless, dictionary_of, encoded, field_in}
 use Rattle.arrow_schema.specs.Header.{MessageAt, message_of, field_at, fields_of, schema_in, is_schema, schema_message_of, schema_of}
-use Rattle.arrow_schema.specs.Schema.{IsName, IsType, IsField, IsSchema}
 use Rattle.arrow_schema.specs.Message.{message_part}
-use Rattle.arrow_schema.specs.Written.{flag, type_number, integer_part, type_part, dictionary_part, dictionary_given, field_slots, field_part, schema_part, schema_bytes, SchemasReadBack}
+use Rattle.arrow_schema.specs.WrittenHeader.{flag, type_number, integer_part, type_part, dictionary_part, dictionary_given, field_slots, field_part, schema_part, schema_bytes, SchemasReadBack}
 use Rattle.arrow_schema.proofs.Messages.{messages_read, short_message}
 
 -- ---- numbers

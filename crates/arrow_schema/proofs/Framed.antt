@@ -4,7 +4,7 @@ use Rattle.std.proofs.lemmas.List.{length-append, length-replicate}
 use Rattle.std.specs.Int.{w32, to_le_bytes}
 use Rattle.flatbuf.specs.Block.{little, padding, padded}
 use Rattle.flatbuf.proofs.Standing.{length-little, length_padding, length_padded}
-use Rattle.arrow_schema.specs.Written.{encapsulated}
+use Rattle.arrow_schema.specs.WrittenHeader.{encapsulated}
 
 -- how long a header with its zeros is
 pub length_header : (header : List ℕ) → length (padded header) ≡ length header + (8 - length header % 8) % 8

@@ -2,7 +2,7 @@
 use Rattle.std.proofs.Common.{◌≡◌, ℕ, ◌+◌, ◌≤◌, ◌<◌, ◌^◌, List, [], ◌∷◌, length, Ok, refl, arith, ap, append-nil}
 use Rattle.flatbuf.specs.Place.{scalar_of}
 use Rattle.flatbuf.specs.Block.{Part, Given, Number, Offset, AreWhole, table_part, buffer_of}
-use Rattle.flatbuf.specs.Written.{table_at, LeadsToBlock}
+use Rattle.flatbuf.specs.WrittenTables.{table_at, LeadsToBlock}
 use Rattle.flatbuf.specs.Fits.{FitsTable}
 use Rattle.flatbuf.proofs.Written.{table_reads, table_aligned}
 use Rattle.flatbuf.proofs.Lengths.{whole_table, short_table, fits_table}

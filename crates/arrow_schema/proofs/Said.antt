@@ -11,22 +11,23 @@ use Rattle.scan_base.specs.Lists.{each, repeats}
 use Rattle.flatbuf.specs.Layout.{TableAt, VectorAt, IsBytes, IsScalar, IsReached, IsTable, IsVector, HasRoot, HasScalar, HasTable, HasVector, HasText, HasElement}
 use Rattle.flatbuf.specs.Place.{root_of, field_of, scalar_of, table_of, vector_of, text_of, element_of}
 use Rattle.flatbuf.proofs.Readings.{seen_finds, seen_root, seen_scalar, seen_table, seen_vector, seen_text, seen_element}
+use Rattle.arrow_types.specs.declared.data_type.IntegerType.{IntegerType}
+use Rattle.arrow_types.specs.declared.data_type.IntegerType.TheVariants.{Int8, Int16, Int32, Int64, UInt8, UInt16, UInt32, UInt64}
+use Rattle.arrow_types.specs.declared.data_type.DataType.{DataType}
+use Rattle.arrow_types.specs.declared.data_type.DataType.TheVariants.{Integer, Utf8, Bool as Flags, Decimal128, Date, Dictionary}
+use Rattle.arrow_types.specs.declared.data_type.DictionaryEncoding.{DictionaryEncoding}
+use Rattle.arrow_types.specs.declared.schema.Field.{Field}
+use Rattle.arrow_types.specs.declared.schema.Schema.{Schema}
+use Rattle.arrow_types.specs.DataType.{bit_width, is_signed}
+use Rattle.arrow_types.specs.Schema.{same_dictionary}
 use Rattle.arrow_schema.specs.declared.header.HeaderKind.{HeaderKind}
 use Rattle.arrow_schema.specs.declared.header.HeaderKind.TheVariants as header
 use Rattle.arrow_schema.specs.declared.reading.TypeKind.{TypeKind}
 use Rattle.arrow_schema.specs.declared.reading.TypeKind.TheVariants as kinds
-use Rattle.arrow_schema.specs.declared.data_type.IntegerType.{IntegerType}
-use Rattle.arrow_schema.specs.declared.data_type.IntegerType.TheVariants.{Int8, Int16, Int32, Int64, UInt8, UInt16, UInt32, UInt64}
-use Rattle.arrow_schema.specs.declared.data_type.DataType.{DataType}
-use Rattle.arrow_schema.specs.declared.data_type.DataType.TheVariants.{Integer, Utf8, Bool as Flags, Decimal128, Date, Dictionary}
-use Rattle.arrow_schema.specs.declared.data_type.DictionaryEncoding.{DictionaryEncoding}
-use Rattle.arrow_schema.specs.declared.schema.Field.{Field}
-use Rattle.arrow_schema.specs.declared.schema.Schema.{Schema}
-use Rattle.arrow_schema.specs.DataType.{bit_width, is_signed}
 use Rattle.arrow_schema.specs.Fields.{table_wanted, vector_wanted, name_of, integer_type, integer_of, decimal_of, date_of, type_kind, type_of, value_type_of, is_bare, childless, index_of, dictionary_of, encoded, field_in}
-use Rattle.arrow_schema.specs.Header.{MessageAt, header_kind, message_of, field_at, fields_of, same_dictionary, is_schema, schema_message_of, schema_in, schema_of}
+use Rattle.arrow_schema.specs.Header.{MessageAt, header_kind, message_of, field_at, fields_of, is_schema, schema_message_of, schema_in, schema_of}
 use Rattle.arrow_schema.specs.Says.{SaysInteger, SaysDecimal, SaysDate, SaysType, SaysIndex, SaysDictionary, SaysEncoding, SaysField, SaysFieldAt, SaysColumns, SaysSchema}
-use Rattle.arrow_schema.specs.Written.{type_number}
+use Rattle.arrow_schema.specs.WrittenHeader.{type_number}
 use Rattle.arrow_schema.proofs.Again.{kind_of, type_kind_again, kind_there}
 
 -- ---- steps of a reading

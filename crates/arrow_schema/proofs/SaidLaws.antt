@@ -9,11 +9,11 @@ use Rattle.scan_base.specs.declared.fault.Fault.TheVariants.{BadFlatbuffer}
 use Rattle.flatbuf.specs.Layout.{TableAt, IsBytes, IsScalar, IsReached, IsText, HasNumber}
 use Rattle.flatbuf.specs.Place.{number_at}
 use Rattle.flatbuf.proofs.Readings.{byte_of, seen_finds, seen_number}
-use Rattle.arrow_schema.specs.declared.data_type.DataType.{DataType}
-use Rattle.arrow_schema.specs.declared.data_type.DataType.TheVariants.{Integer, Utf8, Bool as Flags, Decimal128, Date, Dictionary}
-use Rattle.arrow_schema.specs.declared.schema.Field.{Field}
-use Rattle.arrow_schema.specs.declared.schema.Schema.{Schema}
-use Rattle.arrow_schema.specs.Schema.{IsType, IsField, IsSchema}
+use Rattle.arrow_types.specs.declared.data_type.DataType.{DataType}
+use Rattle.arrow_types.specs.declared.data_type.DataType.TheVariants.{Integer, Utf8, Bool as Flags, Decimal128, Date, Dictionary}
+use Rattle.arrow_types.specs.declared.schema.Field.{Field}
+use Rattle.arrow_types.specs.declared.schema.Schema.{Schema}
+use Rattle.arrow_types.specs.Schema.{IsType, IsField, IsSchema}
 use Rattle.arrow_schema.specs.Says.{SaysType, SaysEncoding, SaysField, SaysSchema, ReadIsSaid, ReadIsSchema}
 use Rattle.arrow_schema.proofs.Said.{bytes_table, bytes_vector, bytes_behind, schema_told, schema_read}
 

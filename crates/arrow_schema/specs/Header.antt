@@ -10,12 +10,11 @@ use Rattle.scan_base.specs.Reading.{◌>>=◌, demand}
 use Rattle.scan_base.specs.Lists.{each, repeats}
 use Rattle.flatbuf.specs.Layout.{TableAt, VectorAt}
 use Rattle.flatbuf.specs.Place.{root_of, scalar_of, element_of}
+use Rattle.arrow_types.specs.declared.schema.Field.{Field}
+use Rattle.arrow_types.specs.declared.schema.Schema.{Schema}
+use Rattle.arrow_types.specs.Schema.{same_dictionary}
 use Rattle.arrow_schema.specs.declared.header.HeaderKind.{HeaderKind}
 use Rattle.arrow_schema.specs.declared.header.HeaderKind.TheVariants as header
-use Rattle.arrow_schema.specs.declared.data_type.DataType.{DataType}
-use Rattle.arrow_schema.specs.declared.data_type.DataType.TheVariants.{Dictionary}
-use Rattle.arrow_schema.specs.declared.schema.Field.{Field}
-use Rattle.arrow_schema.specs.declared.schema.Schema.{Schema}
 use Rattle.arrow_schema.specs.Fields.{vector_wanted, meaning_of, field_in}
 unfoldable pub use Rattle.arrow_schema.specs.Fields.{table_wanted}
 
@@ -50,15 +49,6 @@ abbrev pub body_length_of : MessageAt → Result ℕ Fault
 body_length_of message = scalar_of 8 message.table 3 0
 
 -- ---- schemas
-
--- two types have one dictionary
-abbrev pub shares_dictionary : DataType → DataType → Bool
-shares_dictionary (Dictionary one) (Dictionary other) = one.id == other.id
-shares_dictionary _ _ = false
-
--- two fields have one dictionary
-abbrev pub same_dictionary : Field → Field → Bool
-same_dictionary one other = shares_dictionary one.data_type other.data_type
 
 -- field `index` of a vector of Field tables
 unfoldable pub field_at : VectorAt → ℕ → Result Field Fault

@@ -1,9 +1,6 @@
-pub mod Answer
-pub mod DataType
 pub mod Fields
 pub mod Header
 pub mod Message
 pub mod Says
-pub mod Schema
-pub mod Seen
-pub mod Written
+pub mod MessageView
+pub mod WrittenHeader

@@ -5,7 +5,7 @@ ghost use Rattle.scan_base.specs.Reading.{Gives};
 ghost use Rattle.arrow_schema.specs.Header.{message_of, header_kind, header_of};
 ghost use Rattle.arrow_schema.specs.Header.{body_length_of};
 ghost use Rattle.arrow_schema.specs.Fields.{table_wanted};
-ghost use Rattle.arrow_schema.specs.Seen.{message_seen};
+ghost use Rattle.arrow_schema.specs.MessageView.{message_seen};
 ghost use Rattle.arrow_schema.specs.Message.{kind_number};
 
 use flatbuf::{Buf, Table, Width};

@@ -1,8 +1,7 @@
 //! Laws. Each function here has an empty body: its contract is the law.
 
-ghost use Rattle.arrow_schema.specs.Answer.{PlainIsSchema, PlainHasNone, PlainStays};
 ghost use Rattle.arrow_schema.specs.Message.{MessagesReadBack};
-ghost use Rattle.arrow_schema.specs.Written.{SchemasReadBack};
+ghost use Rattle.arrow_schema.specs.WrittenHeader.{SchemasReadBack};
 ghost use Rattle.arrow_schema.specs.Says.{ReadIsSaid, ReadIsSchema};
 
 /// What is read of a written message is its kind, its header and the length of its body, wherever
@@ -27,21 +26,4 @@ pub fn read_schemas_are_said()
 /// A schema that was read may be written, whatever its types are.
 pub fn read_schemas_are_schemas()
     ensures { ReadIsSchema }
-{}
-
-/// The columns of a schema may be written without their dictionaries.
-pub fn plain_schemas_are_schemas()
-    ensures { PlainIsSchema }
-{}
-
-/// No column has a dictionary then.
-#[tactic(auto, using(crate::proofs::Plain::plain_has_none))]
-pub fn plain_schemas_have_none()
-    ensures { PlainHasNone }
-{}
-
-/// Columns without dictionaries stay as they are.
-#[tactic(auto, using(crate::proofs::Plain::plain_stays))]
-pub fn plain_schemas_stay()
-    ensures { PlainStays }
 {}

@@ -1,16 +1,15 @@
-//! Arrow's types and schemas.
+//! Arrow's schemas and message headers, read or written.
 #![tactic(auto)]
 
-mod borrowed;
-pub mod data_type;
+mod borrowed_fields;
 pub mod header;
 pub mod laws;
 pub mod reading;
-pub mod schema;
 pub mod writing;
 
-pub use crate::data_type::{DataType, DictionaryEncoding, IntegerType};
 pub use crate::header::{HeaderKind, Message, read_message};
 pub use crate::reading::read_schema;
-pub use crate::schema::{Field, MAX_COLUMNS, MAX_NAME_BYTES, Schema};
 pub use crate::writing::{encapsulate, write_message, write_schema};
+pub use arrow_types::{
+    DataType, DictionaryEncoding, Field, IntegerType, MAX_COLUMNS, MAX_NAME_BYTES, Schema,
+};

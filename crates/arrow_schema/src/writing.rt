@@ -2,17 +2,18 @@
 
 ghost use Rattle.std.specs.Prelude.{◌≡◌, ◌≤◌, ◌<◌, ◌-◌, ◌%◌, ◌^◌, All, Ok, IfOk};
 ghost use Rattle.std.specs.Prelude.{length, map, option_map};
-ghost use Rattle.flatbuf.specs.Given.{given_of};
+ghost use Rattle.flatbuf.specs.GivenSlots.{given_of};
+ghost use Rattle.arrow_types.specs.Schema.{IsType, IsField, IsSchema};
+ghost use Rattle.arrow_types.specs.DataType.{encoding_of};
 ghost use Rattle.arrow_schema.specs.Message.{message_bytes};
-ghost use Rattle.arrow_schema.specs.Schema.{IsType, IsField, IsSchema};
 ghost use Rattle.arrow_schema.specs.Header.{schema_of};
-ghost use Rattle.arrow_schema.specs.Written.{type_number, integer_part, type_part, dictionary_part};
-ghost use Rattle.arrow_schema.specs.Written.{encoding_of, given_if, field_part, schema_part};
-ghost use Rattle.arrow_schema.specs.Written.{schema_bytes, encapsulated};
+ghost use Rattle.arrow_schema.specs.WrittenHeader.{type_number, integer_part, type_part};
+ghost use Rattle.arrow_schema.specs.WrittenHeader.{dictionary_part};
+ghost use Rattle.arrow_schema.specs.WrittenHeader.{given_if, field_part, schema_part};
+ghost use Rattle.arrow_schema.specs.WrittenHeader.{schema_bytes, encapsulated};
 
-use crate::data_type::{DataType, DictionaryEncoding, IntegerType};
 use crate::header::HeaderKind;
-use crate::schema::{Field, Schema};
+use arrow_types::{DataType, DictionaryEncoding, Field, IntegerType, Schema};
 use flatbuf::{Block, Builder, Slot};
 use std::alloc::{AllocError, Global};
 
@@ -55,7 +56,7 @@ fn type_number(data_type: DataType) -> u64
     }
 }
 
-#[tactic(auto, using(flatbuf::proofs::Lengths::fits), unfolding(crate::specs::Written::integer_part))]
+#[tactic(auto, using(flatbuf::proofs::Lengths::fits), unfolding(crate::specs::WrittenHeader::integer_part))]
 fn integer_block(builder: &Builder, integer: IntegerType) -> Result<Block, AllocError>
     ensures { IfOk result (λ block. block ≡ integer_part integer) }
 {
@@ -65,7 +66,7 @@ fn integer_block(builder: &Builder, integer: IntegerType) -> Result<Block, Alloc
     ])
 }
 
-#[tactic(auto, using(flatbuf::proofs::Lengths::fits), unfolding(crate::specs::Written::type_part))]
+#[tactic(auto, using(flatbuf::proofs::Lengths::fits), unfolding(crate::specs::WrittenHeader::type_part))]
 fn type_block(builder: &Builder, data_type: DataType) -> Result<Block, AllocError>
     ensures { IfOk result (λ block. block ≡ type_part data_type) }
 {
@@ -79,7 +80,7 @@ fn type_block(builder: &Builder, data_type: DataType) -> Result<Block, AllocErro
     }
 }
 
-#[tactic(auto, using(crate::proofs::Again::writing), unfolding(crate::specs::Written::dictionary_part))]
+#[tactic(auto, using(crate::proofs::Again::writing), unfolding(crate::specs::WrittenHeader::dictionary_part))]
 fn dictionary_block(builder: &Builder, encoding: DictionaryEncoding) -> Result<Block, AllocError>
     ensures { IfOk result (λ block. block ≡ dictionary_part encoding) }
 {
@@ -108,7 +109,7 @@ fn optional(block: &Option<Block>) -> Slot<'_>
 
 // The table of a field. Its list of children is written and empty, since some readers want it
 // there.
-#[tactic(auto, using(crate::proofs::Again::writing), unfolding(crate::specs::Written::field_part))]
+#[tactic(auto, using(crate::proofs::Again::writing), unfolding(crate::specs::WrittenHeader::field_part))]
 fn field_block(builder: &Builder, field: &Field) -> Result<Block, AllocError>
     requires { IsField field.now }
     ensures { IfOk result (λ block. block ≡ field_part field.now) }
@@ -142,7 +143,7 @@ fn field_blocks(
     Ok(blocks)
 }
 
-#[tactic(auto, using(crate::proofs::Again::writing), unfolding(crate::specs::Written::schema_part))]
+#[tactic(auto, using(crate::proofs::Again::writing), unfolding(crate::specs::WrittenHeader::schema_part))]
 fn schema_block(alloc: Global, schema: &Schema) -> Result<Block, AllocError>
     requires { IsSchema schema.now }
     ensures { IfOk result (λ block. block ≡ schema_part schema.now) }

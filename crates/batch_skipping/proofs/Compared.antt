@@ -14,10 +14,10 @@ use Rattle.scan_base.specs.declared.value.Value.{Value}
 use Rattle.scan_base.specs.declared.value.Value.TheVariants.{Null, Bool as Flag, Int, Text}
 use Rattle.scan_base.specs.Comparison.{order_of, compared, judged, satisfies}
 use Rattle.scan_base.specs.Truth.{keeps, truth_from, truth_not}
-use Rattle.batch_skipping.specs.declared.possible.Possible.{Possible}
-use Rattle.batch_skipping.specs.Possible.{has, only}
+use Rattle.batch_skipping.specs.declared.possible_truths.PossibleTruths.{PossibleTruths}
+use Rattle.batch_skipping.specs.PossibleTruths.{has, only}
 use Rattle.batch_stats.specs.Stats.{StatsAt, stand, has_nulls}
-use Rattle.batch_skipping.specs.Can.{equal_between, less_between, between_sides, of_sides, can_compare}
+use Rattle.batch_skipping.specs.PredicateTruths.{equal_between, less_between, between_sides, of_sides, can_compare}
 use Rattle.batch_skipping.specs.Laws.{IsBetween, IsWithin}
 use Rattle.batch_skipping.proofs.Orders.{equal_true, equal_false, less_true, less_false}
 use Rattle.batch_skipping.proofs.Sets.{has_over}
@@ -154,7 +154,7 @@ no_null (Text k) e = cc
 
 module _ (comparison : Comparison) (test : Value × Value → Value × Value → Bool × Bool) (allows : Allows comparison test) where
   -- the set by a test
-  abbrev tested : Bool → Value × Value → Value × Value → Possible
+  abbrev tested : Bool → Value × Value → Value × Value → PossibleTruths
   tested nulls a b = record { can_true = (test a b).0; can_false = (test a b).1; can_unknown = nulls }
 
   by_truth : (nulls : Bool) (a b : Value × Value) (t : Bool) → (t ≡ true → (test a b).0 ≡ true) → (t ≡ false → (test a b).1 ≡ true) →

@@ -12,9 +12,9 @@ use Rattle.scan_base.specs.declared.comparison.Comparison.TheVariants.{Less, Les
 use Rattle.scan_base.specs.declared.value.Value.{Value}
 use Rattle.scan_base.specs.declared.value.Value.TheVariants.{Null, Bool as Flag, Int, Text}
 use Rattle.scan_base.specs.Value.{is_null}
-use Rattle.arrow_schema.specs.declared.data_type.DataType.{DataType}
-use Rattle.arrow_schema.specs.declared.data_type.DataType.TheVariants.{Integer, Utf8, Bool as Flags, Decimal128, Date, Dictionary}
-use Rattle.arrays.specs.Typed.{IsValueOf}
+use Rattle.arrow_types.specs.declared.data_type.DataType.{DataType}
+use Rattle.arrow_types.specs.declared.data_type.DataType.TheVariants.{Integer, Utf8, Bool as Flags, Decimal128, Date, Dictionary}
+use Rattle.arrays.specs.TypedLayouts.{IsValueOf}
 use Rattle.batch_skipping.specs.Laws.{IsBetween, IsWithin, OwnValuesAreWithin}
 use Rattle.batch_stats.specs.Stats.{StatsAt, ends_of, lesser, greater, stand, stats_of, with_value}
 use Rattle.batch_skipping.proofs.Compared.{HasOrder, flag_order, number_order, text_order, stands}

@@ -8,10 +8,10 @@ use Rattle.batch_stats.specs.declared.beginnings.Beginnings.{Beginnings}
 use Rattle.batch_stats.specs.Stats.{StatsAt}
 use Rattle.rewrite.specs.Conjuncts.{is_between}
 use Rattle.typed_plan.specs.declared.plan.Columns.TheVariants.{These}
-use Rattle.typed_plan.specs.Typed.{has_columns}
-use Rattle.batch_skipping.specs.Chosen.{columns_at}
-use Rattle.batch_skipping.specs.Opened.{given_width}
-use Rattle.batch_skipping.specs.inside.Judged.{columns_of}
+use Rattle.typed_plan.specs.TypedPlans.{has_columns}
+use Rattle.batch_skipping.specs.ChosenColumns.{columns_at}
+use Rattle.batch_skipping.specs.OpenedBatches.{given_width}
+use Rattle.batch_skipping.specs.inside.JudgedBatches.{columns_of}
 use Rattle.batch_skipping.proofs.GivenColumns.{these_at}
 
 -- one whose rows are known is there

@@ -6,9 +6,9 @@ use Rattle.std.specs.List.{list_all}
 use Rattle.arrays.specs.Column.{ColumnAt}
 use Rattle.rewrite.specs.Conjuncts.{is_between}
 use Rattle.typed_plan.specs.declared.plan.Columns.TheVariants.{These}
-use Rattle.typed_plan.specs.Typed.{has_columns}
-use Rattle.batch_skipping.specs.Chosen.{listed, columns_at}
-use Rattle.batch_skipping.specs.Opened.{given_width}
+use Rattle.typed_plan.specs.TypedPlans.{has_columns}
+use Rattle.batch_skipping.specs.ChosenColumns.{listed, columns_at}
+use Rattle.batch_skipping.specs.OpenedBatches.{given_width}
 
 there_at : {X : Type 0} (xs : List X) (i : ℕ) → i < length xs → (x : X) × (slice_get xs i ≡ Some x)
 there_at [] i h = absurd (omega (arith, h))

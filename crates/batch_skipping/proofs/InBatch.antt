@@ -11,17 +11,17 @@ use Rattle.scan_base.specs.declared.value.Value.{Value}
 use Rattle.scan_base.specs.declared.value.Value.TheVariants.{Null}
 use Rattle.scan_base.specs.Predicate.{cell_in, truth_of}
 use Rattle.scan_base.specs.Truth.{keeps}
-use Rattle.arrow_schema.specs.declared.data_type.DataType.{DataType}
+use Rattle.arrow_types.specs.declared.data_type.DataType.{DataType}
 use Rattle.arrays.proofs.OfType.{values_are}
 use Rattle.arrays.specs.Batch.{BatchAt, row_of}
 use Rattle.arrays.specs.Column.{ColumnAt, IsColumn, slot_of, values_of}
-use Rattle.arrays.specs.Typed.{AreOf, IsOfType}
+use Rattle.arrays.specs.TypedLayouts.{AreOf, IsOfType}
 use Rattle.batch_stats.specs.Columns.{stats_if_there, stats_in}
 use Rattle.batch_stats.specs.Stats.{StatsAt, stats_of}
-use Rattle.batch_skipping.specs.declared.possible.Possible.{Possible}
-use Rattle.batch_skipping.specs.Can.{can}
+use Rattle.batch_skipping.specs.declared.possible_truths.PossibleTruths.{PossibleTruths}
+use Rattle.batch_skipping.specs.PredicateTruths.{can}
 use Rattle.batch_skipping.specs.Laws.{IsBatch, IsWithin, RowsArePossible, SkippedRowsAreNotKept}
-use Rattle.batch_skipping.specs.Possible.{has}
+use Rattle.batch_skipping.specs.PossibleTruths.{has}
 use Rattle.batch_skipping.proofs.Ends.{own_values_are_within}
 use Rattle.batch_skipping.proofs.Possibles.{truth_is_possible}
 use Rattle.batch_skipping.proofs.SameCells.{same_truth_of}
@@ -66,7 +66,7 @@ rows_are_possible types batch row predicate is low =
     truth_is_possible (stats_in batch.columns) (cell_in (row_of batch.columns row)) predicate (cells_within types batch row is low)
 
 -- what cannot be true is not
-not_kept : (possible : Possible) (truth : Truth) → has possible truth ≡ true → possible.can_true ≡ false → keeps truth ≡ false
+not_kept : (possible : PossibleTruths) (truth : Truth) → has possible truth ≡ true → possible.can_true ≡ false → keeps truth ≡ false
 not_kept possible True is none = sym is ∙ none
 not_kept possible False is none = refl
 not_kept possible Unknown is none = refl

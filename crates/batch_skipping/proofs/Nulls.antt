@@ -6,8 +6,8 @@ use Rattle.scan_base.specs.declared.predicate.Operand.{Operand}
 use Rattle.scan_base.specs.declared.truth.Truth.TheVariants.{False, Unknown}
 use Rattle.scan_base.specs.declared.value.Value.{Value}
 use Rattle.scan_base.specs.Truth.{truth_or}
-use Rattle.batch_skipping.specs.Can.{between_sides, can_be_among, can_be_within, can_compare, less_between, side_of}
-use Rattle.batch_skipping.specs.Possible.{only, over, over_both}
+use Rattle.batch_skipping.specs.PredicateTruths.{between_sides, can_be_among, can_be_within, can_compare, less_between, side_of}
+use Rattle.batch_skipping.specs.PossibleTruths.{only, over, over_both}
 use Rattle.batch_stats.specs.Stats.{StatsAt}
 
 right_none : (test : Value × Value → Value × Value → Bool × Bool) (nulls : Bool) (b : Option (Value × Value)) → between_sides test nulls b None ≡ only Unknown

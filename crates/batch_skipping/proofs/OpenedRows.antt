@@ -1,24 +1,24 @@
 -- Worked rows: which batches are opened, worked out by hand.
 use Rattle.std.proofs.Common.{◌≡◌, ℕ, List, [], ◌∷◌, None, refl, pos}
-use Rattle.arrow_schema.specs.declared.data_type.IntegerType.TheVariants.{Int8}
-use Rattle.arrow_schema.specs.declared.schema.Schema.{Schema}
+use Rattle.arrow_types.specs.declared.data_type.IntegerType.TheVariants.{Int8}
+use Rattle.arrow_types.specs.declared.schema.Schema.{Schema}
 use Rattle.arrays.specs.declared.layout.Layout.TheVariants as layout
 use Rattle.arrays.specs.Batch.{BatchAt}
 use Rattle.arrays.specs.Number.{element_at}
-use Rattle.batch_skipping.specs.Can.{can_compare}
+use Rattle.batch_skipping.specs.PredicateTruths.{can_compare}
 use Rattle.scan_base.specs.declared.comparison.Comparison.{Comparison}
 use Rattle.scan_base.specs.declared.comparison.Comparison.TheVariants.{Equal, Less, Greater}
 use Rattle.scan_base.specs.declared.predicate.Operand.{Operand}
 use Rattle.scan_base.specs.declared.predicate.Operand.TheVariants as operand
 use Rattle.scan_base.specs.declared.value.Value.TheVariants.{Int}
 use Rattle.scan_base.specs.Predicate.{Pred, conjunction, comparing}
-use Rattle.table_versions.specs.Stored.{TableAt}
+use Rattle.table_versions.specs.StoredTables.{TableAt}
 use Rattle.table_versions.specs.Table.{Name}
 use Rattle.typed_plan.specs.declared.plan.Columns.{Columns}
 use Rattle.typed_plan.specs.declared.plan.Columns.TheVariants.{All, These}
 use Rattle.typed_plan.specs.declared.plan.JoinKey.{JoinKey}
 use Rattle.typed_plan.specs.Plan.{Tree, scan, filtered, joined}
-use Rattle.batch_skipping.specs.Opened.{first_numbers, further_numbers, numbered_batches, place_opened, scans_of, where_parts}
+use Rattle.batch_skipping.specs.OpenedBatches.{first_numbers, further_numbers, numbered_batches, place_opened, scans_of, where_parts}
 
 abbrev number : ℕ → Operand ℕ
 number n = operand.Literal (Int (pos n))

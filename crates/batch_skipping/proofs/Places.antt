@@ -5,17 +5,17 @@ use Rattle.std.specs.List.{filter, list_all}
 use Rattle.std.proofs.lemmas.Bool.{cases_Bool, and_from}
 use Rattle.std.proofs.lemmas.List.{drop_all}
 use Rattle.std.proofs.lemmas.List.Elements.{All-nil, All-cons}
-use Rattle.arrow_schema.specs.declared.schema.Schema.{Schema}
+use Rattle.arrow_types.specs.declared.schema.Schema.{Schema}
 use Rattle.scan_base.specs.Predicate.{Pred}
-use Rattle.table_versions.specs.Kept.{IsKept}
-use Rattle.table_versions.specs.Stored.{TableAt, table_of}
+use Rattle.table_versions.specs.KeptTables.{IsKept}
+use Rattle.table_versions.specs.StoredTables.{TableAt, table_of}
 use Rattle.typed_plan.specs.declared.plan.Columns.{Columns}
-use Rattle.typed_plan.specs.Held.{tree_schemas}
+use Rattle.typed_plan.specs.HeldTables.{tree_schemas}
 use Rattle.typed_plan.specs.Plan.{Tree, scan, filtered, joined}
-use Rattle.typed_plan.specs.Typed.{IsTypedTree, has_columns}
-use Rattle.batch_skipping.specs.declared.opened.OpenedList.{OpenedList}
-use Rattle.batch_skipping.specs.Listed.{AreLists, AreWhole, IsListOf}
-use Rattle.batch_skipping.specs.Opened.{batches_in, first_numbers, further_numbers, given_width, judged_count, numbers_behind, place_opened, scans_of, whole_count}
+use Rattle.typed_plan.specs.TypedPlans.{IsTypedTree, has_columns}
+use Rattle.batch_skipping.specs.declared.opened_batches.OpenedList.{OpenedList}
+use Rattle.batch_skipping.specs.PlaceLists.{AreLists, AreWhole, IsListOf}
+use Rattle.batch_skipping.specs.OpenedBatches.{batches_in, first_numbers, further_numbers, given_width, judged_count, numbers_behind, place_opened, scans_of, whole_count}
 
 -- each scan gives columns of its table
 abbrev pub Fit : List Columns → List Schema → Type 0

@@ -12,9 +12,9 @@ use Rattle.scan_base.specs.declared.value.Value.TheVariants.{Null, Bool as Flag,
 use Rattle.scan_base.specs.Comparison.{compared, nullness}
 use Rattle.scan_base.specs.Predicate.{Pred, conjunction, disjunction, negation, truth_test, comparing, between, membership, null_test, constant, operand_value, within, any_equal, truth_of}
 use Rattle.scan_base.specs.Truth.{keeps, truth_from, truth_and, truth_or, truth_not, truth_is, negated_if}
-use Rattle.batch_skipping.specs.Can.{side_of, can_compare, can_be_null, can_be_among, can_be_within, can}
+use Rattle.batch_skipping.specs.PredicateTruths.{side_of, can_compare, can_be_null, can_be_among, can_be_within, can}
 use Rattle.batch_skipping.specs.Laws.{IsBetween, IsWithin, TruthIsPossible}
-use Rattle.batch_skipping.specs.Possible.{has, over}
+use Rattle.batch_skipping.specs.PossibleTruths.{has, over}
 use Rattle.batch_stats.specs.Stats.{StatsAt, stats_of}
 use Rattle.batch_skipping.proofs.Compared.{compare_law}
 use Rattle.batch_skipping.proofs.Sets.{has_only, has_over, has_both}

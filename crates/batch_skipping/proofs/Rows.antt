@@ -8,8 +8,8 @@ use Rattle.scan_base.specs.declared.value.Value.{Value}
 use Rattle.scan_base.specs.declared.value.Value.TheVariants.{Null, Int, Text}
 use Rattle.scan_base.specs.Predicate.{Pred, disjunction, negation, comparing, between, membership, null_test, constant}
 use Rattle.batch_stats.specs.Stats.{StatsAt, stats_of}
-use Rattle.batch_skipping.specs.Can.{can, can_compare}
-use Rattle.batch_skipping.specs.Possible.{only, over, over_both}
+use Rattle.batch_skipping.specs.PredicateTruths.{can, can_compare}
+use Rattle.batch_skipping.specs.PossibleTruths.{only, over, over_both}
 
 -- whether a predicate can be true in a batch whose one column has these values
 abbrev is_opened : List Value → Pred ℕ → Bool

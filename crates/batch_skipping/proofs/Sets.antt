@@ -4,8 +4,8 @@ use Rattle.std.specs.List.{list_any}
 use Rattle.std.proofs.lemmas.Bool.{or_left, or_right, and_from}
 use Rattle.scan_base.specs.declared.truth.Truth.{Truth}
 use Rattle.scan_base.specs.declared.truth.Truth.TheVariants.{True, False, Unknown}
-use Rattle.batch_skipping.specs.declared.possible.Possible.{Possible}
-use Rattle.batch_skipping.specs.Possible.{has, set_of, same_truth, all_truths, only, over, over_both}
+use Rattle.batch_skipping.specs.declared.possible_truths.PossibleTruths.{PossibleTruths}
+use Rattle.batch_skipping.specs.PossibleTruths.{has, set_of, same_truth, all_truths, only, over, over_both}
 
 pub has_set : (test : Truth → Bool) (t : Truth) → has (set_of test) t ≡ test t
 has_set test True = refl
@@ -29,14 +29,14 @@ pub has_only : (t : Truth) → has (only t) t ≡ true
 has_only t = has_set (same_truth t) t ∙ itself t
 
 -- what a table gives of a truth of a set is in the set that it gives
-pub has_over : (table : Truth → Truth) (a : Possible) (x : Truth) → has a x ≡ true → has (over table a) (table x) ≡ true
+pub has_over : (table : Truth → Truth) (a : PossibleTruths) (x : Truth) → has a x ≡ true → has (over table a) (table x) ≡ true
 unfolding over
 has_over table a x e =
     let test : Truth → Truth → Bool = λ t y. has a y && same_truth (table y) t in
     has_set (λ t. list_any (test t) all_truths) (table x)
     ∙ any_truth (test (table x)) x (and_from (has a x) (same_truth (table x) (table x)) e (itself (table x)))
 
-pub has_both : (table : Truth → Truth → Truth) (a b : Possible) (x y : Truth) → has a x ≡ true → has b y ≡ true →
+pub has_both : (table : Truth → Truth → Truth) (a b : PossibleTruths) (x y : Truth) → has a x ≡ true → has b y ≡ true →
     has (over_both table a b) (table x y) ≡ true
 unfolding over_both
 has_both table a b x y e f =

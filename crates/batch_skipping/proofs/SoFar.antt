@@ -10,15 +10,15 @@ use Rattle.arrays.specs.Batch.{BatchAt, rows_of}
 use Rattle.scan_base.specs.Limits.{most_rows}
 use Rattle.scan_base.specs.Predicate.{Pred}
 use Rattle.table_versions.specs.Standing.{rows_before, BatchesAreRows}
-use Rattle.table_versions.specs.Stored.{TableAt, table_of}
+use Rattle.table_versions.specs.StoredTables.{TableAt, table_of}
 use Rattle.table_versions.proofs.Rowing.{rows-append, rows-cons}
 use Rattle.typed_plan.specs.declared.plan.Columns.{Columns}
-use Rattle.batch_skipping.specs.declared.opened.OpenedList.{OpenedList}
-use Rattle.batch_skipping.specs.Chosen.{are_within}
-use Rattle.batch_skipping.specs.Listed.{IsListOf}
+use Rattle.batch_skipping.specs.declared.opened_batches.OpenedList.{OpenedList}
+use Rattle.batch_skipping.specs.ChosenColumns.{are_within}
+use Rattle.batch_skipping.specs.PlaceLists.{IsListOf}
 use Rattle.batch_skipping.specs.Narrow.{batches_at, narrowed_from, narrowed_to}
-use Rattle.batch_skipping.specs.Opened.{batches_in, given_columns, has_row_in}
-use Rattle.batch_skipping.specs.inside.Judged.{all_can, is_judged, judged_before}
+use Rattle.batch_skipping.specs.OpenedBatches.{batches_in, given_columns, has_row_in}
+use Rattle.batch_skipping.specs.inside.JudgedBatches.{all_can, is_judged, judged_before}
 use Rattle.batch_skipping.proofs.Judging.{passes, fails, none_behind, none_before}
 use Rattle.batch_skipping.proofs.PlaceStanding.{grows, in_all, batch_is, start_next, start_few}
 

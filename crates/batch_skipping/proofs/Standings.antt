@@ -10,10 +10,10 @@ use Rattle.scan_base.specs.declared.comparison.Comparison.{Comparison}
 use Rattle.scan_base.specs.declared.comparison.Comparison.TheVariants.{Equal, Less, LessOrEqual, GreaterOrEqual}
 use Rattle.scan_base.specs.declared.value.Value.{Value}
 use Rattle.scan_base.specs.declared.value.Value.TheVariants.{Text}
-use Rattle.batch_skipping.specs.declared.possible.Possible.{Possible}
-use Rattle.batch_skipping.specs.declared.standing.Standing.{Standing}
-use Rattle.batch_skipping.specs.Can.{between_sides, equal_between, less_between, of_sides}
-use Rattle.batch_skipping.specs.inside.Standing.{StandSo}
+use Rattle.batch_skipping.specs.declared.possible_truths.PossibleTruths.{PossibleTruths}
+use Rattle.batch_skipping.specs.declared.text_standing.TextStanding.{TextStanding}
+use Rattle.batch_skipping.specs.PredicateTruths.{between_sides, equal_between, less_between, of_sides}
+use Rattle.batch_skipping.specs.inside.TextStanding.{StandSo}
 use Rattle.batch_stats.specs.Stats.{StatsAt, stand, has_nulls}
 use Rattle.batch_skipping.proofs.Compared.{stands, text_order}
 
@@ -116,7 +116,7 @@ module _ (least greatest text : List ℕ) where
 
 -- ---- the possible truths
 
-abbrev pub possibly : Bool → Bool → Bool → Possible
+abbrev pub possibly : Bool → Bool → Bool → PossibleTruths
 possibly can_true can_false can_unknown = record { can_true = can_true; can_false = can_false; can_unknown = can_unknown }
 
 or_false : (b : Bool) → (b || false) ≡ b
@@ -126,7 +126,7 @@ or_false false = refl
 pub same_three : (a b c x y z : Bool) → a ≡ x → b ≡ y → c ≡ z → possibly a b c ≡ possibly x y z
 same_three a b c x y z e f g = ap (λ p. possibly p b c) e ∙ ap (λ p. possibly x p c) f ∙ ap (λ p. possibly x y p) g
 
-module _ (standing : Standing) (a b : StatsAt) (so : StandSo standing a b) where
+module _ (standing : TextStanding) (a b : StatsAt) (so : StandSo standing a b) where
   -- a test of the texts and the one text
   left : (test : Value × Value → Value × Value → Bool × Bool) (can_true can_false : Bool) →
       (test (Text so.least, Text so.greatest) (Text so.text, Text so.text)).0 ≡ can_true →

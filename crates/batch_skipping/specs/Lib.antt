@@ -1,8 +1,8 @@
-pub mod Possible
-pub mod Can
+pub mod PossibleTruths
+pub mod PredicateTruths
 pub mod Laws
 pub mod inside
-pub mod Chosen
-pub mod Opened
+pub mod ChosenColumns
+pub mod OpenedBatches
 pub mod Narrow
-pub mod Listed
+pub mod PlaceLists

@@ -6,8 +6,8 @@ use Rattle.std.specs.Option.{option_to_list}
 use Rattle.arrays.specs.Batch.{BatchAt, rows_of}
 use Rattle.scan_base.specs.Limits.{most_rows}
 use Rattle.table_versions.specs.Standing.{rows_before}
-use Rattle.table_versions.specs.Stored.{TableAt}
-use Rattle.batch_skipping.specs.Chosen.{are_within}
+use Rattle.table_versions.specs.StoredTables.{TableAt}
+use Rattle.batch_skipping.specs.ChosenColumns.{are_within}
 
 -- the batches of these numbers
 abbrev pub batches_at : List ℕ → List BatchAt → List BatchAt

@@ -1,4 +1,4 @@
 -- What contracts of this crate's private functions alone cite.
-pub mod Between
-pub mod Standing
-pub mod Judged
+pub mod ClassRange
+pub mod TextStanding
+pub mod JudgedBatches

@@ -4,12 +4,13 @@ ghost use Rattle.std.specs.Prelude.{◌≡◌, is_some};
 ghost use Rattle.std.specs.Ordering.{int_cmp};
 ghost use Rattle.scan_base.specs.Comparison.{order_of, satisfies};
 ghost use Rattle.scan_base.specs.Value.{value_of};
-ghost use Rattle.batch_skipping.specs.Can.{can_be_null, can_compare, equal_between, is_one_value};
-ghost use Rattle.batch_skipping.specs.Can.{less_between, of_sides};
+ghost use Rattle.batch_skipping.specs.PredicateTruths.{can_be_null, can_compare, equal_between};
+ghost use Rattle.batch_skipping.specs.PredicateTruths.{is_one_value};
+ghost use Rattle.batch_skipping.specs.PredicateTruths.{less_between, of_sides};
 ghost use Rattle.batch_stats.specs.Sides.{ends_at, side_at};
 ghost use Rattle.batch_stats.specs.Stats.{stand};
 
-use crate::possible::Possible;
+use crate::possible_truths::PossibleTruths;
 use batch_stats::{Ends, Side};
 use scan_base::{Comparison, Truth, ValueRef};
 
@@ -90,44 +91,48 @@ fn less_between(left: &Ends<'_>, right: &Ends<'_>) -> (bool, bool)
 }
 
 // The possible truths of `=`.
-fn can_be_equal(left: &Side<'_>, right: &Side<'_>) -> Possible
+fn can_be_equal(left: &Side<'_>, right: &Side<'_>) -> PossibleTruths
     ensures { result ≡ of_sides equal_between (side_at left.now) (side_at right.now) }
 {
     let can_unknown = left.nulls > 0 || right.nulls > 0;
     match (&left.ends, &right.ends) {
         (Some(a), Some(b)) if have_order(&a.least, &b.least) => {
             let (can_true, can_false) = equal_between(a, b);
-            Possible {
+            PossibleTruths {
                 can_true,
                 can_false,
                 can_unknown,
             }
         }
-        (_, _) => Possible::only(Truth::Unknown),
+        (_, _) => PossibleTruths::only(Truth::Unknown),
     }
 }
 
 // The possible truths of `<`.
-fn can_be_less(left: &Side<'_>, right: &Side<'_>) -> Possible
+fn can_be_less(left: &Side<'_>, right: &Side<'_>) -> PossibleTruths
     ensures { result ≡ of_sides less_between (side_at left.now) (side_at right.now) }
 {
     let can_unknown = left.nulls > 0 || right.nulls > 0;
     match (&left.ends, &right.ends) {
         (Some(a), Some(b)) if have_order(&a.least, &b.least) => {
             let (can_true, can_false) = less_between(a, b);
-            Possible {
+            PossibleTruths {
                 can_true,
                 can_false,
                 can_unknown,
             }
         }
-        (_, _) => Possible::only(Truth::Unknown),
+        (_, _) => PossibleTruths::only(Truth::Unknown),
     }
 }
 
 // The possible truths of a comparison of a value of the one side with a value of the other.
-#[tactic(auto, unfolding(crate::specs::Can::can_compare))]
-pub(crate) fn can_compare(comparison: Comparison, left: &Side<'_>, right: &Side<'_>) -> Possible
+#[tactic(auto, unfolding(crate::specs::PredicateTruths::can_compare))]
+pub(crate) fn can_compare(
+    comparison: Comparison,
+    left: &Side<'_>,
+    right: &Side<'_>,
+) -> PossibleTruths
     ensures { result ≡ can_compare comparison (side_at left.now) (side_at right.now) }
 {
     match comparison {
@@ -141,10 +146,10 @@ pub(crate) fn can_compare(comparison: Comparison, left: &Side<'_>, right: &Side<
 }
 
 // The possible truths of IS NULL of a value of a side.
-pub(crate) fn can_be_null(side: &Side<'_>) -> Possible
+pub(crate) fn can_be_null(side: &Side<'_>) -> PossibleTruths
     ensures { result ≡ can_be_null (side_at side.now) }
 {
-    Possible {
+    PossibleTruths {
         can_true: side.nulls > 0,
         can_false: side.ends.is_some(),
         can_unknown: false,

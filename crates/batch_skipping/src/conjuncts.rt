@@ -4,7 +4,7 @@ ghost use Rattle.std.specs.Prelude.{◌≡◌, ◌++◌, IfOk, OnOk, map};
 ghost use Rattle.scan_base.specs.View.{pred_of};
 ghost use Rattle.rewrite.specs.Conjuncts.{conjuncts};
 ghost use Rattle.typed_plan.specs.View.{tree_of};
-ghost use Rattle.batch_skipping.specs.Opened.{where_parts};
+ghost use Rattle.batch_skipping.specs.OpenedBatches.{where_parts};
 
 use scan_base::Predicate;
 use std::alloc::{AllocError, Global};

@@ -5,12 +5,12 @@ ghost use Rattle.std.specs.List.{filter, list_all};
 ghost use Rattle.scan_base.specs.Predicate.{names_only, operand_names};
 ghost use Rattle.scan_base.specs.View.{pred_of};
 ghost use Rattle.rewrite.specs.Conjuncts.{is_between};
-ghost use Rattle.typed_plan.specs.Typed.{has_columns};
-ghost use Rattle.batch_skipping.specs.Opened.{given_columns, given_width};
-ghost use Rattle.batch_skipping.specs.inside.Judged.{all_can, batch_columns};
+ghost use Rattle.typed_plan.specs.TypedPlans.{has_columns};
+ghost use Rattle.batch_skipping.specs.OpenedBatches.{given_columns, given_width};
+ghost use Rattle.batch_skipping.specs.inside.JudgedBatches.{all_can, batch_columns};
 
 use crate::weight::batch_weight;
-use crate::{Measured, may_hold};
+use crate::{ColumnStats, may_hold};
 use batch_stats::{Beginnings, Side};
 use scan_base::{Operand, Predicate};
 use std::alloc::{AllocError, Global};
@@ -156,13 +156,13 @@ struct PlaceBatch<'a> {
     place: PlaceColumns<'a>,
 }
 
-impl Measured<usize> for PlaceBatch<'_> {
+impl ColumnStats<usize> for PlaceBatch<'_> {
     ghost use Rattle.std.specs.Prelude.{◌-◌, ◌&&◌, length, nat_lt};
     ghost use Rattle.batch_stats.specs.Columns.{stats_in};
     ghost use Rattle.rewrite.specs.Conjuncts.{is_between};
-    ghost use Rattle.typed_plan.specs.Typed.{has_columns};
-    ghost use Rattle.batch_skipping.specs.Opened.{given_columns, given_width};
-    ghost use Rattle.batch_skipping.specs.inside.Judged.{batch_columns};
+    ghost use Rattle.typed_plan.specs.TypedPlans.{has_columns};
+    ghost use Rattle.batch_skipping.specs.OpenedBatches.{given_columns, given_width};
+    ghost use Rattle.batch_skipping.specs.inside.JudgedBatches.{batch_columns};
 
     ghost stats = { λ of column. stats_in (given_columns of.place.columns.now
         (batch_columns of.table.now of.index)) (column - of.place.first) };

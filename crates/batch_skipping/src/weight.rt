@@ -4,15 +4,13 @@ ghost use Rattle.std.specs.Prelude.{◌≤◌};
 
 use typed_plan::{Plan, TypedPlan};
 use work_watch::comparisons_in;
-
-// As how many rows a comparison counts that is judged in a batch.
-const COMPARISON_ROWS: usize = 64;
+use work_watch::pace::JUDGED_ROWS;
 
 // As how many rows a batch counts in which so many comparisons are judged: one at least.
 pub(crate) fn batch_weight(comparisons: usize) -> usize
     ensures { 1 ≤ result }
 {
-    comparisons.saturating_mul(COMPARISON_ROWS).max(1)
+    comparisons.saturating_mul(JUDGED_ROWS).max(1)
 }
 
 /// As how many rows the judging of all batches of a plan's places counts at most

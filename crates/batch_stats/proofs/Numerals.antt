@@ -1,8 +1,7 @@
 -- Numbers of packed types as values.
-use Rattle.std.proofs.Common.{◌≡◌, ◌+◌, ◌-◌, ◌^◌, ℕ, ℤ, pos, negsuc, suc, Bool, true, false, if◌then◌else◌, List, Option, None, refl, ap, ◌∙◌}
-use Rattle.std.specs.Int.{w8, w16, w32, w64, w128, cast_signed}
+use Rattle.std.proofs.Common.{◌≡◌, ◌+◌, ℕ, ℤ, Bool, if◌then◌else◌, List, Option, None, ap, ◌∙◌}
 use Rattle.scan_base.specs.declared.value.Value.TheVariants.{Int, Null}
-use Rattle.arrays.specs.Number.{decimal_at, integer_at, signed_from}
+use Rattle.arrays.specs.Number.{decimal_at, integer_at}
 use Rattle.arrays.specs.Column.{ColumnAt}
 use Rattle.arrays.specs.Decimals.{DecimalsAt}
 use Rattle.arrays.specs.Integers.{IntegersAt}
@@ -11,32 +10,9 @@ use Rattle.arrays.specs.Validity.{is_valid, where_valid}
 use Rattle.arrays.specs.declared.layout.Layout.{Layout}
 use Rattle.arrays.specs.declared.layout.Layout.TheVariants as layout
 use Rattle.batch_stats.specs.declared.stats.Stats.{Stats}
-use Rattle.batch_stats.specs.Held.{ends_held, AreSlots, IsStatsOf}
+use Rattle.batch_stats.specs.HeldStats.{ends_held, AreSlots, IsStatsOf}
 use Rattle.batch_stats.specs.inside.Slots.{ends_with}
 use Rattle.batch_stats.proofs.Passes.{column_pass, pass_same}
-use mir.Val.{sel}
-
-same_choice : (b : Bool) (x y : ℤ) → sel b x y ≡ (if b then x else y)
-same_choice true x y = refl
-same_choice false x y = refl
-
--- a number by its bits, said both ways
-pub signed8 : (bits : ℕ) → cast_signed w8 bits ≡ signed_from 8 bits
-signed8 bits = same_choice _ (pos bits) (negsuc (2 ^ 8 - suc bits))
-
-pub signed16 : (bits : ℕ) → cast_signed w16 bits ≡ signed_from 16 bits
-signed16 bits = same_choice _ (pos bits) (negsuc (2 ^ 16 - suc bits))
-
-pub signed32 : (bits : ℕ) → cast_signed w32 bits ≡ signed_from 32 bits
-signed32 bits = same_choice _ (pos bits) (negsuc (2 ^ 32 - suc bits))
-
-pub signed64 : (bits : ℕ) → cast_signed w64 bits ≡ signed_from 64 bits
-signed64 bits = same_choice _ (pos bits) (negsuc (2 ^ 64 - suc bits))
-
-pub signed128 : (bits : ℕ) → cast_signed w128 bits ≡ signed_from 128 bits
-signed128 bits = same_choice _ (pos bits) (negsuc (2 ^ 128 - suc bits))
-
--- ---- slots of numbers
 
 same_numbers : (validity other : Option (List Bool)) (number at : ℕ → ℤ) → validity ≡ other → ((place : ℕ) → number place ≡ at place) → (place : ℕ) →
     where_valid validity (λ p. Int (number p)) place ≡ where_valid other (λ p. Int (at p)) place

@@ -11,7 +11,7 @@ use Rattle.batch_stats.specs.Stats.{ends_of, with_value}
 use Rattle.arrays.specs.declared.layout.Layout.{Layout}
 use Rattle.batch_stats.specs.declared.stats.Stats.{Stats}
 use Rattle.batch_stats.specs.declared.stats.Stats.TheVariants.{Nulls}
-use Rattle.batch_stats.specs.Held.{IsStatsOf}
+use Rattle.batch_stats.specs.HeldStats.{IsStatsOf}
 use Rattle.batch_stats.specs.inside.Slots.{ends_with, AreNulls, IsFirstValid}
 use Rattle.batch_stats.proofs.Standing.{stands_kept, Stands}
 

@@ -1,7 +1,7 @@
 pub mod Stats
 pub mod Sides
-pub mod Held
+pub mod HeldStats
 pub mod Columns
 pub mod Beginnings
-pub mod Owned
+pub mod OwnedStats
 pub mod inside

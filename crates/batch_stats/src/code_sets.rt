@@ -4,9 +4,7 @@ ghost use Rattle.std.specs.Prelude.{◌≡◌, ◌≤◌, ◌⊎◌, ℕ, false,
 ghost use Rattle.arrays.specs.Number.{byte_width};
 ghost use Rattle.batch_stats.specs.inside.CodeSets.{HasLast, HasMark, HasSorted};
 
-use crate::codes::Code;
-use crate::validity::is_valid;
-use arrays::Indices;
+use arrays::{Code, Indices};
 use std::alloc::{AllocError, Global};
 
 /// How many codes a set of the last ones has.
@@ -112,7 +110,7 @@ impl SortedCodes {
         from: usize,
         to: usize,
     ) -> Result<SortedCodes, AllocError>
-        requires width { C.BYTES ≡ byte_width (cells.now).index }
+        requires width { C.WIDTH ≡ byte_width (cells.now).index }
         requires ordered { from ≤ to }
         requires within { to ≤ (cells.now).len }
         ensures { IfOk result
@@ -143,14 +141,14 @@ fn codes_of<C: Code>(
     from: usize,
     to: usize,
 ) -> Result<Vec<u64>, AllocError>
-    requires width { C.BYTES ≡ byte_width (cells.now).index }
+    requires width { C.WIDTH ≡ byte_width (cells.now).index }
     requires ordered { from ≤ to }
     requires within { to ≤ (cells.now).len }
 {
     let _count = cells.len();
     let mut codes = Vec::with_capacity(alloc, to - from)?;
     for place in from..to {
-        if is_valid(cells.validity(), place) {
+        if cells.validity().is_valid(place) {
             codes.push(C::code(cells.values(), place))?;
         }
     }

@@ -3,15 +3,14 @@
 ghost use Rattle.std.specs.Prelude.{◌≡◌, ◌≤◌, ◌<◌, ◌+◌, ◌*◌, ℕ, length};
 ghost use Rattle.arrays.specs.Number.{byte_width, element_at};
 ghost use Rattle.arrays.specs.declared.layout.Layout.TheVariants.{Indices as IndicesLayout};
-ghost use Rattle.batch_stats.specs.Held.{IsStatsOf};
+ghost use Rattle.batch_stats.specs.HeldStats.{IsStatsOf};
 ghost use Rattle.batch_stats.specs.inside.Slots.{IsFirstValid};
 
 use crate::code_sets::{CodeSet, LastCodes, MOST_LAST, MarkedCodes, SortedCodes};
-use crate::codes::Code;
 use crate::stats::Stats;
-use crate::validity::{first_valid, is_valid};
-use arrays::{Cells, Column, Indices};
-use arrow_schema::IntegerType;
+use crate::validity::first_valid;
+use arrays::{Cells, Code, Column, Indices};
+use arrow_types::IntegerType;
 use std::alloc::Global;
 
 // The statistics of a column by the codes of its slots, of which the one at `start` is the first
@@ -24,7 +23,7 @@ fn stats_with<C: Code, S: CodeSet>(
     known: &mut S,
 ) -> Stats
     requires layout { (column.now).layout ≡ IndicesLayout cells.now }
-    requires width { C.BYTES ≡ byte_width (cells.now).index }
+    requires width { C.WIDTH ≡ byte_width (cells.now).index }
     requires start { IsFirstValid (cells.now).validity (column.now).first
         ((column.now).first + (column.now).len) start }
     requires known { (code : ℕ) → S.has known.old code →
@@ -36,7 +35,7 @@ fn stats_with<C: Code, S: CodeSet>(
     let mut stats = Stats::Nulls.with_slot(column, start - first);
     known.insert(C::code(cells.values(), start));
     for place in start + 1..to {
-        if is_valid(cells.validity(), place) && known.insert(C::code(cells.values(), place)) {
+        if cells.validity().is_valid(place) && known.insert(C::code(cells.values(), place)) {
             stats = stats.with_slot(column, place - first);
         }
     }
@@ -46,7 +45,7 @@ fn stats_with<C: Code, S: CodeSet>(
 // The same by the codes that came last.
 fn stats_by_last<C: Code>(column: &Column, cells: &Indices<'_>, start: usize) -> Stats
     requires layout { (column.now).layout ≡ IndicesLayout cells.now }
-    requires width { C.BYTES ≡ byte_width (cells.now).index }
+    requires width { C.WIDTH ≡ byte_width (cells.now).index }
     requires start { IsFirstValid (cells.now).validity (column.now).first
         ((column.now).first + (column.now).len) start }
     ensures { IsStatsOf column.now result }
@@ -65,7 +64,7 @@ fn stats_by_code<C: Code>(
     start: usize,
 ) -> Stats
     requires layout { (column.now).layout ≡ IndicesLayout cells.now }
-    requires width { C.BYTES ≡ byte_width (cells.now).index }
+    requires width { C.WIDTH ≡ byte_width (cells.now).index }
     requires start { IsFirstValid (cells.now).validity (column.now).first
         ((column.now).first + (column.now).len) start }
     ensures { IsStatsOf column.now result }

@@ -6,11 +6,11 @@ ghost use Rattle.arrays.specs.Bools.{AreBools};
 ghost use Rattle.arrays.specs.Column.{ColumnAt};
 ghost use Rattle.arrays.specs.Validity.{where_valid};
 ghost use Rattle.arrays.specs.declared.layout.Layout.TheVariants.{Bools as BoolsLayout};
-ghost use Rattle.batch_stats.specs.Held.{ends_held, AreSlots, IsStatsOf};
+ghost use Rattle.batch_stats.specs.HeldStats.{ends_held, AreSlots, IsStatsOf};
 ghost use Rattle.batch_stats.specs.inside.Slots.{ends_with};
 
 use crate::stats::Stats;
-use crate::validity::{first_valid, is_valid};
+use crate::validity::first_valid;
 use arrays::Bools;
 
 // The statistics of one truth value and of the slots `from` up to, not with, `to`: it ends where
@@ -24,7 +24,7 @@ fn with_flags(flag: bool, cells: &Bools<'_>, from: usize, to: usize) -> Stats
     ensures slots { (column : ColumnAt) → AreSlots column result }
 {
     for place in from..to {
-        if is_valid(cells.validity(), place) && cells.values().get(place) != flag {
+        if cells.validity().is_valid(place) && cells.values().get(place) != flag {
             return Stats::Flags {
                 least: false,
                 greatest: true,

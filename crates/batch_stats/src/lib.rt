@@ -4,21 +4,19 @@
 
 pub mod beginnings;
 mod code_sets;
-mod codes;
 mod entries;
 mod flags;
 mod keys;
-pub mod measured;
+pub mod measured_batch;
 mod numbers;
-pub mod owned;
+pub mod owned_stats;
 pub mod side;
 pub mod stats;
 mod texts;
 mod validity;
-mod wide;
 
 pub use crate::beginnings::{Beginning, Beginnings};
-pub use crate::measured::MeasuredBatch;
-pub use crate::owned::OwnedStats;
+pub use crate::measured_batch::MeasuredBatch;
+pub use crate::owned_stats::OwnedStats;
 pub use crate::side::{Ends, Side};
 pub use crate::stats::Stats;

@@ -4,28 +4,26 @@ ghost use Rattle.std.specs.Prelude.{◌≡◌, ◌≤◌, ◌<◌, ◌+◌, ◌*
 ghost use Rattle.scan_base.specs.declared.value.Value.TheVariants.{Int};
 ghost use Rattle.arrays.specs.Column.{ColumnAt};
 ghost use Rattle.arrays.specs.Number.{element_at};
-ghost use Rattle.arrays.specs.Validity.{where_valid};
+ghost use Rattle.arrays.specs.Validity.{where_valid, HasBits};
 ghost use Rattle.arrays.specs.declared.layout.Layout.TheVariants.{Integers as IntegersLayout};
 ghost use Rattle.arrays.specs.declared.layout.Layout.TheVariants.{Decimals as DecimalsLayout};
-ghost use Rattle.batch_stats.specs.Held.{ends_held, AreSlots, IsStatsOf};
+ghost use Rattle.batch_stats.specs.HeldStats.{ends_held, AreSlots, IsStatsOf};
 ghost use Rattle.batch_stats.specs.Stats.{with_value};
-ghost use Rattle.batch_stats.specs.inside.Slots.{ends_with, HasBits};
+ghost use Rattle.batch_stats.specs.inside.Slots.{ends_with};
 
 use crate::stats::Stats;
-use crate::validity::{first_valid, is_valid};
-use crate::wide::Wide;
-use arrays::{Decimals, Integers};
-use arrow_schema::IntegerType;
-use bitmap::Bits;
+use crate::validity::first_valid;
+use arrays::{Decimals, Element, Integer, Integers, Validity};
+use arrow_types::IntegerType;
 
 // How many slots are looked at together, where there are bits.
 const BLOCK_LEN: usize = 64;
 
-/// Packed numbers in slots, and where there may be nulls the bits that say which slots are valid.
+/// Packed numbers in slots, and which of the slots are valid.
 #[derive(Clone, Copy, Drop)]
-pub(crate) struct Packed<'a> {
+pub(crate) struct PackedNumbers<'a> {
     pub(crate) values: &'a [u8],
-    pub(crate) validity: &'a Option<Bits>,
+    pub(crate) validity: &'a Validity,
 }
 
 /// The least and the greatest of some numbers.
@@ -35,7 +33,7 @@ pub(crate) struct NumberRange<E> {
     pub(crate) greatest: E,
 }
 
-impl<E: Wide> NumberRange<E> {
+impl<E: Element> NumberRange<E> {
     // The same with one number more.
     fn with(self, number: E) -> NumberRange<E>
         ensures { Some (Int (E.value result.least), Int (E.value result.greatest))
@@ -96,7 +94,7 @@ impl<E: Wide> NumberRange<E> {
 
     // The same with those that are valid, one after another. Only of a number that changes an end,
     // its bit is looked at.
-    fn with_each_valid(self, packed: &Packed<'_>, from: usize, to: usize) -> NumberRange<E>
+    fn with_each_valid(self, packed: &PackedNumbers<'_>, from: usize, to: usize) -> NumberRange<E>
         requires room { E.WIDTH * to ≤ length packed.now.values.now }
         requires bits { HasBits packed.now.validity.now to }
         ensures { Some (Int (E.value result.least), Int (E.value result.greatest))
@@ -107,7 +105,7 @@ impl<E: Wide> NumberRange<E> {
         let mut range = self;
         for place in from..to {
             let number = E::read(packed.values, place);
-            if !range.has(number) && is_valid(packed.validity, place) {
+            if !range.has(number) && packed.validity.is_valid(place) {
                 range = range.with(number);
             }
         }
@@ -116,7 +114,7 @@ impl<E: Wide> NumberRange<E> {
 
     // The same of a block of slots. In most blocks no number changes an end, and so no bit is
     // looked at.
-    fn with_block(self, packed: &Packed<'_>, from: usize, to: usize) -> NumberRange<E>
+    fn with_block(self, packed: &PackedNumbers<'_>, from: usize, to: usize) -> NumberRange<E>
         requires room { E.WIDTH * to ≤ length packed.now.values.now }
         requires bits { HasBits packed.now.validity.now to }
         ensures { Some (Int (E.value result.least), Int (E.value result.greatest))
@@ -131,7 +129,7 @@ impl<E: Wide> NumberRange<E> {
     }
 
     // The same of all blocks.
-    fn with_valid(self, packed: &Packed<'_>, from: usize, to: usize) -> NumberRange<E>
+    fn with_valid(self, packed: &PackedNumbers<'_>, from: usize, to: usize) -> NumberRange<E>
         requires room { E.WIDTH * to ≤ length packed.now.values.now }
         requires bits { HasBits packed.now.validity.now to }
         ensures { Some (Int (E.value result.least), Int (E.value result.greatest))
@@ -149,7 +147,7 @@ impl<E: Wide> NumberRange<E> {
     }
 
     // The same: without a test of each slot, where there are no bits.
-    fn with_slots(self, packed: &Packed<'_>, from: usize, to: usize) -> NumberRange<E>
+    fn with_slots(self, packed: &PackedNumbers<'_>, from: usize, to: usize) -> NumberRange<E>
         requires room { E.WIDTH * to ≤ length packed.now.values.now }
         requires bits { HasBits packed.now.validity.now to }
         ensures { Some (Int (E.value result.least), Int (E.value result.greatest))
@@ -157,7 +155,7 @@ impl<E: Wide> NumberRange<E> {
             (where_valid packed.now.validity.now (λ place.
             Int (E.value (E.of_bits (element_at E.WIDTH packed.now.values.now place))))) from to }
     {
-        match packed.validity {
+        match packed.validity.bits() {
             None => self.with_all(packed.values, from, to),
             Some(_) => self.with_valid(packed, from, to),
         }
@@ -165,7 +163,7 @@ impl<E: Wide> NumberRange<E> {
 }
 
 // The statistics of the slots `from` up to, not with, `to`.
-fn numbers_stats<E: Wide>(packed: &Packed<'_>, from: usize, to: usize) -> Stats
+fn numbers_stats<E: Element>(packed: &PackedNumbers<'_>, from: usize, to: usize) -> Stats
     requires ordered { from ≤ to }
     requires room { E.WIDTH * to ≤ length packed.now.values.now }
     requires bits { HasBits packed.now.validity.now to }
@@ -190,27 +188,36 @@ fn numbers_stats<E: Wide>(packed: &Packed<'_>, from: usize, to: usize) -> Stats
     }
 }
 
+// The statistics of `len` slots of integers of a type from `first` on.
+fn typed_stats<E: Integer>(cells: &Integers<'_>, first: usize, len: usize) -> Stats
+    requires kind { E.KIND ≡ (cells.now).integer }
+    requires within { first + len ≤ (cells.now).len }
+    ensures { IsStatsOf (record { layout = IntegersLayout cells.now; first = first; len = len })
+        result }
+{
+    let _count = cells.len();
+    let packed = PackedNumbers {
+        values: cells.values(),
+        validity: cells.validity(),
+    };
+    numbers_stats::<E>(&packed, first, first + len)
+}
+
 /// The statistics of `len` slots of integers from `first` on.
 pub(crate) fn integers_stats(cells: &Integers<'_>, first: usize, len: usize) -> Stats
     requires { first + len ≤ (cells.now).len }
     ensures { IsStatsOf (record { layout = IntegersLayout cells.now; first = first; len = len })
         result }
 {
-    let _count = cells.len();
-    let packed = Packed {
-        values: cells.values(),
-        validity: cells.validity(),
-    };
-    let to = first + len;
     match cells.integer_type() {
-        IntegerType::Int8 => numbers_stats::<i8>(&packed, first, to),
-        IntegerType::Int16 => numbers_stats::<i16>(&packed, first, to),
-        IntegerType::Int32 => numbers_stats::<i32>(&packed, first, to),
-        IntegerType::Int64 => numbers_stats::<i64>(&packed, first, to),
-        IntegerType::UInt8 => numbers_stats::<u8>(&packed, first, to),
-        IntegerType::UInt16 => numbers_stats::<u16>(&packed, first, to),
-        IntegerType::UInt32 => numbers_stats::<u32>(&packed, first, to),
-        IntegerType::UInt64 => numbers_stats::<u64>(&packed, first, to),
+        IntegerType::Int8 => typed_stats::<i8>(cells, first, len),
+        IntegerType::Int16 => typed_stats::<i16>(cells, first, len),
+        IntegerType::Int32 => typed_stats::<i32>(cells, first, len),
+        IntegerType::Int64 => typed_stats::<i64>(cells, first, len),
+        IntegerType::UInt8 => typed_stats::<u8>(cells, first, len),
+        IntegerType::UInt16 => typed_stats::<u16>(cells, first, len),
+        IntegerType::UInt32 => typed_stats::<u32>(cells, first, len),
+        IntegerType::UInt64 => typed_stats::<u64>(cells, first, len),
     }
 }
 
@@ -221,7 +228,7 @@ pub(crate) fn decimals_stats(cells: &Decimals<'_>, first: usize, len: usize) -> 
         result }
 {
     let _count = cells.len();
-    let packed = Packed {
+    let packed = PackedNumbers {
         values: cells.values(),
         validity: cells.validity(),
     };

@@ -4,15 +4,15 @@ ghost use Rattle.std.specs.Prelude.{◌≡◌, ◌<◌, IfNone, IfSome, None, op
 ghost use Rattle.scan_base.specs.declared.comparison.Comparison.TheVariants.{Less};
 ghost use Rattle.scan_base.specs.Value.{value_of};
 ghost use Rattle.arrays.specs.Column.{slot_of, values_of, ColumnAt};
-ghost use Rattle.batch_stats.specs.Held.{ends_held, AreSlots, IsStatsOf};
-ghost use Rattle.batch_stats.specs.Owned.{AreKept, AreUnlike};
+ghost use Rattle.batch_stats.specs.HeldStats.{ends_held, AreSlots, IsStatsOf};
+ghost use Rattle.batch_stats.specs.OwnedStats.{AreKept, AreUnlike};
 ghost use Rattle.batch_stats.specs.Sides.{ends_at, side_at};
 ghost use Rattle.batch_stats.specs.Stats.{stand, stats_of, with_value};
 
 use crate::entries::entries_stats;
 use crate::flags::flags_stats;
 use crate::numbers::{decimals_stats, integers_stats};
-use crate::owned::OwnedStats;
+use crate::owned_stats::OwnedStats;
 use crate::side::{Ends, Side};
 use crate::texts::texts_stats;
 use arrays::{Cells, Column, Layout};

@@ -7,7 +7,7 @@ ghost use Rattle.scan_base.specs.declared.value.Value.TheVariants.{Text};
 ghost use Rattle.arrays.specs.Number.{element_at, AreBytes};
 ghost use Rattle.arrays.specs.Texts.{texts_slot};
 ghost use Rattle.arrays.specs.declared.layout.Layout.TheVariants.{Texts as TextsLayout};
-ghost use Rattle.batch_stats.specs.Held.{IsStatsOf};
+ghost use Rattle.batch_stats.specs.HeldStats.{IsStatsOf};
 ghost use Rattle.batch_stats.specs.Stats.{stand, with_value};
 ghost use Rattle.batch_stats.specs.inside.Slots.{ends_with};
 ghost use Rattle.batch_stats.specs.inside.TextKeys.{key_of};
@@ -16,7 +16,7 @@ ghost use Rattle.batch_stats.specs.inside.TextSlots.{KeepsEnds};
 
 use crate::keys::{KeyRange, key_at};
 use crate::stats::Stats;
-use crate::validity::{first_valid, is_valid};
+use crate::validity::first_valid;
 use arrays::{Element, TextsRef};
 use std::cmp::Ordering;
 
@@ -118,7 +118,7 @@ impl<'a> TextRange<'a> {
         let mut kept = range.kept_keys();
         for place in from..to {
             let key = slot_key(offsets, bytes, place);
-            if !kept.has(key) && is_valid(cells.validity(), place) {
+            if !kept.has(key) && cells.validity().is_valid(place) {
                 range = range.with(SlotText {
                     place,
                     text: cells.get(place),

@@ -163,10 +163,6 @@ view_length bytes first len bits is = ap length (sym is) ∙ length-bits_of byte
 pub view_part : (bytes : List ℕ) (first len from n : ℕ) (bits : List Bool) → bits_of bytes first len ≡ bits → from + n ≤ length bits → bits_of bytes (first + from) n ≡ take n (drop from bits)
 view_part bytes first len from n bits is le = sym (bits_of-part bytes first len from n (omega (arith, view_length bytes first len bits is))) ∙ ap (λ r. take n (drop from r)) is
 
-pub bits_of-cons : (bytes : List ℕ) (first n : ℕ) → bits_of bytes first (suc n) ≡ bit_of bytes first ∷ bits_of bytes (first + 1) n
-unfolding bits_of
-bits_of-cons bytes first n = refl
-
 -- words made bit by bit
 bit_cases : (a b : Bool) → min (cond a 1 0) (cond b 1 0) ≡ cond (a && b) 1 0
 bit_cases true true = refl
@@ -225,17 +221,6 @@ count-le bytes first m = let a = count_by-le-length (λ b. b) (bits_of bytes fir
 
 pub mask_room : (ms : List Bool) (k : ℕ) → length ms ≤ k → mask_l ms < 2 ^ k
 mask_room ms k le = let a = mask_l-lt ms in let b : 2 ^ length ms ≤ 2 ^ k = pow-le-pow_right (omega arith) le in omega arith
-
-pub short_room : (bytes : List ℕ) (at n k : ℕ) → n ≤ k → mask_l (bits_of bytes at n) < 2 ^ k
-short_room bytes at n k le = mask_room (bits_of bytes at n) k (omega (arith, length-bits_of bytes at n))
-
--- one more bit below those of a word
-pub short_step : (bytes : List ℕ) (at n : ℕ) → 2 * mask_l (bits_of bytes (at + 1) n) + cond (bit_of bytes at) 1 0 ≡ mask_l (bits_of bytes at (n + 1))
-short_step bytes at n = let e : n + 1 ≡ suc n = omega arith in rw (e, bits_of-cons bytes at n) (omega arith)
-
-pub no_bits : (bytes : List ℕ) (at : ℕ) → 0 ≡ mask_l (bits_of bytes at 0)
-unfolding bits_of
-no_bits bytes at = refl
 
 pub byte_cond : (b : Bool) → bool_byte b ≡ cond b 1 0
 byte_cond true = refl

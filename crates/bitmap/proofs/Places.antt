@@ -1,5 +1,5 @@
 -- Words that are cut short, bytes past the end, and bits at places.
-use Rattle.std.proofs.Common.{◌≡◌, ℕ, zero, suc, ◌+◌, ◌*◌, ◌%◌, ◌^◌, ◌<◌, ◌≤◌, Bool, false, cond, List, [], ◌∷◌, ◌++◌, length, map, get_or, slice_index, take, drop, refl, sym, ap, ◌∙◌, arith, drop-cons}
+use Rattle.std.proofs.Common.{◌≡◌, ℕ, zero, suc, ◌+◌, ◌*◌, ◌%◌, ◌^◌, ◌<◌, ◌≤◌, Bool, false, cond, List, [], ◌∷◌, ◌++◌, length, map, get_or, slice_index, take, drop, refl, sym, ap, ◌∙◌, arith}
 use Rattle.std.specs.Int.{bit_at, to_le_bytes, w64}
 use Rattle.std.specs.Simd.Lanes.{mask_l}
 use Rattle.std.proofs.lemmas.List.{map-append, length-map, length-take, length-drop}
@@ -44,13 +44,6 @@ short word at len xs le is =
     low_bits word len i lt ∙ ap (λ (n : ℕ). bit_at n i) is ∙ bit_mask_l (bits_of xs at 64) i
     ∙ ap (λ (b : Bool). cond b 1 0) (get_or-bits_of xs at 64 i false (omega arith) ∙ sym (get_or-bits_of xs at len i false lt)))
     (λ i high. bit_at_above (word % 2 ^ len) len i (mod-lt word (pow_pos len)) high)
-
--- one more place in front of those of a word
-pub place_step : (f : ℕ → Bool) (places : List ℕ) (i j : ℕ) → j ≡ i + 1 → i < length places →
-    2 * mask_l (map f (drop j places)) + cond (f (get_or places i 0)) 1 0 ≡ mask_l (map f (drop i places))
-place_step f places i j next low =
-    let e : j ≡ suc i = omega arith in
-    rw (e, drop-cons places i 0) (omega arith)
 
 -- some bits and those of one word more
 pub bits_more : (f : ℕ → Bool) (xs places : List ℕ) (m n w : ℕ) → m ≡ 8 * length xs → n ≤ 64 → w < 2 ^ 64 → m + n ≤ length places →

@@ -1,3 +1,3 @@
 -- What contracts of this crate's private functions alone cite.
-pub mod Joined
+pub mod JoinedBits
 pub mod Packing

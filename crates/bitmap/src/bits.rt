@@ -4,7 +4,7 @@ ghost use Rattle.std.specs.Prelude.{◌≡◌, ◌==◌, ◌≤◌, ◌<◌, ◌
 ghost use Rattle.std.specs.Prelude.{count_by, IfOk, false, ℕ, get_or, map, take, drop};
 ghost use Rattle.std.specs.Simd.Lanes.{mask_l, zip2};
 ghost use Rattle.bitmap.specs.Bits.{bits_of, IsRoomy};
-ghost use Rattle.bitmap.specs.inside.Joined.{joined};
+ghost use Rattle.bitmap.specs.inside.JoinedBits.{joined};
 
 use crate::words::{Operation, bit, count_bits, gather_bits, join_bits, short_word, word};
 use bytes::{Bytes, BytesMut};

@@ -28,16 +28,6 @@ impl Model for BitsBuilder {
 }
 
 impl BitsBuilder {
-    /// No bits. It takes no memory.
-    pub fn new(alloc: Global) -> BitsBuilder
-        ensures { result ≡ [] }
-    {
-        BitsBuilder {
-            bytes: Vec::new(alloc),
-            len: 0,
-        }
-    }
-
     /// No bits, with room made at once for so many.
     ///
     /// # Errors

@@ -5,7 +5,7 @@ ghost use Rattle.std.specs.Prelude.{Bool, ℕ, map, get_or, slice_index};
 ghost use Rattle.std.specs.Simd.Lanes.{mask_l, zip2};
 ghost use Rattle.byteorder.specs.Endian.{little_from};
 ghost use Rattle.bitmap.specs.Bits.{bit_of, bits_of, IsRoomy};
-ghost use Rattle.bitmap.specs.inside.Joined.{joined};
+ghost use Rattle.bitmap.specs.inside.JoinedBits.{joined};
 
 use byteorder::{ByteOrder, LittleEndian};
 use std::alloc::{AllocError, Global};

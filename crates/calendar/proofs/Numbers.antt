@@ -8,7 +8,7 @@ use Rattle.jiff_core.specs.Date.{epoch_day}
 use Rattle.jiff_core.proofs.DateLemmas.{civil, days_from_civil-max}
 use Rattle.jiff_core.proofs.SignedLemmas.{signed_arith}
 use Rattle.jiff_core.proofs.CalendarLemmas.{days_from_civil-day_count, day_count-day_of_year, day_count-lt_year, day_count-lt_month, day_count-day, day_count_bounds}
-use Rattle.calendar.specs.Shown.{last_that, year_at, month_at, day_of_month_at, has_date}
+use Rattle.calendar.specs.DateText.{last_that, year_at, month_at, day_of_month_at, has_date}
 use Rattle.calendar.proofs.Parts.{int_le-true, int_le-false, from_to-true, from_to-parts}
 
 -- where k passes and no number after it does, k is the last one

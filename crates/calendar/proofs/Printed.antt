@@ -7,7 +7,7 @@ use Rattle.jiff_core.specs.Calendar.{days_from_civil, IsCivilDate}
 use Rattle.jiff_core.proofs.DateLemmas.{civil}
 use Rattle.jiff_core.proofs.SignedLemmas.{signed_arith, fits_between}
 use Rattle.calendar.specs.Dates.{day_in}
-use Rattle.calendar.specs.Shown.{date_text, has_date, date_of, date_within, date_shown, ReadsBack}
+use Rattle.calendar.specs.DateText.{date_text, has_date, date_of, date_within, date_shown, ReadsBack}
 use Rattle.calendar.proofs.Numbers.{IsShownDate, date_is_shown, shown_is_epoch_day, false_if_not}
 use Rattle.calendar.proofs.Texts.{date_of_is, text_reads}
 

@@ -3,7 +3,7 @@ use Rattle.std.proofs.Common.{◌≡◌, ◌++◌, Bool, if◌then◌else◌, Li
 use Rattle.std.specs.Fmt.{digits, signed_decimal}
 use Rattle.jiff_core.specs.Calendar.{days_from_civil, day_count, days_of_years, days_of_months}
 use Rattle.calendar.specs.Dates.{day_in}
-use Rattle.calendar.specs.Shown.{date_of, date_within, date_shown}
+use Rattle.calendar.specs.DateText.{date_of, date_within, date_shown}
 use Rattle.calendar.proofs.Texts.{texts_are_dates}
 
 -- ---- texts that are a date

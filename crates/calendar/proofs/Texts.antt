@@ -6,7 +6,7 @@ use Rattle.jiff_core.specs.Calendar.{days_from_civil, days_in_month}
 use Rattle.jiff_core.proofs.SignedLemmas.{signed_arith}
 use Rattle.jiff_core.proofs.CalendarLemmas.{days_in_month_bounds}
 use Rattle.calendar.specs.Dates.{two_stand, two_digits, four_digits, is_date_form, is_date, is_from_to, day_of, day_in}
-use Rattle.calendar.specs.Shown.{in_two_digits, date_text, has_date, date_of, month_at, day_of_month_at, TextsAreDates}
+use Rattle.calendar.specs.DateText.{in_two_digits, date_text, has_date, date_of, month_at, day_of_month_at, TextsAreDates}
 use Rattle.calendar.proofs.Parts.{both, HasForm, form_parts, from_to-parts, from_to-true}
 use Rattle.calendar.proofs.Numbers.{IsShownDate, year_found, month_found, day_found, date_is_shown}
 

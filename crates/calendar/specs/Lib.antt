@@ -1,2 +1,2 @@
 pub mod Dates
-pub mod Shown
+pub mod DateText

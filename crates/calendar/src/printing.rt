@@ -3,8 +3,8 @@
 ghost use Rattle.std.specs.Prelude.{◌≡◌, ◌<◌, ◌≤◌, ◌+◌, ◌++◌, codes, length, option_map};
 ghost use Rattle.std.specs.Fmt.{signed_decimal};
 ghost use Rattle.arrayvec.specs.ArrayString.{array_string_len};
-ghost use Rattle.calendar.specs.Shown.{ReadsBack, date_shown, date_text, date_within};
-ghost use Rattle.calendar.specs.Shown.{in_two_digits};
+ghost use Rattle.calendar.specs.DateText.{ReadsBack, date_shown, date_text, date_within};
+ghost use Rattle.calendar.specs.DateText.{in_two_digits};
 
 use arrayvec::ArrayString;
 use itoa::Buffer;

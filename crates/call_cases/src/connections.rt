@@ -1,37 +1,23 @@
 //! Connections through `flightscan pipe`, over ends in memory.
 
 use crate::infos::{push_info, push_schema_result};
-use crate::said::{Form, push_digits, push_rows, rows_of};
-use crate::words::{Names, halves};
+use crate::payload_text::{Form, push_digits, push_rows, rows_of};
+use crate::row_words::{Names, halves, words};
 use bytes::Bytes;
 use command_line::Request;
 use commands::pipe::pipe;
-use commands::words::read_words;
+use commands::program_words::read_words;
 use flight_calls::{Executor, Options, Setting};
 use flight_proto::FlightData;
 use grpc_frame::{Inbox, MemoryInput, MemoryOutput, Record};
-use hash_seed::HashSeed;
-use scan_base::Fault;
-use std::alloc::{AllocError, Global};
+use scan_base::{Fault, HashSeed};
+use std::alloc::Global;
 
 /// The seed of each `pipe`, and who makes the payloads of its fetches.
 #[derive(Drop)]
 pub struct Connections<'x, X> {
     seed: HashSeed,
     executor: &'x X,
-}
-
-// The words of a `pipe` with these options. The first word is the program's name.
-fn words(alloc: Global, options: &str) -> Result<Vec<String>, AllocError> {
-    let mut words = Vec::new(alloc);
-    words.push(String::from_str(alloc, "flightscan")?)?;
-    words.push(String::from_str(alloc, "pipe")?)?;
-    for word in options.split(' ') {
-        if !word.is_empty() {
-            words.push(String::from_str(alloc, word)?)?;
-        }
-    }
-    Ok(words)
 }
 
 // What comes of calls that follow one another.
@@ -117,7 +103,7 @@ impl<'x, X: Executor> Connections<'x, X> {
 
     // What a `pipe` with these options runs with.
     fn setting(&self, alloc: Global, options: &str) -> Result<Setting<'x, X>, Fault> {
-        let words = words(alloc, options)?;
+        let words = words(alloc, &format!(in alloc; "pipe {options}")?)?;
         let mut writer = MemoryOutput::new(alloc);
         let mut faults = MemoryOutput::new(alloc);
         let request = read_words(alloc, &words, &mut writer, &mut faults);

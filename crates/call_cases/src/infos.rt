@@ -1,6 +1,6 @@
 //! What infos and schemas say, in words.
 
-use crate::said::push_digits;
+use crate::payload_text::push_digits;
 use arrow_schema::read_schema;
 use flight_proto::{FlightInfo, read_wrapped};
 use proto_wire::put_bytes;

@@ -1,10 +1,10 @@
-//! Rows of three rooms: puts, streams of a client, and connections. Each is answered by a line or
-//! more.
+//! Rows of four rooms: puts, streams of a client, connections, and checks. Each is answered by a line
+//! or more.
 //!
 //! The first word of a row says what it is. Any other row is printed as it is.
 //!
 //! - `bytes NAME WORD` and `payload NAME WORD` name bytes, and print nothing. A WORD is pieces with
-//!   a `+` between (`words::Names::bytes_of`).
+//!   a `+` between (`row_words::Names::bytes_of`).
 //! - `log` begins an empty log. `put PAYLOAD PAYLOAD ..` and `fetch TICKET` are answered by a step,
 //!   and the answer is printed. `cut TICKET` prints how many rows each message of the answer has,
 //!   `bits TICKET` the first two bytes of its last body, and `runs TICKET` its rows, equal ones
@@ -19,31 +19,33 @@
 //!   FlightInfo, for `schema` a SchemaResult, for `rows` FlightData, for `bodies` the bodies of
 //!   FlightData, and else bytes. `bytewise` is `pipe` whose input comes in single bytes. With
 //!   `--workers W` up to W workers make the answer to a fetch, however few rows it has.
+//! - `check MODULE::NAME` does a check, and prints whether it holds.
 //!
-//! The scripts of `vectors/puts`, `vectors/client` and `vectors/calls` write the rows, and what has
-//! to be printed.
+//! The scripts of `vectors/puts`, `vectors/client` and `vectors/calls` write the rows of the first
+//! three rooms, and what has to be printed. The code of a check has its rows, and what has to come.
 #![tactic(auto)]
 
+mod checks;
 mod connections;
 mod infos;
+mod payload_text;
 mod puts;
-mod said;
+mod row_words;
 mod streams;
-mod words;
 
 use crate::connections::Connections;
 use crate::puts::Puts;
-use crate::words::{Names, halves};
+use crate::row_words::{Names, halves};
 use fetch_workers::Workers;
 use flight_calls::Executor;
-use hash_seed::HashSeed;
-use scan_base::Fault;
+use scan_base::{Fault, HashSeed};
 use std::alloc::Global;
 use std::io;
 
-// The bytes that were named, and the rooms.
+// The bytes that were named, the rooms, and the seed of their tables.
 #[derive(Drop)]
 struct Rooms<'x, X> {
+    seed: HashSeed,
     names: Names,
     puts: Puts,
     connections: Connections<'x, X>,
@@ -63,6 +65,7 @@ impl<'x, X: Executor> Rooms<'x, X> {
             }
             "join" | "status" | "info" => streams::answer(alloc, &self.names, word, rest)?,
             "pipe" | "bytewise" => self.connections.answer(alloc, &self.names, word, rest)?,
+            "check" => checks::answer(alloc, self.seed, rest)?,
             _ => String::from_str(alloc, row)?,
         };
         Ok(Some(answer))
@@ -88,6 +91,7 @@ fn main(rt: HostRuntime) -> io::Result<()> {
         Err(fault) => return print(&rt, Err(fault)),
     };
     let mut rooms = Rooms {
+        seed,
         names: Names::new(alloc),
         puts,
         connections: Connections::new(seed, &executor),

@@ -1,19 +1,18 @@
 //! Puts and fetches, each answered by a step over a log.
 
-use crate::said::{Form, push_batch, push_digits, push_rows, rows_of};
-use crate::words::Names;
+use crate::payload_text::{Form, push_batch, push_digits, push_rows, rows_of};
+use crate::row_words::Names;
 use bytes::Bytes;
 use flight_client::Rows;
-use flight_core::{Alone, Event, OneWorker, Plain, Reply, reply_to};
+use flight_core::{Event, OneWorker, Plain, PlainBackend, Reply, reply_to};
 use flight_proto::FlightData;
-use hash_seed::HashSeed;
-use scan_base::Fault;
+use scan_base::{Fault, HashSeed};
 use std::alloc::{AllocError, Global};
 
 /// The log of the puts so far.
 #[derive(Drop)]
 pub struct Puts {
-    alone: Alone,
+    alone: PlainBackend,
     seed: HashSeed,
 }
 
@@ -94,7 +93,7 @@ impl Puts {
     /// The empty log.
     pub fn new(alloc: Global, seed: HashSeed) -> Result<Puts, Fault> {
         Ok(Puts {
-            alone: Alone::new(Plain::new(alloc, seed)?),
+            alone: PlainBackend::new(Plain::new(alloc, seed)?),
             seed,
         })
     }

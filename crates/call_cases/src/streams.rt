@@ -1,7 +1,7 @@
 //! Streams of answers as a client reads them, infos and statuses.
 
-use crate::said::{Form, push_digits, push_rows};
-use crate::words::{Names, halves};
+use crate::payload_text::{Form, push_digits, push_rows};
+use crate::row_words::{Names, halves};
 use flight_client::{Stream, fault_of_status, join, read_info};
 use scan_base::Fault;
 use std::alloc::Global;

@@ -4,15 +4,15 @@ use Rattle.std.specs.Prelude.{IfOk, IfSome, option_map}
 use Rattle.scan_base.specs.declared.fault.Fault.{Fault}
 use Rattle.scan_base.specs.declared.fault.Fault.TheVariants.{BadBatch}
 use Rattle.scan_base.specs.Limits.{most_columns}
-use Rattle.arrow_schema.specs.declared.schema.Schema.{Schema}
-use Rattle.arrow_schema.specs.Schema.{IsSchema}
+use Rattle.arrow_types.specs.declared.schema.Schema.{Schema}
+use Rattle.arrow_types.specs.Schema.{IsSchema}
 use Rattle.arrays.specs.Batch.{BatchAt}
-use Rattle.arrays.specs.Typed.{AreOfTypes}
+use Rattle.arrays.specs.TypedLayouts.{AreOfTypes}
 use Rattle.grpc_frame.specs.Ends.{Advances, Tape}
 use Rattle.grpc_frame.specs.Records.{Received, with_more}
 use Rattle.grpc_frame.specs.declared.place.Place.TheVariants.{InAnswer}
 use Rattle.ipc_batch.specs.State.{Known, State}
-use Rattle.ipc_batch.specs.Said.{HasColumns, Rows}
+use Rattle.ipc_batch.specs.SaidRows.{HasColumns, Rows}
 use Rattle.ipc_batch.proofs.Typed.{columns_many}
 use Rattle.flight_info.specs.Payloads.{Payload}
 use Rattle.flight_client.specs.Stream.{StreamAt, Came, begun as nothing, payload_news, after_payload}
@@ -20,11 +20,12 @@ use Rattle.flight_client.proofs.Arrivals.{came_more, schema_first, schema_kept}
 use Rattle.client_calls.specs.declared.call.Method.TheVariants.{DoGet}
 use Rattle.client_calls.specs.declared.failure.Failure.{Failure}
 use Rattle.client_calls.specs.declared.failure.Failure.TheVariants.{Found}
-use Rattle.client_calls.specs.declared.taken.Took.{Took}
-use Rattle.client_calls.specs.declared.taken.Took.TheVariants as took
-use Rattle.client_calls.specs.Answers.{AnswersStream, Incoming, Stop}
+use Rattle.client_calls.specs.declared.fetch_piece.FetchPiece.{FetchPiece}
+use Rattle.client_calls.specs.declared.fetch_piece.FetchPiece.TheVariants as took
+use Rattle.client_calls.specs.Answers.{Incoming, Stop}
+use Rattle.client_calls.specs.StreamAnswers.{AnswersStream}
 use Rattle.client_calls.specs.Outcome.{CallsAt, Line, Outgoing, left_of}
-use Rattle.client_calls.specs.Taking.{FetchGives, HasNoSchema, IsBegun, IsFetching, IsTaken, KeepsSchema, Taken, TakesNext, ended, with_batch}
+use Rattle.client_calls.specs.Taking.{FetchGives, HasNoSchema, IsBegun, IsFetchReader, IsTaken, KeepsSchema, Taken, TakesNext, ended, with_batch}
 use Rattle.client_calls.specs.inside.Parts.{SendsCall, given, incoming_of, left_behind, line_of}
 use Rattle.client_calls.specs.inside.Payloads.{BatchOrEnd, EndsAs, HasTaken, TakesAs}
 use Rattle.client_calls.proofs.Taking.{taken_none, taken_more, more_quiet}
@@ -37,7 +38,7 @@ said_of_stream : (stream : StreamAt) (before : State) (payload : Payload) (found
 said_of_stream stream before payload found is e = rw (is, e) refl
 
 module _ (stream : StreamAt) (a b c : Tape) (x y z : ℕ) (old mid new : Received) (has : HasTaken stream a b old mid) (same : y ≡ x) (before after : State) (is : stream.state ≡ before) where
-  abbrev Now : Result (Result Took Failure) Fault → Type 0
+  abbrev Now : Result (Result FetchPiece Failure) Fault → Type 0
   Now result = (came : List ℕ) × Advances b c came × TakesAs result before after (incoming_of b y (Ok mid)) (incoming_of c z (Ok new)) (with_more mid came) new
 
   abbrev payloads : List Payload
@@ -88,19 +89,12 @@ pub keeps_both : (before middle after : State) → KeepsSchema before middle →
 keeps_both None middle after p q = tt
 keeps_both (Some known) middle after p q = let r = rw p.1 at q in (r.0, r.1, r.2 ∙ p.2)
 
-keeps_same : (state : State) → KeepsSchema state state
-keeps_same None = tt
-keeps_same (Some known) = (known, refl, refl)
-
-pub keeps_unread : (before after : State) → after ≡ before → KeepsSchema before after
-keeps_unread before after same = rw same (keeps_same before)
-
 -- ---- a connection
 
 by_parts : (incoming : Incoming) (y : ℕ) (left : Received) → y ≡ incoming.failed → incoming.left ≡ Ok left → incoming_of incoming.input y (Ok left) ≡ incoming
 by_parts incoming y left same was = rw (same, ← was) refl
 
-module _ (ticket : Payload) (stream : StreamAt) (begun : Line) (b : Tape) (y : ℕ) (mid : Received) (out : Outgoing) (fetching : IsFetching ticket stream begun (line_of b y None mid out)) where
+module _ (ticket : Payload) (stream : StreamAt) (begun : Line) (b : Tape) (y : ℕ) (mid : Received) (out : Outgoing) (fetching : IsFetchReader ticket stream begun (line_of b y None mid out)) where
   abbrev t : IsTaken ticket fetching.0 begun (line_of b y None mid out)
   t = fetching.2
 
@@ -114,7 +108,7 @@ module _ (ticket : Payload) (stream : StreamAt) (begun : Line) (b : Tape) (y : �
       (fetching.0, subst (λ (left : Received). Taken begun.incoming.input b start left fetching.0) at t.taken, fetching.1)
 
   -- the next batch came
-  pub goes_on : (next : StreamAt) (c : Tape) (z : ℕ) (new : Received) → HasTaken next begun.incoming.input c start new × (z ≡ y) → IsFetching ticket next begun (line_of c z None new out)
+  pub goes_on : (next : StreamAt) (c : Tape) (z : ℕ) (new : Received) → HasTaken next begun.incoming.input c start new × (z ≡ y) → IsFetchReader ticket next begun (line_of c z None new out)
   goes_on next c z new (has, same) = (
     has.0,
     has.2,
@@ -160,7 +154,7 @@ module _ (ticket : Payload) (stream : StreamAt) (begun : Line) (b : Tape) (y : �
 
 module _ (ticket : Payload) (begun : Line) (b : Tape) (y : ℕ) (mid : Received) (out : Outgoing) (sends : SendsCall (Ok tt) DoGet (ticket ∷ []) begun (line_of b y None mid out)) (place : mid.place ≡ InAnswer) where
   -- nothing was taken yet
-  abbrev none_taken : IsFetching ticket nothing begun (line_of b y None mid out)
+  abbrev none_taken : IsFetchReader ticket nothing begun (line_of b y None mid out)
   none_taken = (
     [],
     ([], refl, (refl, refl)),
@@ -179,7 +173,7 @@ module _ (ticket : Payload) (begun : Line) (b : Tape) (y : ℕ) (mid : Received)
   none_has = has_taken ticket nothing begun b y mid out none_taken
 
   module _ (c : Tape) (z : ℕ) (new : Received) (after : State) where
-    abbrev First : Result (Result Took Failure) Fault → Type 0
+    abbrev First : Result (Result FetchPiece Failure) Fault → Type 0
     First result = Now nothing begun.incoming.input b c y y z mid mid new none_has refl None after refl result
 
     -- its schema

@@ -1,8 +1,7 @@
 -- The messages of a put.
 use Rattle.std.proofs.Common.{◌≡◌, ℕ, ◌+◌, ◌<◌, List, [], ◌∷◌, ◌++◌, length, map, take, drop, get_or, Some, None, refl, sym, ap, ◌∙◌, append_assoc, append-nil}
-use Rattle.std.specs.Prelude.{slice_get}
 use Rattle.std.proofs.lemmas.List.{map-append, take_more}
-use Rattle.proto_wire.specs.Writing.{spelling}
+use Rattle.proto_wire.specs.Writing.{field_spelling}
 use Rattle.proto_wire.specs.Calls.{chunk_entry}
 use Rattle.flight_proto.specs.FlightData.{DataSaid, data_bytes, data_head}
 use Rattle.flight_proto.specs.FlightDescriptor.{DescriptorSaid, descriptor_bytes}
@@ -10,9 +9,9 @@ use Rattle.flight_proto.specs.Message.{set_fields, spelled}
 use Rattle.flight_proto.proofs.Heads.{bodies_follow_heads}
 use Rattle.flight_info.specs.Payloads.{Payload}
 use Rattle.ipc_stream.specs.declared.message.IpcMessage.{IpcMessage}
-use Rattle.client_calls.specs.declared.putting.Target.{Target}
+use Rattle.client_calls.specs.declared.put_call.Target.{Target}
 use Rattle.client_calls.specs.Commands.{put_descriptor, put_payloads, carried_in}
-use Rattle.client_calls.specs.inside.Heads.{put_command_bytes, first_payload}
+use Rattle.client_calls.specs.inside.Heads.{first_payload}
 
 -- a head and the body after it
 pub head_and_body : (front head header body : List ℕ) → head ≡ front ++ data_head header (length body)
@@ -27,7 +26,7 @@ behind_descriptor : (descriptor : DescriptorSaid) (carried : DataSaid)
     → data_bytes (Some descriptor) (record { data_header = []; data_body = [] }) ++ data_bytes None carried ≡ data_bytes (Some descriptor) carried
 behind_descriptor descriptor carried =
     ap (λ (l : List ℕ). l ++ spelled (set_fields (chunk_entry 2 carried.data_header ∷ chunk_entry 1000 carried.data_body ∷ [])))
-    (append-nil (spelling (chunk_entry 1 (descriptor_bytes descriptor))))
+    (append-nil (field_spelling (chunk_entry 1 (descriptor_bytes descriptor))))
 
 -- the messages of the stream after the first
 abbrev pub later_payloads : List IpcMessage → List Payload
@@ -43,11 +42,6 @@ one_more start old new messages i message payload inside is said before after =
     step = ap (λ (p : Payload). later_payloads (take i messages) ++ p ∷ []) said
         ∙ sym (map-append (λ (m : IpcMessage). data_bytes None (carried_in m)) (take i messages) (message ∷ []))
         ∙ ap later_payloads (sym (take_more messages i message inside ∙ ap (λ (m : IpcMessage). take i messages ++ m ∷ []) (sym is)))
-
--- the first, by its place
-pub first_is : (target : Target) (messages : List IpcMessage) (message : IpcMessage) → slice_get messages 0 ≡ Some message → first_payload target messages ≡ put_command_bytes target ++ data_bytes None (carried_in message)
-first_is target [] message is = absurd cc
-first_is target (first ∷ others) message is = let e : Some first ≡ Some message = is in let same : first ≡ message = cc in rw same refl
 
 -- the first, and then the others
 pub first_and_others : (target : Target) (messages : List IpcMessage) → first_payload target messages ∷ later_payloads (drop 1 messages) ≡ put_payloads target messages

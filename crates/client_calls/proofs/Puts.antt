@@ -19,7 +19,7 @@ use Rattle.client_calls.specs.declared.failure.Failure.TheVariants.{Found}
 use Rattle.client_calls.specs.Answers.{Incoming, Stop, stopped_at}
 use Rattle.client_calls.specs.Calls.{path_of, Fit}
 use Rattle.client_calls.specs.Outcome.{Line, Outgoing, left_of, stopped_by}
-use Rattle.client_calls.specs.Sending.{FailsPut, IsPutting, PutAt, put_at, unended_bytes}
+use Rattle.client_calls.specs.Sending.{FailsPut, IsPutWriter, PutAt, put_at, unended_bytes}
 use Rattle.client_calls.specs.inside.Parts.{HasStopped, IsOpen, IsUnmade, SendsCall, SendsPart, StopsAt, incoming_of, line_of, outgoing_of}
 use Rattle.client_calls.proofs.Calling.{is_none}
 use Rattle.client_calls.proofs.Sending.{bytes_more, end_last}
@@ -57,13 +57,13 @@ has_stopped a x stopped left out line fault is is_open =
 -- ---- a put that is sent so far
 
 -- its connection is open
-pub is_open : (messages : List Payload) (begun : Line) (now : PutAt) → IsPutting messages begun now → IsOpen now.line
+pub is_open : (messages : List Payload) (begun : Line) (now : PutAt) → IsPutWriter messages begun now → IsOpen now.line
 is_open messages begun now putting = (putting.left, ap (λ (i : Incoming). i.left) putting.unread ∙ putting.is_open)
 
-pub was_open : (messages : List Payload) (begun : Line) (now : PutAt) → IsPutting messages begun now → IsOpen begun
+pub was_open : (messages : List Payload) (begun : Line) (now : PutAt) → IsPutWriter messages begun now → IsOpen begun
 was_open messages begun now putting = (putting.left, putting.is_open)
 
-pub not_stopped : (messages : List Payload) (begun : Line) (now : PutAt) (fault : Fault) → IsPutting messages begun now → HasStopped fault now.line → ⊥
+pub not_stopped : (messages : List Payload) (begun : Line) (now : PutAt) (fault : Fault) → IsPutWriter messages begun now → HasStopped fault now.line → ⊥
 not_stopped messages begun now fault putting (at, is) =
     let e : Ok putting.left ≡ stopped_at fault at = sym putting.is_open ∙ ap (λ (i : Incoming). i.left) (sym putting.unread) ∙ is in absurd cc
 
@@ -86,9 +86,9 @@ unfit_more messages message unfit fit =
     let short : Short message = subst Short (get_or_push messages message message (length messages) refl) (fit (length messages) message low) in
     unfit (All-cons Short message [] short (All-nil Short))
 
-module _ (messages : List Payload) (begun : Line) (now : PutAt) (putting : IsPutting messages begun now) (message : Payload) (new : Line) (waiting : List ℕ) where
+module _ (messages : List Payload) (begun : Line) (now : PutAt) (putting : IsPutWriter messages begun now) (message : Payload) (new : Line) (waiting : List ℕ) where
   pub sent_more : (made : Payload) → made ≡ message → length made ≤ 16777216 → SendsPart (Ok tt) (spelling (Message made)) now.line new now.waiting waiting
-      → IsPutting (messages ++ message ∷ []) begun (put_at new waiting)
+      → IsPutWriter (messages ++ message ∷ []) begun (put_at new waiting)
   sent_more made is short sends =
       let sent = subst (λ (m : Payload). SendsPart (Ok tt) (spelling (Message m)) now.line new now.waiting waiting) is sends in
       record {
@@ -147,7 +147,7 @@ module _ (old new : Line) (first : Payload) (messages : List Payload) (one : fir
   first_bytes : opening ≡ unended_bytes messages
   first_bytes = ap (λ l. spelling (Open (path_of DoPut)) ++ l) (sym (append-nil (spelling (Message first)))) ∙ ap unended_bytes one
 
-  pub begun_first : (before waiting : List ℕ) → before ≡ [] → IsOpen old → length first ≤ 16777216 → SendsPart (Ok tt) opening old new before waiting → IsPutting messages old (put_at new waiting)
+  pub begun_first : (before waiting : List ℕ) → before ≡ [] → IsOpen old → length first ≤ 16777216 → SendsPart (Ok tt) opening old new before waiting → IsPutWriter messages old (put_at new waiting)
   begun_first before waiting none (left, opened) short sent =
       let Short : Payload → Type 0 = λ m. length m ≤ most_message_bytes in
       record {
@@ -205,12 +205,12 @@ stopped_first old messages fault (at, is) = (
 -- ---- its end
 
 pub start : (messages : List Payload) (begun : Line) (a : Tape) (x : ℕ) (left : Received) (b : Option (List ℕ)) (y : ℕ) (before : List ℕ) (line : Line) (stopped : Option Fault)
-    → IsPutting messages begun (put_at line before) → line_of a x stopped left (outgoing_of b y) ≡ line → Sent begun.outgoing.output b [] before (unended_bytes messages)
+    → IsPutWriter messages begun (put_at line before) → line_of a x stopped left (outgoing_of b y) ≡ line → Sent begun.outgoing.output b [] before (unended_bytes messages)
 start messages begun a x left b y before line stopped putting is =
     subst (λ (l : Line). Sent begun.outgoing.output l.outgoing.output [] before (unended_bytes messages)) (sym is) putting.sent
 
 module _ (messages : List Payload) (begun : Line) (a : Tape) (x : ℕ) (left : Received) (b c : Option (List ℕ)) (y z : ℕ) (before : List ℕ) (line : Line)
-    (putting : IsPutting messages begun (put_at line before)) (stopped : Option Fault) (is : line_of a x stopped left (outgoing_of b y) ≡ line) where
+    (putting : IsPutWriter messages begun (put_at line before)) (stopped : Option Fault) (is : line_of a x stopped left (outgoing_of b y) ≡ line) where
   pub ended : Writes {A = Unit {0}} {E = Fault} (Ok tt) begun.outgoing.output c (unended_bytes messages ++ spelling End) → z ≡ y
       → SendsCall (Ok tt) DoPut messages begun (line_of a x stopped left (outgoing_of c z))
   ended wrote same = (

@@ -11,7 +11,7 @@ use Rattle.grpc_frame.specs.declared.record.Record.TheVariants.{Open, Message, E
 use Rattle.grpc_frame.specs.Records.{spelling, message_head}
 use Rattle.grpc_frame.specs.Sending.{Sent, NotSent, Sends}
 use Rattle.grpc_frame.specs.Ends.{CountsFailure, FailsByTransport, Writes}
-use Rattle.grpc_frame.proofs.Sending.{head_not_sent, both_sent, second_not_sent, sent_behind, flushed, begun_alone}
+use Rattle.grpc_frame.proofs.Sending.{head_not_sent, both_sent, second_not_sent, sent_behind, flushed}
 use Rattle.flight_info.specs.Payloads.{Payload}
 use Rattle.client_calls.specs.declared.call.Method.{Method}
 use Rattle.client_calls.specs.Calls.{path_of, call_bytes, Fit}
@@ -107,12 +107,6 @@ end_sent r a b c before mid after method messages sent last =
     rw (end_last method messages) (sent_behind r a b c before mid after (front_bytes method messages) (spelling End) sent last)
 
 -- ---- and as it is written
-
--- a write failed before all was sent
-pub not_sent : (fault : Fault) (a b : Option (List ℕ)) (x y : ℕ) (before after : List ℕ) (method : Method) (messages : List Payload) → Fit messages → before ≡ [] → NotSent a b before after (call_bytes method messages)
-    → CountsFailure {A = Unit {0}} (Err fault) x y → FailsByTransport {A = Unit {0}} (Err fault) → WritesCall (Err fault) method messages (outgoing_of a x) (outgoing_of b y)
-not_sent fault a b x y before after method messages fit none failed counted kind =
-    inl (kind, record { fit = fit; wrote = begun_alone a b before after (call_bytes method messages) none failed; counted = counted })
 
 -- all was sent, and then what was gathered was written, or not
 pub sent_written : (r : Result (Unit {0}) Fault) (a b c : Option (List ℕ)) (x y z : ℕ) (before mid : List ℕ) (method : Method) (messages : List Payload) → Fit messages → before ≡ [] → Sent a b before mid (call_bytes method messages) → y ≡ x

@@ -11,7 +11,8 @@ use Rattle.client_calls.specs.declared.answer.Arrival.{Arrival}
 use Rattle.client_calls.specs.declared.answer.Arrival.TheVariants as arrival
 use Rattle.client_calls.specs.declared.failure.Failure.{Failure}
 use Rattle.client_calls.specs.declared.failure.Failure.TheVariants.{Answered}
-use Rattle.client_calls.specs.Answers.{stopped_at, AnswersStream, Stands, IsRefused}
+use Rattle.client_calls.specs.Answers.{stopped_at}
+use Rattle.client_calls.specs.StreamAnswers.{AnswersStream, Stands, IsRefused}
 use Rattle.client_calls.specs.inside.Arriving.{ArrivesAs}
 use Rattle.client_calls.specs.inside.Parts.{incoming_of, left_behind, given}
 use Rattle.client_calls.proofs.Taking.{Taken, taken_more, more_quiet, taken_stop, answered, finished}

@@ -19,15 +19,13 @@ use Rattle.flight_info.specs.Payloads.{Payload}
 use Rattle.flight_client.specs.Status.{StatusSays}
 use Rattle.client_calls.specs.declared.answer.Arrival.{Arrival}
 use Rattle.client_calls.specs.declared.answer.Arrival.TheVariants as arrival
-use Rattle.client_calls.specs.Answers.{Fronts, stopped_at, IsAnswer, NoMore, Halts, StopsBehind, IsAnswered}
+use Rattle.client_calls.specs.Answers.{Fronts, stopped_at, IsAnswer, NoMore, Halts, StopsBehind}
+use Rattle.client_calls.specs.Answers.{IsAnswered}
 pub use Rattle.client_calls.specs.Taking.{Taken}
 use Rattle.client_calls.specs.inside.Arriving.{ArrivesAs}
 use Rattle.client_calls.specs.inside.Parts.{incoming_of}
 
 -- ---- records in front
-
-pub fronts_none : (all : Received) → all.place ≡ InAnswer → Fronts [] all all
-fronts_none all place = record { whole = refl; fits = All-nil IsRecord; place = place }
 
 -- more bytes came
 pub fronts_then : (all left : Received) (records : List Record) (more : List ℕ) → Fronts records all left → Fronts records (with_more all more) (with_more left more)

@@ -17,7 +17,7 @@ use Rattle.flight_proto.specs.PutResult.{rows_put_of}
 use Rattle.flight_proto.specs.StatementIngest.{OptionsSaid, StatementSaid, statement_bytes}
 use Rattle.flight_info.specs.Payloads.{Payload}
 use Rattle.ipc_stream.specs.declared.message.IpcMessage.{IpcMessage}
-use Rattle.client_calls.specs.declared.putting.Target.{Target}
+use Rattle.client_calls.specs.declared.put_call.Target.{Target}
 
 -- ---- a put
 

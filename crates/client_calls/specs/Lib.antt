@@ -1,6 +1,7 @@
 pub mod Calls
 pub mod Commands
 pub mod Answers
+pub mod StreamAnswers
 pub mod Taking
 pub mod Outcome
 pub mod Sending

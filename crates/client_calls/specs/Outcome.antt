@@ -42,7 +42,8 @@ pub record IsWritten (method : Method) (messages : List Payload) (old new : Outg
   pub quiet : new.failed ≡ old.failed
 
 -- a write failed and was counted, and a beginning of the call is written
-pub record IsBegun (method : Method) (messages : List Payload) (old new : Outgoing) : Type 0 where
+pub record WroteBeginning (method : Method) (messages : List Payload)
+    (old new : Outgoing) : Type 0 where
   pub fit : Fit messages
   pub wrote : AppendsBeginning old.output new.output (call_bytes method messages)
   pub counted : new.failed ≡ old.failed + 1
@@ -62,7 +63,7 @@ pub record IsCalled (method : Method) (messages : List Payload)
 -- since a message is too long or memory was refused
 abbrev pub WhyNot : Fault → Method → List Payload → Line → Line → Type 0
 WhyNot fault method messages old new =
-    ((fault ≡ Transport) × IsBegun method messages old.outgoing new.outgoing
+    ((fault ≡ Transport) × WroteBeginning method messages old.outgoing new.outgoing
     × (new.incoming ≡ record old.incoming { left = stopped_by Transport old.incoming.left }))
     ⊎ ((((fault ≡ MessageTooLarge) × ¬ Fit messages) ⊎ (fault ≡ OutOfMemory)) × (new ≡ old))
 

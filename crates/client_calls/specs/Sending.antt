@@ -14,7 +14,7 @@ use Rattle.ipc_stream.specs.declared.message.IpcMessage.{IpcMessage}
 use Rattle.client_calls.specs.declared.call.Method.TheVariants.{DoPut}
 use Rattle.client_calls.specs.declared.failure.Failure.{Failure}
 use Rattle.client_calls.specs.declared.failure.Failure.TheVariants.{Found}
-use Rattle.client_calls.specs.declared.putting.Target.{Target}
+use Rattle.client_calls.specs.declared.put_call.Target.{Target}
 use Rattle.client_calls.specs.Answers.{Stop}
 use Rattle.client_calls.specs.Calls.{path_of, Fit}
 use Rattle.client_calls.specs.Commands.{carried_in, put_payloads}
@@ -38,7 +38,7 @@ unended_bytes messages = flat_map spelling (Open (path_of DoPut) ∷ map Message
 
 -- a put of these messages was sent, without its End: it is written, but for what waits, and nothing
 -- was read
-pub record IsPutting (messages : List Payload) (old : Line) (now : PutAt) : Type 0 where
+pub record IsPutWriter (messages : List Payload) (old : Line) (now : PutAt) : Type 0 where
   pub left : Received
   pub is_open : old.incoming.left ≡ Ok left
   pub fit : Fit messages
@@ -71,11 +71,11 @@ FailsPut failure messages old new = (fault : Fault) × (failure ≡ Found fault)
 abbrev pub BeginsPut : {A : Type 0} → (A → PutAt) → Target → IpcMessage → Result A Failure →
     Line → Type 0
 BeginsPut view target first (Ok putting) old =
-    IsPutting (put_payloads target (first ∷ [])) old (view putting)
+    IsPutWriter (put_payloads target (first ∷ [])) old (view putting)
 BeginsPut view target first (Err failure) old =
     (new : Line) × FailsPut failure (put_payloads target (first ∷ [])) old new
 
 -- a put of these messages was sent so far, or it failed
 abbrev pub SendsPut : Result (Unit {0}) Failure → List Payload → Line → PutAt → Type 0
-SendsPut (Ok done) messages old now = IsPutting messages old now
+SendsPut (Ok done) messages old now = IsPutWriter messages old now
 SendsPut (Err failure) messages old now = FailsPut failure messages old now.line

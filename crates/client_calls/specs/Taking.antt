@@ -12,7 +12,8 @@ use Rattle.flight_client.specs.Stream.{StreamAt, Came, schema_said}
 use Rattle.client_calls.specs.declared.call.Method.TheVariants.{DoGet}
 use Rattle.client_calls.specs.declared.failure.Failure.{Failure}
 use Rattle.client_calls.specs.declared.failure.Failure.TheVariants.{Found}
-use Rattle.client_calls.specs.Answers.{AnswersStream, Fronts, Quiet}
+use Rattle.client_calls.specs.Answers.{Fronts, Quiet}
+use Rattle.client_calls.specs.StreamAnswers.{AnswersStream}
 use Rattle.client_calls.specs.Outcome.{Calls, IsWritten, Line}
 
 -- a fetch whose answer is being taken: its connection, what the payloads so far leave after, and
@@ -39,8 +40,8 @@ pub record IsTaken (ticket : Payload) (payloads : List Payload) (old new : Line)
   pub quiet : Quiet old.incoming new.incoming
 
 -- a stream is being fetched: the payloads that were taken of its answer came to it
-abbrev pub IsFetching : Payload → StreamAt → Line → Line → Type 0
-IsFetching ticket stream old new =
+abbrev pub IsFetchReader : Payload → StreamAt → Line → Line → Type 0
+IsFetchReader ticket stream old new =
     (payloads : List Payload) × Came payloads stream × IsTaken ticket payloads old new
 
 -- what a whole fetch gives: the stream, or a failure
@@ -66,7 +67,7 @@ KeepsSchema (Some known) new = (after : Known) × (new ≡ Some after) × (after
 abbrev pub TakesNext : Payload → StreamAt → Line → Result (Option BatchAt) Failure → State →
     Line → Type 0
 TakesNext ticket stream old (Ok (Some batch)) state new =
-    IsFetching ticket (with_batch stream state (Some batch)) old new
+    IsFetchReader ticket (with_batch stream state (Some batch)) old new
 TakesNext ticket stream old (Ok None) state new =
     FetchGives ticket (Ok (ended (with_batch stream state None))) old new
 TakesNext ticket stream old (Err failure) state new = FetchGives ticket (Err failure) old new
@@ -78,7 +79,7 @@ pub record IsBegun (ticket : Payload) (state : State) (old new : Line) : Type 0 
   pub known : Known
   pub has_schema : state ≡ Some known
   pub no_rows : stream.rows ≡ []
-  pub fetching : IsFetching ticket stream old new
+  pub fetching : IsFetchReader ticket stream old new
 
 -- a stream ended without a schema (F8)
 pub record HasNoSchema (ticket : Payload) (failure : Failure) (old new : Line) : Type 0 where

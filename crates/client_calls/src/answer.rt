@@ -6,7 +6,8 @@ ghost use Rattle.grpc_frame.specs.declared.place.Place.TheVariants.{InAnswer};
 ghost use Rattle.grpc_frame.specs.Records.{with_more};
 ghost use Rattle.grpc_frame.specs.Arrivals.{work_left};
 ghost use Rattle.flight_client.specs.Status.{StatusSays};
-ghost use Rattle.client_calls.specs.Answers.{AnswersOne, AnswersStream, Stands};
+ghost use Rattle.client_calls.specs.Answers.{AnswersOne};
+ghost use Rattle.client_calls.specs.StreamAnswers.{AnswersStream, Stands};
 ghost use Rattle.client_calls.specs.inside.Arriving.{ArrivesAs};
 ghost use Rattle.client_calls.specs.inside.Parts.{incoming_of, left_behind, given};
 

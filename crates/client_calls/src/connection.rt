@@ -9,10 +9,11 @@ ghost use Rattle.grpc_frame.specs.declared.record.Record.TheVariants.{Open, Mess
 ghost use Rattle.grpc_frame.specs.Records.{spelling};
 ghost use Rattle.flight_info.specs.Payloads.{Payload as PayloadBytes};
 ghost use Rattle.client_calls.specs.declared.call.Method.TheVariants.{DoGet, DoPut};
-ghost use Rattle.client_calls.specs.Answers.{AnswersOne, AnswersStream};
+ghost use Rattle.client_calls.specs.Answers.{AnswersOne};
+ghost use Rattle.client_calls.specs.StreamAnswers.{AnswersStream};
 ghost use Rattle.client_calls.specs.Calls.{path_of};
 ghost use Rattle.client_calls.specs.Outcome.{Calls, Line};
-ghost use Rattle.client_calls.specs.Sending.{IsPutting, put_at};
+ghost use Rattle.client_calls.specs.Sending.{IsPutWriter, put_at};
 ghost use Rattle.client_calls.specs.inside.Parts.{IsOpen, HasStopped, SendsCall, SendsPart};
 ghost use Rattle.client_calls.specs.inside.Parts.{StopsAt, Receives, line_of, outgoing_of};
 
@@ -219,7 +220,7 @@ impl<R: Input, W: Output> Connection<R, W> {
         requires writes { CanFail (self.old.outgoing.failed) }
         requires is_open { IsOpen self.old }
         ensures ended { (messages : List PayloadBytes) (begun : Line) →
-            IsPutting messages begun (put_at self.old outbox.old) →
+            IsPutWriter messages begun (put_at self.old outbox.old) →
             SendsCall result DoPut messages begun self.new }
         ensures unread { OnOk result (self.new.incoming ≡ self.old.incoming) }
     {

@@ -3,7 +3,7 @@
 ghost use Rattle.std.specs.Prelude.{◌≡◌, ◌∷◌, [], IfOk};
 ghost use Rattle.grpc_frame.specs.Ends.{CanFail};
 ghost use Rattle.client_calls.specs.declared.call.Method.TheVariants.{DoGet};
-ghost use Rattle.client_calls.specs.Answers.{AnswersStream};
+ghost use Rattle.client_calls.specs.StreamAnswers.{AnswersStream};
 ghost use Rattle.client_calls.specs.Outcome.{Calls};
 
 use crate::call::Payload;

@@ -6,23 +6,23 @@
 #![tactic(auto)]
 
 mod answer;
-mod asking;
 mod call;
 mod connection;
-mod expiring;
+mod expiry_call;
 mod failure;
-mod feeding;
+mod fetch_piece;
+mod fetch_reader;
 mod fetching;
-mod putting;
-mod streaming;
-mod taken;
+mod info_call;
+mod put_call;
+mod put_writer;
 
-pub use crate::asking::info;
 pub use crate::call::Method;
 pub use crate::connection::Connection;
-pub use crate::expiring::expire;
+pub use crate::expiry_call::expire;
 pub use crate::failure::Failure;
-pub use crate::feeding::Putting;
+pub use crate::fetch_reader::FetchReader;
 pub use crate::fetching::fetch;
-pub use crate::putting::{Target, put};
-pub use crate::streaming::Fetching;
+pub use crate::info_call::info;
+pub use crate::put_call::{Target, put};
+pub use crate::put_writer::PutWriter;

@@ -1,10 +1,9 @@
 -- Parts of a whole that are as even as whole numbers are.
 use native.Mathlib.Omega.{arith}
-use Rattle.std.proofs.Common.{◌≡◌, ◌∙◌, ◌<◌, ◌≤◌, ◌⊎◌, inl, inr, ℕ, zero, suc, ◌+◌, ◌-◌, ◌*◌, ◌/◌, List, length, map, take, drop, ap, subst}
-use Rattle.std.proofs.lemmas.List.{length-take-le, length-drop, length-map}
+use Rattle.std.proofs.Common.{◌≡◌, ◌<◌, ◌≤◌, ◌⊎◌, inl, inr, ℕ, zero, suc, ◌+◌, ◌-◌, ◌*◌, ◌/◌, subst}
 use Rattle.std.proofs.Math.Nat.{add-mul, mul-add, mul-le-mul_right, div-mul-le_self, lt-div-mul-add, div-le_self}
-use Rattle.client_commands.specs.Spread.{IsEvenPart}
-use Rattle.client_commands.specs.inside.Relaying.{IsLeft}
+use Rattle.client_commands.specs.ParallelFetch.{IsEvenPart}
+use Rattle.client_commands.specs.inside.Turns.{IsLeft}
 
 -- after a front that has so many parts stands one part more: the quotient, rounded down
 abbrev pub IsCut : (front part many : ℕ) → Type 0
@@ -15,16 +14,6 @@ cut_off whole many part front quotient rest =
     let some : 0 < many + 1 = omega arith in
     let all : front + part ≡ whole = omega (arith, div-le_self whole (many + 1), quotient, rest) in
     rw (all, quotient) (div-mul-le_self whole (many + 1), omega (arith, lt-div-mul-add {a = whole} {b = many + 1} some, add-mul (whole / (many + 1)) 1 (many + 1)))
-
--- a list that is cut in front of that part, each item seen by `view`
-pub cut_at : {A B : Type 0} (view : A → B) (all front back : List A) (many kept : ℕ) → kept ≡ length all - length all / (many + 1)
-    → front ≡ take kept all → back ≡ drop kept all → IsCut (length (map view front)) (length (map view back)) many
-cut_at {A} {B} view all front back many kept is in_front behind =
-    let quotient : length all / (many + 1) ≤ length all = div-le_self (length all) (many + 1) in
-    let fits : kept ≤ length all = omega (arith, is, quotient) in
-    let first : length (map view front) ≡ kept = length-map front view ∙ (ap length in_front ∙ length-take-le kept all fits) in
-    let last : length (map view back) ≡ length all - kept = length-map back view ∙ (ap length behind ∙ length-drop kept all) in
-    cut_off (length all) many (length (map view back)) (length (map view front)) (omega (arith, last, is, quotient)) (omega (arith, first, last, is, quotient))
 
 less_or : (a b : ℕ) → (a < b) ⊎ (b ≤ a)
 less_or a zero = inr (omega arith)
@@ -71,10 +60,6 @@ front_part front part many other cut even =
 -- and the part after it is one
 pub last_part : (front part many : ℕ) → IsCut front part many → IsEvenPart (front + part) (many + 1) part
 last_part front part many cut = (cut.1, omega (arith, cut.0))
-
--- a whole is its own only part
-pub only_part : (whole : ℕ) → IsEvenPart whole 1 whole
-only_part whole = (omega arith, omega arith)
 
 -- ---- parts that are cut off the front
 

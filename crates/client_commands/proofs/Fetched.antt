@@ -5,16 +5,17 @@ use Rattle.scan_base.specs.declared.fault.Fault.{Fault}
 use Rattle.scan_base.specs.declared.fault.Fault.TheVariants.{OutOfMemory}
 use Rattle.scan_base.specs.Reading.{RefusesFirst}
 use Rattle.flight_proto.specs.FlightInfo.{EndpointSaid, InfoSaid, info_of}
-use Rattle.flight_proto.specs.Wanted.{Wanted, wanted_bytes}
+use Rattle.flight_proto.specs.InfoCommand.{InfoCommand, wanted_bytes}
 use Rattle.grpc_frame.specs.Records.{Received}
 use Rattle.flight_client.specs.Stream.{StreamAt}
 use Rattle.client_calls.specs.declared.call.Method.TheVariants.{GetFlightInfo, DoGet}
 use Rattle.client_calls.specs.declared.failure.Failure.{Failure}
 use Rattle.client_calls.specs.declared.failure.Failure.TheVariants.{Answered, Found}
-use Rattle.client_calls.specs.Answers.{Incoming, Stop, AnswersOne, AnswersStream}
+use Rattle.client_calls.specs.Answers.{Incoming, Stop, AnswersOne}
+use Rattle.client_calls.specs.StreamAnswers.{AnswersStream}
 use Rattle.client_calls.specs.Commands.{ReadsEndpoints}
 use Rattle.client_calls.specs.Outcome.{Line, Calls, CallsAt}
-use Rattle.client_commands.specs.Fetching.{Asks, FetchesEach, FetchesOne, FailsAt, FetchStops}
+use Rattle.client_commands.specs.Fetching.{AsksPlaces, FetchesEach, FetchesOne, FailsAt, FetchStops}
 
 -- a stream more
 pub fetched_more : (front : List EndpointSaid) (streams : List StreamAt) (next : EndpointSaid) (stream : StreamAt) (old middle new : Line)
@@ -103,8 +104,8 @@ quiet endpoint stream old new = by old.incoming.left
 abbrev alone : List EndpointSaid → List EndpointSaid
 alone endpoints = endpoints
 
-module _ {A : Type 0} (view : A → List EndpointSaid) (wanted : Wanted) (old new : Line) where
-  pub asked : (x : A) → Calls GetFlightInfo (wanted_bytes wanted ∷ []) (AnswersOne (ReadsEndpoints view)) (Ok x) old new → Asks wanted (Ok (view x)) old new
+module _ {A : Type 0} (view : A → List EndpointSaid) (wanted : InfoCommand) (old new : Line) where
+  pub asked : (x : A) → Calls GetFlightInfo (wanted_bytes wanted ∷ []) (AnswersOne (ReadsEndpoints view)) (Ok x) old new → AsksPlaces wanted (Ok (view x)) old new
   asked x = by old.incoming.left
     where
       by : (left : Result Received Stop) → CallsAt left GetFlightInfo (wanted_bytes wanted ∷ []) (AnswersOne (ReadsEndpoints view)) (Ok x) old new
@@ -129,7 +130,7 @@ module _ {A : Type 0} (view : A → List EndpointSaid) (wanted : Wanted) (old ne
       by (Ok left) (inr refused) = let e = refused.1 in absurd cc
       by (Err fault) stopped = let e = stopped.0 in absurd cc
 
-  pub not_asked : (failure : Failure) → Calls GetFlightInfo (wanted_bytes wanted ∷ []) (AnswersOne (ReadsEndpoints view)) (Err failure) old new → Asks wanted (Err failure) old new
+  pub not_asked : (failure : Failure) → Calls GetFlightInfo (wanted_bytes wanted ∷ []) (AnswersOne (ReadsEndpoints view)) (Err failure) old new → AsksPlaces wanted (Err failure) old new
   not_asked failure = by old.incoming.left
     where
       wrong : Failure → Result A Failure

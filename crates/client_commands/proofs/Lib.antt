@@ -1,7 +1,8 @@
 pub mod Fetched
-pub mod Parts
-pub mod Passing
-pub mod Printed
+pub mod Formats
+pub mod Texts
+pub mod Writers
+pub mod Rows
 pub mod Even
 pub mod Spread
 pub mod InTurn

@@ -6,7 +6,7 @@ use Rattle.client_calls.specs.declared.failure.Failure.{Failure}
 use Rattle.client_calls.specs.Outcome.{Line}
 use Rattle.command_ends.specs.Network.{Ends}
 use Rattle.command_ends.specs.declared.exit_status.ExitStatus.{ExitStatus}
-use Rattle.client_commands.specs.Told.{Tells}
+use Rattle.client_commands.specs.CallOutcome.{Tells}
 use Rattle.client_commands.specs.Commands.{Desk, FetchesNames, Over}
 use Rattle.client_commands.specs.Lines.{opened_line}
 

@@ -1,14 +1,14 @@
 -- Names that are gathered row by row.
 use native.Mathlib.Omega.{arith}
-use Rattle.std.proofs.Common.{◌≡◌, ◌<◌, ◌≤◌, ℕ, ◌+◌, ◌-◌, List, [], ◌∷◌, ◌++◌, length, map, take, drop, get_or, Result, Ok, Err, refl, sym, ap, ◌∙◌, append_assoc, append-nil}
+use Rattle.std.proofs.Common.{◌≡◌, ◌<◌, ℕ, ◌+◌, ◌-◌, List, [], ◌∷◌, ◌++◌, length, map, take, drop, get_or, Result, Ok, Err, refl, sym, ap, ◌∙◌, append_assoc, append-nil}
 use Rattle.std.specs.List.{flat_map, range_with_len}
 use Rattle.std.proofs.lemmas.Grind.{flat_map-append}
 use Rattle.std.proofs.lemmas.List.{take-append-drop, take_more, drop_more}
 use Rattle.scan_base.specs.declared.fault.Fault.{Fault}
 use Rattle.scan_base.specs.declared.value.Value.{Value}
-use Rattle.scan_base.specs.Lists.{each, behind}
+use Rattle.scan_base.specs.Lists.{each}
+use Rattle.scan_base.proofs.ReadingLaws.{behind, numbers_more, numbers_stop}
 use Rattle.scan_base.specs.Reading.{◌>>=◌}
-use Rattle.scan_base.proofs.ReadingLaws.{numbers_more, numbers_stop, numbers_end}
 use Rattle.arrays.specs.Batch.{BatchAt, row_of, rows_of}
 use Rattle.client_commands.specs.Names.{name_in}
 use Rattle.client_commands.specs.inside.Naming.{AddsNames}
@@ -56,11 +56,6 @@ more_listed batch place old mid new name lt is grown listed = record {
 pub not_listed : (batch : BatchAt) (place : ℕ) (old new : List (List ℕ)) (fault : Fault) → place < batch.rows → name_of batch place ≡ Err fault
     → IsListed batch place old new → each name_in (rows_of batch) ≡ Err fault
 not_listed batch place old new fault lt is listed = listed.left ∙ numbers_stop (name_of batch) listed.done place batch.rows fault lt is
-
-pub all_listed : (batch : BatchAt) (place : ℕ) (old new : List (List ℕ)) → batch.rows ≤ place → IsListed batch place old new
-    → (names : List (List ℕ)) × (each name_in (rows_of batch) ≡ Ok names) × (new ≡ old ++ names)
-all_listed batch place old new all listed =
-    (listed.done, listed.left ∙ numbers_end (name_of batch) listed.done place batch.rows all, listed.grown)
 
 -- ---- the rows of batches
 

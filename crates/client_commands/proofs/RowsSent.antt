@@ -14,11 +14,11 @@ use Rattle.csv_input.specs.Input.{TextAt}
 use Rattle.client_calls.specs.declared.call.Method.TheVariants.{DoPut}
 use Rattle.client_calls.specs.declared.failure.Failure.{Failure}
 use Rattle.client_calls.specs.declared.failure.Failure.TheVariants.{Found}
-use Rattle.client_calls.specs.declared.putting.Target.{Target}
+use Rattle.client_calls.specs.declared.put_call.Target.{Target}
 use Rattle.client_calls.specs.Answers.{AnswersOne, Incoming}
 use Rattle.client_calls.specs.Commands.{carried_in, put_descriptor, put_payloads, ReadsCount}
 use Rattle.client_calls.specs.Outcome.{Calls, Line, stopped_by}
-use Rattle.client_calls.specs.Sending.{BeginsPut, FailsPut, IsPutting, PutAt, later_payload, unended_bytes}
+use Rattle.client_calls.specs.Sending.{BeginsPut, FailsPut, IsPutWriter, PutAt, later_payload, unended_bytes}
 use Rattle.client_commands.specs.RowsPut.{FailsRows, IsUnmade, PutsRows}
 use Rattle.client_commands.specs.inside.RowsSent.{HaveSent}
 
@@ -30,7 +30,7 @@ payloads_more target first others message =
 
 module _ (target : Target) (text : TextAt) (begun : Line) where
   -- the message of the columns was sent, or not
-  pub columns_sent : (first : IpcMessage) (now : PutAt) → SaysRecords text.schema [] (first ∷ []) → IsPutting (put_payloads target (first ∷ [])) begun now → HaveSent target text [] begun now
+  pub columns_sent : (first : IpcMessage) (now : PutAt) → SaysRecords text.schema [] (first ∷ []) → IsPutWriter (put_payloads target (first ∷ [])) begun now → HaveSent target text [] begun now
   columns_sent first now says putting = record { first = first; others = []; says = says; putting = putting }
 
   pub columns_unsent : (first : IpcMessage) (failure : Failure) (new : Line) → SaysRecords text.schema [] (first ∷ []) → FailsPut failure (put_payloads target (first ∷ [])) begun new → FailsRows target text failure begun new
@@ -67,12 +67,12 @@ module _ (target : Target) (text : TextAt) (begun : Line) where
   module _ (done left rest : List (List (List ℕ))) (now : PutAt) (have : HaveSent target text done begun now) (splits : text.records ≡ done ++ left) where
     -- one batch more was sent
     pub batch_sent : (message : IpcMessage) (new : PutAt) (next : IsNext text.schema message left rest)
-        → IsPutting (put_payloads target (have.first ∷ have.others) ++ later_payload message ∷ []) begun new → HaveSent target text (done ++ next.taken) begun new
+        → IsPutWriter (put_payloads target (have.first ∷ have.others) ++ later_payload message ∷ []) begun new → HaveSent target text (done ++ next.taken) begun new
     batch_sent message new next putting = record {
       first = have.first;
       others = have.others ++ message ∷ [];
       says = next.behind done (have.first ∷ have.others) have.says;
-      putting = subst (λ (l : List Payload). IsPutting l begun new) (sym (payloads_more target have.first have.others message)) putting;
+      putting = subst (λ (l : List Payload). IsPutWriter l begun new) (sym (payloads_more target have.first have.others message)) putting;
     }
 
     pub batch_splits : (message : IpcMessage) (next : IsNext text.schema message left rest) → text.records ≡ (done ++ next.taken) ++ rest

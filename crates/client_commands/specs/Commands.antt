@@ -5,21 +5,21 @@ use Rattle.std.specs.List.{flat_map}
 use Rattle.scan_base.specs.declared.fault.Fault.{Fault}
 use Rattle.scan_base.specs.declared.fault.Fault.TheVariants.{OutOfMemory, Transport}
 use Rattle.flight_proto.specs.Expiry.{expiry_bytes}
-use Rattle.flight_proto.specs.Wanted.{tables}
+use Rattle.flight_proto.specs.InfoCommand.{tables}
 use Rattle.ipc_stream.specs.declared.message.IpcMessage.{IpcMessage}
 use Rattle.table_versions.specs.Table.{Table}
 use Rattle.row_text.specs.Lines.{name_line}
 use Rattle.client_calls.specs.declared.call.Method.TheVariants.{DoPut, DoAction}
 use Rattle.client_calls.specs.declared.failure.Failure.{Failure}
 use Rattle.client_calls.specs.declared.failure.Failure.TheVariants.{Found}
-use Rattle.client_calls.specs.declared.putting.Target.{Target}
+use Rattle.client_calls.specs.declared.put_call.Target.{Target}
 use Rattle.client_calls.specs.Answers.{AnswersOne}
 use Rattle.client_calls.specs.Commands.{put_payloads, ReadsCount, ReadsFloor}
 use Rattle.client_calls.specs.Outcome.{Calls, Line}
 use Rattle.command_ends.specs.Network.{Ends}
 use Rattle.command_ends.specs.Printing.{Said, Prints, cause_lines, count_line, fault_line}
 use Rattle.command_ends.specs.Printing.{floor_line}
-use Rattle.command_ends.specs.Whole.{Source, ReadsMessages}
+use Rattle.command_ends.specs.WholeInput.{Source, ReadsMessages}
 use Rattle.command_ends.specs.declared.exit_status.ExitStatus.{ExitStatus}
 use Rattle.command_ends.specs.declared.exit_status.ExitStatus.TheVariants.{FaultAtThisEnd}
 use Rattle.csv_input.specs.Input.{Form, ReadsCsv, TextAt}
@@ -27,7 +27,7 @@ use Rattle.client_commands.specs.Fetching.{Fetches}
 use Rattle.client_commands.specs.Lines.{opened_line}
 use Rattle.client_commands.specs.Names.{names_listed}
 use Rattle.client_commands.specs.RowsPut.{PutsRows}
-use Rattle.client_commands.specs.Told.{Tells}
+use Rattle.client_commands.specs.CallOutcome.{Tells}
 
 -- what a command prints on: its output and its faults, before and after it
 pub record Desk : Type 0 where

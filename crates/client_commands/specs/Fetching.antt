@@ -3,20 +3,21 @@ use Rattle.std.specs.Prelude.{◌≡◌, ◌≢◌, ◌⊎◌, List, [], ◌∷�
 use Rattle.scan_base.specs.declared.fault.Fault.{Fault}
 use Rattle.scan_base.specs.declared.fault.Fault.TheVariants.{OutOfMemory}
 use Rattle.flight_proto.specs.FlightInfo.{EndpointSaid}
-use Rattle.flight_proto.specs.Wanted.{Wanted, wanted_bytes}
+use Rattle.flight_proto.specs.InfoCommand.{InfoCommand, wanted_bytes}
 use Rattle.flight_client.specs.Join.{joined}
 use Rattle.flight_client.specs.Stream.{StreamAt}
 use Rattle.table_versions.specs.Table.{Table}
 use Rattle.client_calls.specs.declared.call.Method.TheVariants.{GetFlightInfo, DoGet}
 use Rattle.client_calls.specs.declared.failure.Failure.{Failure}
 use Rattle.client_calls.specs.declared.failure.Failure.TheVariants.{Found}
-use Rattle.client_calls.specs.Answers.{AnswersOne, AnswersStream}
+use Rattle.client_calls.specs.Answers.{AnswersOne}
+use Rattle.client_calls.specs.StreamAnswers.{AnswersStream}
 use Rattle.client_calls.specs.Commands.{ReadsEndpoints}
 use Rattle.client_calls.specs.Outcome.{Calls, Line}
 
 -- where rows are fetched is asked
-abbrev pub Asks : Wanted → Result (List EndpointSaid) Failure → Line → Line → Type 0
-Asks wanted result old new = Calls GetFlightInfo (wanted_bytes wanted ∷ [])
+abbrev pub AsksPlaces : InfoCommand → Result (List EndpointSaid) Failure → Line → Line → Type 0
+AsksPlaces wanted result old new = Calls GetFlightInfo (wanted_bytes wanted ∷ [])
     (AnswersOne (ReadsEndpoints (λ (endpoints : List EndpointSaid). endpoints))) result old new
 
 -- a stream is fetched
@@ -62,23 +63,23 @@ pub record NotJoined (endpoints : List EndpointSaid) (failure : Failure)
 
 -- where rows are fetched was asked, each stream was fetched, and the rows are those of all streams
 -- joined
-pub record IsFetched (wanted : Wanted) (rows : Table) (old new : Line) : Type 0 where
+pub record IsFetched (wanted : InfoCommand) (rows : Table) (old new : Line) : Type 0 where
   pub endpoints : List EndpointSaid
   pub middle : Line
-  pub asked : Asks wanted (Ok endpoints) old middle
+  pub asked : AsksPlaces wanted (Ok endpoints) old middle
   pub streams : List StreamAt
   pub fetched : FetchesEach endpoints streams middle new
   pub rows_are : joined streams ≡ Ok rows
 
 -- it was asked, and the rows were not fetched
-pub record IsNotFetched (wanted : Wanted) (failure : Failure) (old new : Line) : Type 0 where
+pub record IsNotFetched (wanted : InfoCommand) (failure : Failure) (old new : Line) : Type 0 where
   pub endpoints : List EndpointSaid
   pub middle : Line
-  pub asked : Asks wanted (Ok endpoints) old middle
+  pub asked : AsksPlaces wanted (Ok endpoints) old middle
   pub why : FetchStops endpoints failure middle new ⊎ NotJoined endpoints failure middle new
 
 -- the rows that are wanted, or the first failure
-abbrev pub Fetches : Wanted → Result Table Failure → Line → Line → Type 0
+abbrev pub Fetches : InfoCommand → Result Table Failure → Line → Line → Type 0
 Fetches wanted (Ok rows) old new = IsFetched wanted rows old new
 Fetches wanted (Err failure) old new =
-    Asks wanted (Err failure) old new ⊎ IsNotFetched wanted failure old new
+    AsksPlaces wanted (Err failure) old new ⊎ IsNotFetched wanted failure old new

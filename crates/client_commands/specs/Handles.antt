@@ -3,10 +3,10 @@ use Rattle.std.specs.Prelude.{◌≡◌, ◌⊎◌, List, [], ◌∷◌, Option,
 use Rattle.command_ends.specs.Network.{Ends}
 
 -- these handles of the network were asked for, one after the other
-abbrev pub SharesEach : {N : Type 0} → (N → N → N → Type 0) → List N → N → N → Type 0
-SharesEach Shares [] old new = new ≡ old
-SharesEach {N} Shares (handle ∷ handles) old new =
-    (middle : N) × Shares old handle middle × SharesEach Shares handles middle new
+abbrev pub SharesHandles : {N : Type 0} → (N → N → N → Type 0) → List N → N → N → Type 0
+SharesHandles Shares [] old new = new ≡ old
+SharesHandles {N} Shares (handle ∷ handles) old new =
+    (middle : N) × Shares old handle middle × SharesHandles Shares handles middle new
 
 -- what came of asking a handle for a connection: one of these ends, or none
 abbrev pub Giving : Type 0 → Type 1

@@ -6,17 +6,19 @@ use Rattle.std.specs.List.{flat_map}
 use Rattle.std.specs.Io.KnownBytes.{Appends}
 use Rattle.table_versions.specs.Table.{Table}
 use Rattle.flight_proto.specs.FlightInfo.{EndpointSaid}
-use Rattle.flight_proto.specs.Wanted.{Wanted}
+use Rattle.flight_proto.specs.InfoCommand.{InfoCommand}
 use Rattle.flight_client.specs.Join.{joined}
 use Rattle.flight_client.specs.Stream.{StreamAt}
-use Rattle.row_stream.specs.Stream.{numbered_schema, IsWhole}
+use Rattle.command_line.specs.declared.request.Format.{Format}
 use Rattle.client_calls.specs.declared.failure.Failure.{Failure}
 use Rattle.client_calls.specs.Outcome.{Line}
 use Rattle.command_ends.specs.Network.{Ends}
 use Rattle.command_ends.specs.Printing.{Said}
+use Rattle.client_commands.specs.Formats.{SaysAll}
 use Rattle.client_commands.specs.Lines.{opened_line}
-use Rattle.client_commands.specs.Spread.{EachGives, FetchesBy, Giving, IsAsked, IsEvenPart, IsRun}
-use Rattle.client_commands.specs.Spread.{RefusesTwice, Run, StopsEarly}
+use Rattle.client_commands.specs.ParallelFetch.{EachGives, FetchesBy, Giving, IsAsked, IsEvenPart}
+use Rattle.client_commands.specs.ParallelFetch.{IsRun}
+use Rattle.client_commands.specs.ParallelFetch.{RefusesTwice, Run, StopsEarly}
 use Rattle.client_commands.specs.Streaming.{ComeSome, Stops, WritesBroken}
 
 -- ---- what came
@@ -35,8 +37,8 @@ pub record RunsCame (many : ℕ) (lines : List Line) (endpoints rest : List Endp
 
 -- The runs of all but the last of these connections came whole. Of the run of the last one some
 -- streams came, and no more were written.
-pub record StopsAmong (many : ℕ) (lines : List Line) (endpoints : List EndpointSaid)
-    (failure : Failure) (out out' : Said) : Type 0 where
+pub record StopsAmong (format : Format) (many : ℕ) (lines : List Line)
+    (endpoints : List EndpointSaid) (failure : Failure) (out out' : Said) : Type 0 where
   pub before : List Line
   pub line : Line
   pub over : before ++ line ∷ [] ≡ lines
@@ -49,38 +51,39 @@ pub record StopsAmong (many : ℕ) (lines : List Line) (endpoints : List Endpoin
   pub some : Line
   pub came : ComeSome part more line some
   pub last : Line
-  pub why : Stops part (whole ++ more) failure line some last out out'
+  pub why : Stops format part (whole ++ more) failure line some last out out'
 
 -- ---- over the connections of handles
 
--- the first connection and those of the handles fetched streams that join, and the Arrow IPC stream
--- of their rows was written whole
-pub record IsWrittenWhole {N : Type 0} (Gives : Giving N) (first : Line) (handles : List N)
-    (endpoints : List EndpointSaid) (out out' : Said) : Type 0 where
+-- the first connection and those of the handles fetched streams that join, and their rows were
+-- written whole
+pub record IsWrittenWhole {N : Type 0} (Gives : Giving N) (format : Format) (first : Line)
+    (handles : List N) (endpoints : List EndpointSaid) (out out' : Said) : Type 0 where
   pub streams : List StreamAt
   pub over : FetchesBy Gives first handles endpoints streams
   pub table : Table
   pub rows_are : joined streams ≡ Ok table
-  pub stream : List ℕ
-  pub whole : IsWhole (numbered_schema table.schema) table.rows stream
-  pub wrote : Appends out.bytes out'.bytes stream
+  pub bytes : List ℕ
+  pub whole : SaysAll format table.schema table.rows bytes
+  pub wrote : Appends out.bytes out'.bytes bytes
   pub quiet : out'.failures ≡ out.failures
 
 -- some handles gave a connection, and it stopped over the last one of the first one and these
-pub record StopsInTurn {N : Type 0} (Gives : Giving N) (first : Line) (handles : List N)
-    (endpoints : List EndpointSaid) (failure : Failure) (out out' : Said) : Type 0 where
+pub record StopsInTurn {N : Type 0} (Gives : Giving N) (format : Format) (first : Line)
+    (handles : List N) (endpoints : List EndpointSaid) (failure : Failure)
+    (out out' : Said) : Type 0 where
   pub before : List N
   pub behind : List N
   pub some : before ++ behind ≡ handles
   pub made : List Ends
   pub given : EachGives Gives before made
-  pub stops : StopsAmong (length handles + 1)
+  pub stops : StopsAmong format (length handles + 1)
       (first ∷ map opened_line made) endpoints failure out out'
 
--- the runs of all connections before that of this handle came, and it gave none: so the stream that
--- is written breaks off
-pub record BreaksUnconnected {N : Type 0} (Gives : Giving N) (first : Line) (handles : List N)
-    (endpoints : List EndpointSaid) (out out' : Said) : Type 0 where
+-- the runs of all connections before that of this handle came, and it gave none: so what is written
+-- breaks off
+pub record BreaksUnconnected {N : Type 0} (Gives : Giving N) (format : Format) (first : Line)
+    (handles : List N) (endpoints : List EndpointSaid) (out out' : Said) : Type 0 where
   pub before : List N
   pub handle : N
   pub behind : List N
@@ -91,13 +94,13 @@ pub record BreaksUnconnected {N : Type 0} (Gives : Giving N) (first : Line) (han
   pub streams : List StreamAt
   pub runs : RunsCame (length handles + 1) (first ∷ map opened_line made) endpoints rest streams
   pub refused : RefusesTwice Gives handle
-  pub wrote : WritesBroken streams out out'
+  pub wrote : WritesBroken format streams out out'
 
 -- ---- all
 
 -- where the rows are was asked over the first connection, and a handle was made for each further
 -- one; and so much came of these
-pub record AsksFirst {N : Type 0} (Shares : N → N → N → Type 0) (streams : ℕ) (wanted : Wanted)
+pub record AsksFirst {N : Type 0} (Shares : N → N → N → Type 0) (streams : ℕ) (wanted : InfoCommand)
     (old new : N) (first last : Line) (Comes : List EndpointSaid → List N → Type 0) : Type 0 where
   pub endpoints : List EndpointSaid
   pub handles : List N
@@ -106,19 +109,20 @@ pub record AsksFirst {N : Type 0} (Shares : N → N → N → Type 0) (streams :
 
 -- the rows that are wanted are written as they come; or a failure ends it, before the rows or among
 -- them
-abbrev pub Streams : {N : Type 0} → Giving N → (N → N → N → Type 0) → ℕ → Wanted → N → N →
+abbrev pub Streams : {N : Type 0} → Giving N → (N → N → N → Type 0) → Format → ℕ → InfoCommand → N →
+    N →
     Result (Unit {0}) Failure → Line → Line → Said → Said → Type 0
-Streams Gives Shares streams wanted old new (Ok done) first last out out' =
+Streams Gives Shares format streams wanted old new (Ok done) first last out out' =
     AsksFirst Shares streams wanted old new first last
-    (λ endpoints handles. IsWrittenWhole Gives last handles endpoints out out')
-Streams Gives Shares streams wanted old new (Err failure) first last out out' =
+    (λ endpoints handles. IsWrittenWhole Gives format last handles endpoints out out')
+Streams Gives Shares format streams wanted old new (Err failure) first last out out' =
     (StopsEarly wanted failure first last × (new ≡ old) × (out' ≡ out))
     ⊎ AsksFirst Shares streams wanted old new first last
-    (λ endpoints handles. StopsInTurn Gives last handles endpoints failure out out')
+    (λ endpoints handles. StopsInTurn Gives format last handles endpoints failure out out')
 
--- a handle gave no connection, when it was asked twice, and the stream that is written breaks off
-abbrev pub StreamsUnconnected : {N : Type 0} → Giving N → (N → N → N → Type 0) → ℕ → Wanted → N →
-    N → Line → Line → Said → Said → Type 0
-StreamsUnconnected Gives Shares streams wanted old new first last out out' =
+-- a handle gave no connection, when it was asked twice, and what is written breaks off
+abbrev pub StreamsUnconnected : {N : Type 0} → Giving N → (N → N → N → Type 0) → Format → ℕ →
+    InfoCommand → N → N → Line → Line → Said → Said → Type 0
+StreamsUnconnected Gives Shares format streams wanted old new first last out out' =
     AsksFirst Shares streams wanted old new first last
-    (λ endpoints handles. BreaksUnconnected Gives last handles endpoints out out')
+    (λ endpoints handles. BreaksUnconnected Gives format last handles endpoints out out')

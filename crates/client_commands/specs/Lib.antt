@@ -1,9 +1,9 @@
-pub mod Told
-pub mod Rows
+pub mod CallOutcome
 pub mod Lines
+pub mod Formats
 pub mod Fetching
 pub mod Handles
-pub mod Spread
+pub mod ParallelFetch
 pub mod Streaming
 pub mod InTurn
 pub mod Names

@@ -8,7 +8,7 @@ use Rattle.csv_input.specs.Input.{TextAt}
 use Rattle.client_calls.specs.declared.call.Method.TheVariants.{DoPut}
 use Rattle.client_calls.specs.declared.failure.Failure.{Failure}
 use Rattle.client_calls.specs.declared.failure.Failure.TheVariants.{Found}
-use Rattle.client_calls.specs.declared.putting.Target.{Target}
+use Rattle.client_calls.specs.declared.put_call.Target.{Target}
 use Rattle.client_calls.specs.Answers.{AnswersOne}
 use Rattle.client_calls.specs.Commands.{put_payloads, ReadsCount}
 use Rattle.client_calls.specs.Outcome.{Calls, Line}

@@ -1,24 +1,26 @@
--- Rows that are written as they come, as an Arrow IPC stream: what came, what was written of it,
--- and why no more was.
+-- Rows that are written as they come: what came, what was written of it, and why no more was.
 use Rattle.std.specs.Prelude.{◌≡◌, ◌⊎◌, ◌+◌, false, List, [], ◌∷◌, ◌++◌, Some, Ok, Err}
 use Rattle.std.specs.List.{flat_map}
 use Rattle.scan_base.specs.declared.fault.Fault.{Fault}
 use Rattle.scan_base.specs.declared.fault.Fault.TheVariants.{BadBatch, LimitReached, OutOfMemory}
 use Rattle.scan_base.specs.declared.fault.Fault.TheVariants.{SchemaMismatch, Transport}
-use Rattle.arrow_schema.specs.declared.schema.Schema.{Schema}
+use Rattle.arrow_types.specs.declared.schema.Schema.{Schema}
 use Rattle.arrays.specs.Batch.{BatchAt, rows_of}
 use Rattle.ipc_batch.specs.State.{Known}
-use Rattle.ipc_batch.specs.Said.{Rows}
+use Rattle.ipc_batch.specs.SaidRows.{Rows}
 use Rattle.table_versions.specs.Table.{same_fields}
 use Rattle.flight_proto.specs.FlightInfo.{EndpointSaid}
 use Rattle.flight_client.specs.Stream.{StreamAt, schema_said}
-use Rattle.row_stream.specs.Stream.{numbered_schema, BreaksOff, HasShortRows, WritesBeginning}
+use Rattle.row_stream.specs.Stream.{numbered_schema, HasShortRows}
+use Rattle.command_line.specs.declared.request.Format.{Format}
+use Rattle.command_line.specs.declared.request.Format.TheVariants.{Arrow}
 use Rattle.client_calls.specs.declared.failure.Failure.{Failure}
 use Rattle.client_calls.specs.declared.failure.Failure.TheVariants.{Found}
 use Rattle.client_calls.specs.Outcome.{Line}
-use Rattle.client_calls.specs.Taking.{IsFetching}
+use Rattle.client_calls.specs.Taking.{IsFetchReader}
 use Rattle.command_ends.specs.Printing.{Said}
 use Rattle.client_commands.specs.Fetching.{FetchesOne, FetchStops}
+use Rattle.client_commands.specs.Formats.{BreaksRows, WritesFront}
 
 -- ---- what came
 
@@ -27,7 +29,7 @@ abbrev pub ComeSome : List EndpointSaid → List StreamAt → Line → Line → 
 ComeSome endpoints [] old new = new ≡ old
 ComeSome [] (stream ∷ streams) old new = ⊥
 ComeSome (endpoint ∷ endpoints) (stream ∷ streams) old new =
-    ((streams ≡ []) × IsFetching endpoint.ticket stream old new)
+    ((streams ≡ []) × IsFetchReader endpoint.ticket stream old new)
     ⊎ ((middle : Line) × FetchesOne endpoint (Ok stream) old middle
     × ComeSome endpoints streams middle new)
 
@@ -46,26 +48,25 @@ SaysFirst (stream ∷ streams) schema = SaysSchema stream schema
 
 -- ---- what was written of it
 
--- an Arrow IPC stream of these rows after the first schema, which says some of them and breaks off
-abbrev pub WritesBroken : List StreamAt → Said → Said → Type 0
-WritesBroken streams old new = (schema : Schema) × SaysFirst streams schema
-    × BreaksOff (numbered_schema schema)
-    (rows_held streams) old.bytes new.bytes old.failures new.failures
+-- the first schema and some of these rows, and there it breaks off
+abbrev pub WritesBroken : Format → List StreamAt → Said → Said → Type 0
+WritesBroken format streams old new = (schema : Schema) × SaysFirst streams schema
+    × BreaksRows format schema (rows_held streams) old.bytes new.bytes old.failures new.failures
 
--- no write of the rows failed: nothing was written, or a stream that breaks off
-abbrev pub WritesSome : List StreamAt → Said → Said → Type 0
-WritesSome streams old new = (new ≡ old) ⊎ WritesBroken streams old new
+-- no write of the rows failed: nothing was written, or it breaks off
+abbrev pub WritesSome : Format → List StreamAt → Said → Said → Type 0
+WritesSome format streams old new = (new ≡ old) ⊎ WritesBroken format streams old new
 
--- one failed, which is counted: a beginning of a stream was written, which says some of the rows
-abbrev pub WritesPart : List StreamAt → Said → Said → Type 0
-WritesPart streams old new = (schema : Schema) × SaysFirst streams schema
-    × WritesBeginning (numbered_schema schema) (rows_held streams) old.bytes new.bytes
+-- one failed, which is counted: a beginning was written, which says some of the rows
+abbrev pub WritesPart : Format → List StreamAt → Said → Said → Type 0
+WritesPart format streams old new = (schema : Schema) × SaysFirst streams schema
+    × WritesFront format schema (rows_held streams) old.bytes new.bytes
     × (new.failures ≡ old.failures + 1)
 
 -- what was written where this end found a fault
-abbrev pub WritesUpTo : Fault → List StreamAt → Said → Said → Type 0
-WritesUpTo Transport streams old new = WritesPart streams old new
-WritesUpTo fault streams old new = WritesSome streams old new
+abbrev pub WritesUpTo : Format → Fault → List StreamAt → Said → Said → Type 0
+WritesUpTo format Transport streams old new = WritesPart format streams old new
+WritesUpTo format fault streams old new = WritesSome format streams old new
 
 -- ---- why no more was, though no fetch failed
 
@@ -87,30 +88,30 @@ pub record SaysOther (streams : List StreamAt) : Type 0 where
   pub says : SaysSchema last other
   pub differ : same_fields schema.fields other.fields ≡ false
 
--- the last batch that came has a row that takes 2 to the 31 bytes or more after the schema that is
--- written of these columns
+-- the last batch that came has a row that takes 2 to the 31 bytes or more in an Arrow IPC stream of
+-- these columns
 pub record HasLongRow (schema : Schema) (rows : Rows) : Type 0 where
   pub before : Rows
   pub batch : BatchAt
   pub are : rows ≡ before ++ rows_of batch
   pub long : ¬ HasShortRows (numbered_schema schema) batch
 
-abbrev pub WhyNoMore : List StreamAt → Fault → Type 0
-WhyNoMore streams BadBatch = LacksSchema streams
-WhyNoMore streams SchemaMismatch = SaysOther streams
-WhyNoMore streams LimitReached =
-    (schema : Schema) × SaysFirst streams schema × HasLongRow schema (rows_held streams)
-WhyNoMore streams OutOfMemory = Unit {0}
-WhyNoMore streams Transport = Unit {0}
-WhyNoMore streams _ = ⊥
+abbrev pub WhyNoMore : Format → List StreamAt → Fault → Type 0
+WhyNoMore format streams BadBatch = LacksSchema streams
+WhyNoMore format streams SchemaMismatch = SaysOther streams
+WhyNoMore format streams LimitReached = (format ≡ Arrow)
+    × ((schema : Schema) × SaysFirst streams schema × HasLongRow schema (rows_held streams))
+WhyNoMore format streams OutOfMemory = Unit {0}
+WhyNoMore format streams Transport = Unit {0}
+WhyNoMore format streams _ = ⊥
 
 -- ---- over a connection
 
 -- The fetch of one of these endpoints failed; or there is a fault of these streams, or of writing.
 -- The streams are those that came over this connection, and before them those of others.
-abbrev pub Stops : List EndpointSaid → List StreamAt → Failure → Line → Line → Line → Said →
-    Said → Type 0
-Stops endpoints streams failure old some new out out' =
-    (FetchStops endpoints failure old new × WritesSome streams out out')
-    ⊎ ((fault : Fault) × (failure ≡ Found fault) × WhyNoMore streams fault
-    × WritesUpTo fault streams out out' × (new ≡ some))
+abbrev pub Stops : Format → List EndpointSaid → List StreamAt → Failure → Line → Line → Line →
+    Said → Said → Type 0
+Stops format endpoints streams failure old some new out out' =
+    (FetchStops endpoints failure old new × WritesSome format streams out out')
+    ⊎ ((fault : Fault) × (failure ≡ Found fault) × WhyNoMore format streams fault
+    × WritesUpTo format fault streams out out' × (new ≡ some))

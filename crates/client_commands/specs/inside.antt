@@ -1,8 +1,7 @@
 -- What only the contracts of private functions cite.
 pub mod Naming
-pub mod Parts
-pub mod Passing
+pub mod Writers
+pub mod OneStream
 pub mod Runs
-pub mod Relaying
-pub mod Forms
+pub mod Turns
 pub mod RowsSent

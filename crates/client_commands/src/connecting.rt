@@ -5,7 +5,7 @@ ghost use Rattle.grpc_frame.specs.Ends.{CanFail};
 ghost use Rattle.command_ends.specs.Network.{Ends};
 ghost use Rattle.command_ends.specs.Printing.{Prints, cause_lines, said_of};
 ghost use Rattle.client_commands.specs.Lines.{opened_line};
-ghost use Rattle.client_commands.specs.Spread.{SharesEach};
+ghost use Rattle.client_commands.specs.ParallelFetch.{SharesHandles};
 ghost use Rattle.command_ends.specs.declared.exit_status.ExitStatus.TheVariants.{FaultAtThisEnd};
 
 use client_calls::Connection;
@@ -46,7 +46,7 @@ pub(crate) fn share_each<C: Connect>(
 ) -> Result<Vec<C>, AllocError>
     ensures { MatchResult result
         (λ handles. (length handles.items ≡ most)
-        × SharesEach C.shares handles.items network.old network.new)
+        × SharesHandles C.shares handles.items network.old network.new)
         (λ _. network.new ≡ network.old) }
 {
     let mut handles = Vec::with_capacity(alloc, most)?;

@@ -2,11 +2,11 @@
 
 ghost use Rattle.command_ends.specs.Printing.{floor_line, said_of};
 ghost use Rattle.grpc_frame.specs.Ends.{CanFail};
-ghost use Rattle.client_commands.specs.Told.{Tells};
+ghost use Rattle.client_commands.specs.CallOutcome.{Tells};
 ghost use Rattle.client_commands.specs.Commands.{Expires, desk_of};
 
+use crate::call_outcome::{end_by_failure, end_by_printing};
 use crate::connecting::{end_unconnected, open};
-use crate::telling::{end_by_failure, end_by_printing};
 use client_calls::Failure;
 use command_ends::{Connect, ExitStatus, print_floor};
 use grpc_frame::Output;

@@ -3,12 +3,12 @@
 ghost use Rattle.std.specs.Prelude.{map, MatchResult};
 ghost use Rattle.grpc_frame.specs.Ends.{CanFail};
 ghost use Rattle.flight_proto.specs.FlightInfo.{endpoint_said};
-ghost use Rattle.flight_proto.specs.Wanted.{wanted_said};
+ghost use Rattle.flight_proto.specs.InfoCommand.{wanted_said};
 ghost use Rattle.client_commands.specs.Fetching.{FetchStops, Fetches, FetchesEach};
 
 use client_calls::{Connection, Failure, fetch, info};
 use flight_client::{Rows, Stream, join};
-use flight_proto::{FlightEndpoint, Wanted};
+use flight_proto::{FlightEndpoint, InfoCommand};
 use grpc_frame::{Input, Output};
 use scan_base::Fault;
 use std::alloc::Global;
@@ -28,7 +28,7 @@ const MOST_ENDPOINTS: usize = 64;
 pub(crate) fn fetch_rows<R: Input, W: Output>(
     alloc: Global,
     connection: &mut Connection<R, W>,
-    wanted: Wanted<'_>,
+    wanted: InfoCommand<'_>,
 ) -> Result<Rows, Failure>
     requires reads { CanFail (connection.old.incoming.failed) }
     requires writes { CanFail (connection.old.outgoing.failed) }

@@ -1,27 +1,30 @@
 //! The commands of a client, as functions over the network, what they read from and what they print
 //! on.
 //!
-//! `specs/Told.antt` says how a command ends by what came of its calls, `specs/Fetching.antt` how
-//! rows are fetched over one connection, and `specs/Spread.antt` how over several.
-//! `specs/Streaming.antt` says how rows are written as they come, and `specs/InTurn.antt` how over
-//! several connections. `specs/RowsPut.antt` says how the rows of CSV are put, batch by batch.
+//! `specs/CallOutcome.antt` says how a command ends by what came of its calls,
+//! `specs/Fetching.antt` how rows are fetched over one connection, and `specs/ParallelFetch.antt`
+//! how over several. `specs/Formats.antt` says what is written of rows in each format,
+//! `specs/Streaming.antt` how it is written as they come, and `specs/InTurn.antt` how over several
+//! connections. `specs/RowsPut.antt` says how the rows of CSV are put, batch by batch.
 //! `specs/Commands.antt` and `specs/Queries.antt` say what each command does.
 #![tactic(auto)]
 
-mod ahead;
-mod apart;
-mod asking;
-mod beside;
+mod call_outcome;
 mod connecting;
 pub mod expire;
+mod fetch_failure;
 mod fetching;
-mod in_turn;
-mod lost;
 mod names;
+mod next_run;
+mod parallel_work;
 pub mod put;
 pub mod query;
+mod query_places;
+mod row_writer;
 mod rows_put;
-mod spreading;
-mod streaming;
+mod run_relay;
+mod stream_relay;
+mod stream_rows;
+mod table_rows;
 pub mod tables;
-mod telling;
+mod text_rows;

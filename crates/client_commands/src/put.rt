@@ -7,15 +7,15 @@ ghost use Rattle.client_calls.specs.Answers.{AnswersOne};
 ghost use Rattle.client_calls.specs.Commands.{ReadsCount, put_payloads};
 ghost use Rattle.client_calls.specs.Outcome.{Calls};
 ghost use Rattle.command_ends.specs.Printing.{count_line, said_of};
-ghost use Rattle.command_ends.specs.Whole.{source_of};
-ghost use Rattle.client_commands.specs.Told.{Tells};
+ghost use Rattle.command_ends.specs.WholeInput.{source_of};
+ghost use Rattle.client_commands.specs.CallOutcome.{Tells};
 ghost use Rattle.client_commands.specs.Commands.{Connects, Puts, PutsCsv, desk_of};
 ghost use Rattle.client_commands.specs.RowsPut.{PutsRows};
 ghost use Rattle.csv_input.specs.Input.{form_of};
 
+use crate::call_outcome::{end_by_failure, end_by_printing};
 use crate::connecting::{end_unconnected, open};
 use crate::rows_put::put_rows;
-use crate::telling::{end_by_failure, end_by_printing};
 use client_calls::{Failure, Target};
 use command_ends::{Connect, ExitStatus, end_by_cause, end_by_fault, print_count, read_messages};
 use command_line::CsvForm;
@@ -27,7 +27,7 @@ use std::alloc::Global;
 
 /// What is put, and where the server listens.
 #[derive(Clone, Copy, Debug, PartialEq, Eq)]
-pub struct Putting<'a> {
+pub struct PutCommand<'a> {
     /// The server's port.
     pub port: u16,
     /// The table, and what becomes of it.
@@ -43,7 +43,7 @@ pub fn put<C: Connect, I: Input, W: Output, E: Output>(
     input: &mut I,
     output: &mut W,
     faults: &mut E,
-    putting: Putting<'_>,
+    putting: PutCommand<'_>,
 ) -> ExitStatus
     // Each end can count one failure more.
     requires reads { CanFail (I.failures input.old) }
@@ -69,7 +69,7 @@ pub fn put<C: Connect, I: Input, W: Output, E: Output>(
 /// What is put, where the server listens, and how its CSV is read.
 #[derive(Clone, Copy, Debug)]
 pub struct CsvPutting<'a> {
-    pub putting: Putting<'a>,
+    pub putting: PutCommand<'a>,
     pub form: CsvForm<'a>,
 }
 
@@ -112,7 +112,7 @@ fn put_text<C: Connect, W: Output, E: Output>(
     network: &mut C,
     output: &mut W,
     faults: &mut E,
-    putting: Putting<'_>,
+    putting: PutCommand<'_>,
     text: &CsvText,
 ) -> ExitStatus
     requires writes { CanFail (W.failures output.old) }
@@ -136,7 +136,7 @@ fn put_messages<C: Connect, W: Output, E: Output>(
     network: &mut C,
     output: &mut W,
     faults: &mut E,
-    putting: Putting<'_>,
+    putting: PutCommand<'_>,
     messages: &[IpcMessage],
 ) -> ExitStatus
     requires writes { CanFail (W.failures output.old) }

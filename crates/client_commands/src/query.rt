@@ -1,32 +1,29 @@
 //! `flightscan query`: the rows that a query answers.
 
-ghost use Rattle.std.specs.Prelude.{◌≡◌, Ok, option_map};
 ghost use Rattle.grpc_frame.specs.Ends.{CanFail};
 ghost use Rattle.command_ends.specs.Printing.{said_of};
-ghost use Rattle.client_commands.specs.Told.{Tells};
-ghost use Rattle.client_commands.specs.Rows.{text_of};
 ghost use Rattle.client_commands.specs.Commands.{desk_of};
 ghost use Rattle.client_commands.specs.Queries.{Queries};
-ghost use Rattle.client_commands.specs.inside.Forms.{text_in};
-ghost use Rattle.client_commands.specs.inside.Relaying.{TellsStreamed};
+ghost use Rattle.client_commands.specs.inside.Turns.{TellsStreamed};
 
+use crate::call_outcome::end_by_failure;
 use crate::connecting::{end_unconnected, open};
-use crate::in_turn::stream_rows;
-use crate::lost::Lost;
-use crate::spreading::fetch_spread;
-use crate::telling::{end_by_failure, end_by_printing};
+use crate::fetch_failure::FetchFailure;
+use crate::row_writer::RowWriter;
+use crate::run_relay::stream_rows;
+use crate::table_rows::TableWriter;
+use crate::text_rows::{LineText, RecordText, TextWriter};
 use command_ends::{Connect, ExitStatus};
 use command_line::Format;
-use flight_client::Rows;
 use grpc_frame::Output;
-use hash_seed::HashSeed;
-use row_text::{write_csv, write_rows, write_table};
+use row_stream::StreamWriter;
+use scan_base::HashSeed;
 use std::alloc::Global;
 use std::thread::Threads;
 
 /// A query, and where the server listens.
 #[derive(Clone, Copy)]
-pub struct Querying<'a> {
+pub struct QueryCommand<'a> {
     /// The server's port.
     pub port: u16,
     /// The most connections over which its rows are fetched.
@@ -40,25 +37,23 @@ pub struct Querying<'a> {
     pub seed: HashSeed,
 }
 
-/// Prints the rows that a query answers, in the order of the endpoints: a line of the columns'
-/// names, and a line for each row; or CSV, or a table for people. The endpoints are fetched over up
-/// to `streams` connections at a time. Each but the first is made in a thread of its own, and
-/// closed after its last stream; where the network gives none, it is asked once more after the
-/// endpoints before. Nothing is printed before all came.
+/// Prints the rows that a query answers, in the order of the endpoints, batch by batch as they
+/// come: a line of the columns' names, and a line for each row; or CSV, or an Arrow IPC stream. A
+/// table for people is held, and printed once all rows came.
 ///
-/// An Arrow IPC stream is written as its rows come, batch by batch, and the connections are used
-/// one after the other: while the run of one is written, the next one is made and its first stream
-/// is begun, in a thread of its own.
+/// The endpoints are fetched over up to `streams` connections, one after the other: while the run
+/// of one is printed, the next one is made and its first stream is begun, in a thread of its own.
+/// Where the network gives none, it is asked once more after the endpoints before.
 ///
 /// A fault is printed on `faults` in a line, as far as that takes it; where no connection was made,
-/// a second line says so.
+/// a second line says so. What was printed before it stays.
 pub fn query<T: Threads, C: Connect + Drop + Send, W: Output, E: Output>(
     rt: &T,
     alloc: Global,
     network: &mut C,
     output: &mut W,
     faults: &mut E,
-    query: Querying<'_>,
+    query: QueryCommand<'_>,
 ) -> ExitStatus
 where
     C::Reader: Send,
@@ -74,69 +69,47 @@ where
         (desk_of (said_of W.Output output.old) (said_of E.Output faults.old))
         (desk_of (said_of W.Output output.new) (said_of E.Output faults.new)) }
 {
+    match query.format {
+        Format::Lines => {
+            query_by::<_, _, _, _, TextWriter<LineText>>(rt, alloc, network, output, faults, query)
+        }
+        Format::Csv => query_by::<_, _, _, _, TextWriter<RecordText>>(
+            rt, alloc, network, output, faults, query,
+        ),
+        Format::Table => {
+            query_by::<_, _, _, _, TableWriter>(rt, alloc, network, output, faults, query)
+        }
+        Format::Arrow => {
+            query_by::<_, _, _, _, StreamWriter>(rt, alloc, network, output, faults, query)
+        }
+    }
+}
+
+// Prints the rows that a query answers in the format of a writer.
+fn query_by<T: Threads, C: Connect + Drop + Send, W: Output, E: Output, F: RowWriter>(
+    rt: &T,
+    alloc: Global,
+    network: &mut C,
+    output: &mut W,
+    faults: &mut E,
+    query: QueryCommand<'_>,
+) -> ExitStatus
+where
+    C::Reader: Send,
+    C::Writer: Send,
+    requires writes { CanFail (W.failures output.old) }
+    requires prints { CanFail (E.failures faults.old) }
+    ensures { Queries (λ old ends new. C.connects old query.entry.port ends new) C.shares
+        query.entry.streams query.entry.sql.now F.format network.old network.new result
+        (desk_of (said_of W.Output output.old) (said_of E.Output faults.old))
+        (desk_of (said_of W.Output output.new) (said_of E.Output faults.new)) }
+{
     let connection = match open(alloc, network, query.port) {
         Ok(connection) => connection,
         Err(error) => return end_unconnected(alloc, faults, query.port, &error),
     };
-    let Some(form) = text_form(query.format) else {
-        let streamed = stream_rows(rt, alloc, network, connection, output, query);
-        return end_by_streaming(alloc, faults, query.port, streamed);
-    };
-    match fetch_spread(rt, alloc, network, connection, query) {
-        Ok(rows) => tell_rows(alloc, output, faults, form, &rows),
-        Err(Lost::Failed(failure)) => end_by_failure(faults, failure),
-        Err(Lost::Unconnected(error)) => end_unconnected(alloc, faults, query.port, &error),
-    }
-}
-
-// A format that is printed once all rows came.
-#[derive(Clone, Copy, Debug, PartialEq, Eq)]
-enum TextForm {
-    Lines,
-    Csv,
-    Table,
-}
-
-// The form of a text, or nothing where rows are written as they come.
-fn text_form(format: Format) -> Option<TextForm>
-    ensures { option_map text_in result ≡ text_of format }
-{
-    match format {
-        Format::Lines => Some(TextForm::Lines),
-        Format::Csv => Some(TextForm::Csv),
-        Format::Table => Some(TextForm::Table),
-        Format::Arrow => None,
-    }
-}
-
-// Tells rows in a form.
-fn tell_rows<W: Output, E: Output>(
-    alloc: Global,
-    output: &mut W,
-    faults: &mut E,
-    form: TextForm,
-    rows: &Rows,
-) -> ExitStatus
-    requires writes { CanFail (W.failures output.old) }
-    requires prints { CanFail (E.failures faults.old) }
-    ensures { Tells (text_in form) (Ok rows.now) result
-        (said_of W.Output output.old) (said_of W.Output output.new)
-        (said_of E.Output faults.old) (said_of E.Output faults.new) }
-{
-    match form {
-        TextForm::Lines => {
-            let printed = write_rows(alloc, rows.schema(), rows.batches(), output);
-            end_by_printing(faults, printed)
-        }
-        TextForm::Csv => {
-            let printed = write_csv(alloc, rows.schema(), rows.batches(), output);
-            end_by_printing(faults, printed)
-        }
-        TextForm::Table => {
-            let printed = write_table(alloc, rows.schema(), rows.batches(), output);
-            end_by_printing(faults, printed)
-        }
-    }
+    let streamed = stream_rows::<_, _, _, F>(rt, alloc, network, connection, output, query);
+    end_by_streaming(alloc, faults, query.port, streamed)
 }
 
 // Tells why rows were not written whole, if so.
@@ -144,7 +117,7 @@ fn end_by_streaming<E: Output>(
     alloc: Global,
     faults: &mut E,
     port: u16,
-    streamed: Result<(), Lost>,
+    streamed: Result<(), FetchFailure>,
 ) -> ExitStatus
     requires { CanFail (E.failures faults.old) }
     ensures { TellsStreamed streamed result (said_of E.Output faults.old)
@@ -152,7 +125,7 @@ fn end_by_streaming<E: Output>(
 {
     match streamed {
         Ok(()) => ExitStatus::Done,
-        Err(Lost::Failed(failure)) => end_by_failure(faults, failure),
-        Err(Lost::Unconnected(error)) => end_unconnected(alloc, faults, port, &error),
+        Err(FetchFailure::Failed(failure)) => end_by_failure(faults, failure),
+        Err(FetchFailure::Unconnected(error)) => end_unconnected(alloc, faults, port, &error),
     }
 }

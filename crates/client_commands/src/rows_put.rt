@@ -3,12 +3,12 @@
 ghost use Rattle.std.specs.Prelude.{◌≡◌, [], MatchResult};
 ghost use Rattle.grpc_frame.specs.Ends.{CanFail};
 ghost use Rattle.client_calls.specs.Outcome.{Line};
-ghost use Rattle.client_calls.specs.declared.putting.Target.{Target};
+ghost use Rattle.client_calls.specs.declared.put_call.Target.{Target};
 ghost use Rattle.client_commands.specs.Lines.{CanCount};
 ghost use Rattle.client_commands.specs.RowsPut.{FailsRows, PutsRows};
 ghost use Rattle.client_commands.specs.inside.RowsSent.{HaveSent};
 
-use client_calls::{Connection, Failure, Putting, Target};
+use client_calls::{Connection, Failure, PutWriter, Target};
 use csv_input::CsvText;
 use grpc_frame::{Input, Output};
 use std::alloc::Global;
@@ -41,19 +41,19 @@ fn begin_rows<R: Input + Drop, W: Output + Drop>(
     connection: Connection<R, W>,
     target: Target<'_>,
     text: &CsvText,
-) -> Result<Putting<R, W>, Failure>
+) -> Result<PutWriter<R, W>, Failure>
     requires { CanFail (connection.outgoing.failed) }
     ensures { MatchResult result (λ putting. HaveSent target.entry text.now [] connection putting)
         (λ failure. (last : Line) × FailsRows target.entry text.now failure connection last) }
 {
     let first = text.schema_message(alloc)?;
-    Putting::begin(alloc, connection, target, &first)
+    PutWriter::begin(alloc, connection, target, &first)
 }
 
 // Sends the messages of all rows, each as it is made.
 fn send_rows<R: Input + Drop, W: Output + Drop>(
     alloc: Global,
-    putting: &mut Putting<R, W>,
+    putting: &mut PutWriter<R, W>,
     text: &CsvText,
 ) -> Result<(), Failure>
     requires { CanFail (putting.old.line.outgoing.failed) }

@@ -4,16 +4,16 @@ ghost use Rattle.command_ends.specs.Printing.{said_of};
 ghost use Rattle.std.specs.List.{flat_map};
 ghost use Rattle.grpc_frame.specs.Ends.{CanFail};
 ghost use Rattle.row_text.specs.Lines.{name_line};
-ghost use Rattle.client_commands.specs.Told.{Tells};
+ghost use Rattle.client_commands.specs.CallOutcome.{Tells};
 ghost use Rattle.client_commands.specs.Commands.{FetchesNames, ListsTables, desk_of};
 
+use crate::call_outcome::{end_by_failure, end_by_printing};
 use crate::connecting::{end_unconnected, open};
 use crate::fetching::fetch_rows;
 use crate::names::names_of;
-use crate::telling::{end_by_failure, end_by_printing};
 use client_calls::{Connection, Failure};
 use command_ends::{Connect, ExitStatus};
-use flight_proto::Wanted;
+use flight_proto::InfoCommand;
 use grpc_frame::{Input, Output};
 use row_text::write_names;
 use scan_base::Text;
@@ -78,6 +78,6 @@ fn fetch_names<R: Input, W: Output>(
     requires writes { CanFail (connection.old.outgoing.failed) }
     ensures { FetchesNames (λ names. names.items) result connection.old connection.new }
 {
-    let rows = fetch_rows(alloc, connection, Wanted::Tables)?;
+    let rows = fetch_rows(alloc, connection, InfoCommand::Tables)?;
     Ok(names_of(alloc, &rows)?)
 }

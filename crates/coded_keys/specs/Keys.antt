@@ -7,8 +7,8 @@ use Rattle.arrays.specs.Batch.{BatchAt, row_of}
 use Rattle.coded_keys.specs.declared.rows.KeyRows.{KeyRows}
 
 -- the values of the key in the row at a place of the list
-abbrev pub key_at : KeyRows → ℕ → List Value
-key_at keys place =
+abbrev pub key_at_place : KeyRows → ℕ → List Value
+key_at_place keys place =
     map (cell_in (row_of keys.batch.now.columns (get_or keys.rows.now place 0))) keys.columns.now
 
 -- the value at a place of the key in a row of a batch

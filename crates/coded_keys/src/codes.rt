@@ -3,13 +3,10 @@
 ghost use Rattle.std.specs.Prelude.{◌≡◌, ◌<◌, ◌+◌, true};
 ghost use Rattle.scan_base.specs.Value.{value_of};
 ghost use Rattle.arrays.specs.Column.{slot_of};
-ghost use Rattle.arrays.specs.Number.{integer_at};
-ghost use Rattle.arrays.specs.Validity.{is_valid};
 ghost use Rattle.arrays.specs.declared.layout.Layout.TheVariants as layout;
 ghost use Rattle.coded_keys.specs.Codes.{code_of, layout_code};
 
-use arrays::{Cells, Column, Element, Indices, Layout};
-use arrow_schema::IntegerType;
+use arrays::{Cells, Column, Indices, Layout};
 use scan_base::ValueRef;
 use std::hash::{DefaultHasher, Hash, Hasher};
 
@@ -31,41 +28,11 @@ fn index_at<'a>(cells: &Indices<'a>, slot: usize) -> ValueRef<'a>
     requires { slot < cells.now.len }
     ensures { value_of result ≡ layout_code (layout.Indices cells.now) slot }
 {
-    if is_valid(cells, slot) {
-        ValueRef::Int(packed_index(cells, slot))
+    let _count = cells.len();
+    if cells.validity().is_valid(slot) {
+        ValueRef::Int(cells.index_at(slot))
     } else {
         ValueRef::Null
-    }
-}
-
-// Whether the validity bit of a slot says that it is valid: each is, where there are no bits.
-fn is_valid(cells: &Indices<'_>, slot: usize) -> bool
-    requires { slot < cells.now.len }
-    ensures { result ≡ is_valid cells.now.validity slot }
-{
-    let _count = cells.len();
-    match cells.validity() {
-        Some(bits) => bits.get(slot),
-        None => true,
-    }
-}
-
-// The number that is the index of a slot.
-fn packed_index(cells: &Indices<'_>, slot: usize) -> i128
-    requires { slot < cells.now.len }
-    ensures { result ≡ integer_at cells.now.index cells.now.values slot }
-{
-    let _count = cells.len();
-    let values = cells.values();
-    match cells.index_type() {
-        IntegerType::Int8 => i128::from(i8::read(values, slot)),
-        IntegerType::Int16 => i128::from(i16::read(values, slot)),
-        IntegerType::Int32 => i128::from(i32::read(values, slot)),
-        IntegerType::Int64 => i128::from(i64::read(values, slot)),
-        IntegerType::UInt8 => i128::from(u8::read(values, slot)),
-        IntegerType::UInt16 => i128::from(u16::read(values, slot)),
-        IntegerType::UInt32 => i128::from(u32::read(values, slot)),
-        IntegerType::UInt64 => i128::from(u64::read(values, slot)),
     }
 }
 

@@ -6,9 +6,9 @@ mod codes;
 pub mod key_part;
 pub mod numbers;
 pub mod rows;
-pub mod seen;
+pub mod seen_rows;
 
 pub use crate::key_part::KeyPart;
 pub use crate::numbers::{SeenNumber, SeenNumbers};
 pub use crate::rows::KeyRows;
-pub use crate::seen::SeenRows;
+pub use crate::seen_rows::SeenRows;

@@ -3,11 +3,10 @@
 ghost use Rattle.std.specs.Prelude.{◌≡◌, ℕ, [], List, Option, Some, IfOk, IfSome};
 ghost use Rattle.scan_base.specs.declared.value.Value.{Value};
 ghost use Rattle.arrays.specs.Batch.{BatchAt};
-ghost use Rattle.coded_keys.specs.Numbers.{AreFree, AreNumbers, IsNumber, value_in};
+ghost use Rattle.coded_keys.specs.Numbers.{AreFree, AreNumbers, IsSeenNumber, value_in};
 
 use crate::key_part::KeyPart;
-use hash_seed::HashSeed;
-use scan_base::ValueRef;
+use scan_base::{HashSeed, ValueRef};
 use std::alloc::{AllocError, Global};
 use std::hash::{BuildHasher, Hasher};
 
@@ -159,7 +158,7 @@ impl SeenNumbers {
     fn entry(&self, place: usize) -> Option<SeenNumber>
         ensures { (numbers : Value → Option ℕ) (batch : BatchAt) (columns : List ℕ) →
             AreNumbers numbers batch columns self.now.places.items →
-            IfSome result (IsNumber numbers batch columns) }
+            IfSome result (IsSeenNumber numbers batch columns) }
     {
         let at = place & self.places.len().saturating_sub(1);
         if at < self.places.len() {

@@ -21,7 +21,7 @@ pub struct KeyRows<'a> {
 }
 
 impl<'a> KeyRows<'a> {
-    ghost use Rattle.coded_keys.specs.Keys.{key_at};
+    ghost use Rattle.coded_keys.specs.Keys.{key_at_place};
 
     /// Whether a column of the key has indices into a dictionary.
     pub fn has_codes(&self) -> bool {
@@ -51,7 +51,7 @@ impl<'a> KeyRows<'a> {
     pub(crate) fn are_alike(&self, place: usize, other: usize) -> bool
         requires place { place < length self.now.rows.now }
         requires other { other < length self.now.rows.now }
-        ensures { result ≡ true → key_at self.now place ≡ key_at self.now other }
+        ensures { result ≡ true → key_at_place self.now place ≡ key_at_place self.now other }
     {
         for part in 0..self.columns.len() {
             if !self.is_alike(part, place, other) {
@@ -67,7 +67,8 @@ impl<'a> KeyRows<'a> {
         requires place { place < length self.now.rows.now }
         requires other { other < length self.now.rows.now }
         ensures { result ≡ true →
-            get_or (key_at self.now place) part Null ≡ get_or (key_at self.now other) part Null }
+            get_or (key_at_place self.now place) part Null
+            ≡ get_or (key_at_place self.now other) part Null }
     {
         let columns = self.batch.columns();
         have_one_code(

@@ -1,7 +1,7 @@
 //! Columns that rows describe, and the buffers as which they are written.
 
 ghost use Rattle.std.specs.Prelude.{◌<◌, length};
-ghost use Rattle.array_buffers.specs.Written.{buffers_written};
+ghost use Rattle.array_buffers.specs.ColumnBuffers.{buffers_written};
 
 mod by_rule;
 mod case;
@@ -11,7 +11,7 @@ mod places;
 mod turns;
 
 use crate::columns::by_rule::column_by_rule;
-use crate::columns::case::Case;
+use crate::columns::case::ColumnCase;
 use crate::columns::coding::codings;
 use crate::columns::layouts::layout;
 use crate::columns::places::gather_every;
@@ -19,8 +19,7 @@ use crate::columns::turns::column_of_turns;
 use anyhow::{Result, bail};
 use array_buffers::{append_buffer, buffer_count, buffer_length, texts_length};
 use arrays::{Batch, Cells, Column};
-use hash_seed::HashSeed;
-use scan_base::ValueRef;
+use scan_base::{HashSeed, ValueRef};
 use std::alloc::{AllocError, Global};
 use told_rows::push_value;
 
@@ -55,7 +54,7 @@ fn batch_of(alloc: Global, row: &str) -> Result<Batch> {
     if let Some(words) = row.strip_prefix("Slots ") {
         return Ok(one_column(alloc, column_of_turns(alloc, words)?)?);
     }
-    let case = Case::read(row)?;
+    let case = ColumnCase::read(row)?;
     let whole = one_column(alloc, Column::new(layout(alloc, &case)?))?;
     if case.from > case.to || case.to > whole.rows() {
         bail!("slots that are not there");

@@ -9,7 +9,7 @@ mod pieces;
 
 use crate::messages::Messages;
 use anyhow::Result;
-use hash_seed::HashSeed;
+use scan_base::HashSeed;
 use std::alloc::Global;
 
 // The answer of the room that a row is for: lines, each of which ends with LF. A row of CSV has

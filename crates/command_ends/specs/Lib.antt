@@ -1,5 +1,5 @@
 pub mod Status
 pub mod Network
 pub mod Printing
-pub mod Whole
+pub mod WholeInput
 pub mod inside

@@ -4,13 +4,13 @@ use Rattle.std.specs.Fmt.{decimal}
 use Rattle.std.specs.Io.KnownBytes.{Appends}
 use Rattle.scan_base.specs.declared.fault.Fault.{Fault}
 use Rattle.scan_base.specs.declared.fault.Fault.TheVariants.{Transport}
-use Rattle.scan_base.specs.Fault.{text_of}
+use Rattle.scan_base.specs.Fault.{fault_text}
 use Rattle.grpc_frame.specs.Ends.{AppendsBeginning}
 use Rattle.grpc_frame.specs.declared.ends.Output.{Ghosts as OutputMembers}
 
 -- the line that says a fault
 abbrev pub fault_line : Fault → List ℕ
-fault_line fault = codes "fault: " ++ text_of fault ++ 10 ∷ []
+fault_line fault = codes "fault: " ++ fault_text fault ++ 10 ∷ []
 
 -- the line of F22, and a line that says what failed
 abbrev pub cause_lines : List ℕ → List ℕ
@@ -30,7 +30,7 @@ listening_line port = codes "listening 127.0.0.1:" ++ decimal port ++ codes "\n"
 
 -- that the line of a port was printed: the port, and what the output held right after the line,
 -- where that is known
-pub record AnnouncedAt : Type 0 where
+pub record PortLineAt : Type 0 where
   pub port : ℕ
   pub held : Option (List ℕ)
 

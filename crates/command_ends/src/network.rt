@@ -1,8 +1,8 @@
 //! The network, as commands see it: sockets in the program, and ends in memory in tests.
 
 use crate::accept_failure::AcceptFailure;
-use crate::known::Known;
-use crate::printing::Announced;
+use crate::printing::PortLine;
+use crate::seat_view::SeatView;
 use grpc_frame::{Input, Output};
 use std::io;
 
@@ -45,7 +45,7 @@ pub trait Connect {
 /// (`due`). Each other one is taken when the one before it was served as it is owed, and is closed.
 /// The listener is shown the seat at each accept and at each closing: so what was done for it is
 /// one chain, from a seat that had seen nothing, without an end.
-pub trait Listen<K: Known> {
+pub trait Listen<K: SeatView> {
     ghost use Rattle.std.specs.Prelude.{◌≡◌, ◌+◌, ℕ, List, Option, Some, None, Result, Ok, Err};
     ghost use Rattle.std.specs.Prelude.{IfErr, IfOk};
     ghost use Rattle.command_ends.specs.Network.{Accepting, Ends, ends_of};
@@ -147,7 +147,7 @@ pub trait Listen<K: Known> {
     /// Why there is none. No connection is open then.
     fn accept(
         &mut self,
-        announced: &Announced,
+        announced: &PortLine,
         seat: &K,
     ) -> Result<(Self::Reader, Self::Writer), AcceptFailure>
         requires announced { announced.now.port ≡ port_of self.old }

@@ -1,13 +1,13 @@
 //! Lines that commands print.
 
-ghost use Rattle.std.specs.Prelude.{◌≡◌, ◌++◌, IfOk};
+ghost use Rattle.std.specs.Prelude.{◌≡◌, ◌++◌, [], IfOk};
 ghost use Rattle.std.specs.Fmt.{decimal};
 ghost use Rattle.grpc_frame.specs.Ends.{CanFail, CountsFailure, FailsByTransport, Writes};
-ghost use Rattle.grpc_frame.specs.Sending.{Sends};
+ghost use Rattle.grpc_frame.specs.Outgoing.{SendsAll};
 ghost use Rattle.command_ends.specs.Printing.{count_line, floor_line, listening_line};
 
 use crate::snapshot::Snapshot;
-use grpc_frame::{Outbox, Output};
+use grpc_frame::{Output, Sender};
 use itoa::Buffer;
 use scan_base::Fault;
 use std::alloc::Global;
@@ -16,15 +16,15 @@ use std::marker::Model;
 /// That the line of a port was printed: only `print_listening` makes one. A contract sees the port,
 /// and what the output held right after the line.
 #[derive(Drop)]
-pub struct Announced {
+pub struct PortLine {
     port: u16,
     output: Snapshot,
 }
 
-impl Model for Announced {
-    ghost use Rattle.command_ends.specs.Printing.{AnnouncedAt};
+impl Model for PortLine {
+    ghost use Rattle.command_ends.specs.Printing.{PortLineAt};
 
-    ghost Value = { AnnouncedAt };
+    ghost Value = { PortLineAt };
 
     ghost view = { λ announced. record { port = announced.port; held = announced.output.bytes } };
 }
@@ -34,6 +34,7 @@ impl Model for Announced {
 /// # Errors
 ///
 /// `Fault::Transport` where a write failed. It is counted, and a beginning of the line is written.
+#[tactic(auto, using(grpc_frame::proofs::Outgoing::ended))]
 pub fn print_count<W: Output>(alloc: Global, output: &mut W, rows: u64) -> Result<(), Fault>
     requires { CanFail (W.failures output.old) }
     ensures bytes { Writes result (W.contents output.old) (W.contents output.new)
@@ -41,9 +42,10 @@ pub fn print_count<W: Output>(alloc: Global, output: &mut W, rows: u64) -> Resul
     ensures counted { CountsFailure result (W.failures output.old) (W.failures output.new) }
     ensures kind { FailsByTransport result }
 {
-    let mut outbox = Outbox::new(alloc);
-    send_number(&mut outbox, output, rows, b" rows\n")?;
-    outbox.flush(output)
+    let mut sender = Sender::new(alloc, output);
+    let written = write_number(&mut sender, rows, b" rows\n");
+    sender.end();
+    written
 }
 
 /// Prints the port that is listened to, in a line.
@@ -51,11 +53,12 @@ pub fn print_count<W: Output>(alloc: Global, output: &mut W, rows: u64) -> Resul
 /// # Errors
 ///
 /// `Fault::Transport` where a write failed. It is counted, and a beginning of the line is written.
+#[tactic(auto, using(grpc_frame::proofs::Outgoing::ended))]
 pub fn print_listening<W: Output>(
     alloc: Global,
     output: &mut W,
     port: u16,
-) -> Result<Announced, Fault>
+) -> Result<PortLine, Fault>
     requires { CanFail (W.failures output.old) }
     ensures bytes { Writes result (W.contents output.old) (W.contents output.new)
         (listening_line port) }
@@ -64,26 +67,24 @@ pub fn print_listening<W: Output>(
     ensures port { IfOk result (λ announced. announced.port ≡ port) }
     ensures held { IfOk result (λ announced. announced.held ≡ W.contents output.new) }
 {
-    let mut outbox = Outbox::new(alloc);
-    send_listening(&mut outbox, output, port)?;
-    outbox.flush(output)?;
-    Ok(Announced {
+    let mut sender = Sender::new(alloc, output);
+    let written = write_listening(&mut sender, port);
+    sender.end();
+    written?;
+    Ok(PortLine {
         port,
         output: Snapshot::of(output),
     })
 }
 
-// Sends the line of the port.
-#[tactic(auto, using(grpc_frame::proofs::Sending::sending))]
-fn send_listening<W: Output>(outbox: &mut Outbox, output: &mut W, port: u16) -> Result<(), Fault>
-    requires { CanFail (W.failures output.old) }
-    ensures bytes { Sends result (W.contents output.old) (W.contents output.new)
-        outbox.old outbox.new (listening_line port) }
-    ensures counted { CountsFailure result (W.failures output.old) (W.failures output.new) }
-    ensures kind { FailsByTransport result }
+// Writes the line of the port.
+#[tactic(auto, using(grpc_frame::proofs::Outgoing::outgoing))]
+fn write_listening<W: Output>(sender: &mut Sender<'_, W>, port: u16) -> Result<(), Fault>
+    ensures bytes { SendsAll result sender.old sender.new (listening_line port) }
+    ensures written { sender.new.waiting ≡ [] }
 {
-    outbox.send_part(output, b"listening 127.0.0.1:")?;
-    send_number(outbox, output, u64::from(port), b"\n")
+    sender.send_part(b"listening 127.0.0.1:")?;
+    write_number(sender, u64::from(port), b"\n")
 }
 
 /// Prints the number of the oldest version that is not expired, in a line.
@@ -91,6 +92,7 @@ fn send_listening<W: Output>(outbox: &mut Outbox, output: &mut W, port: u16) -> 
 /// # Errors
 ///
 /// `Fault::Transport` where a write failed. It is counted, and a beginning of the line is written.
+#[tactic(auto, using(grpc_frame::proofs::Outgoing::ended))]
 pub fn print_floor<W: Output>(alloc: Global, output: &mut W, floor: u64) -> Result<(), Fault>
     requires { CanFail (W.failures output.old) }
     ensures bytes { Writes result (W.contents output.old) (W.contents output.new)
@@ -98,38 +100,32 @@ pub fn print_floor<W: Output>(alloc: Global, output: &mut W, floor: u64) -> Resu
     ensures counted { CountsFailure result (W.failures output.old) (W.failures output.new) }
     ensures kind { FailsByTransport result }
 {
-    let mut outbox = Outbox::new(alloc);
-    send_floor(&mut outbox, output, floor)?;
-    outbox.flush(output)
+    let mut sender = Sender::new(alloc, output);
+    let written = write_floor(&mut sender, floor);
+    sender.end();
+    written
 }
 
-// Sends the line of a floor.
-#[tactic(auto, using(grpc_frame::proofs::Sending::sending))]
-fn send_floor<W: Output>(outbox: &mut Outbox, output: &mut W, floor: u64) -> Result<(), Fault>
-    requires { CanFail (W.failures output.old) }
-    ensures bytes { Sends result (W.contents output.old) (W.contents output.new)
-        outbox.old outbox.new (floor_line floor) }
-    ensures counted { CountsFailure result (W.failures output.old) (W.failures output.new) }
-    ensures kind { FailsByTransport result }
+// Writes the line of a floor.
+#[tactic(auto, using(grpc_frame::proofs::Outgoing::outgoing))]
+fn write_floor<W: Output>(sender: &mut Sender<'_, W>, floor: u64) -> Result<(), Fault>
+    ensures bytes { SendsAll result sender.old sender.new (floor_line floor) }
+    ensures written { sender.new.waiting ≡ [] }
 {
-    outbox.send_part(output, b"floor ")?;
-    send_number(outbox, output, floor, b"\n")
+    sender.send_part(b"floor ")?;
+    write_number(sender, floor, b"\n")
 }
 
-// Sends a number in decimal, and what stands after it.
-#[tactic(auto, using(grpc_frame::proofs::Sending::sending))]
-fn send_number<W: Output>(
-    outbox: &mut Outbox,
-    output: &mut W,
+// Writes a number in decimal, and what stands after it.
+#[tactic(auto, using(grpc_frame::proofs::Outgoing::outgoing))]
+fn write_number<W: Output>(
+    sender: &mut Sender<'_, W>,
     number: u64,
     behind: &[u8],
 ) -> Result<(), Fault>
-    requires { CanFail (W.failures output.old) }
-    ensures bytes { Sends result (W.contents output.old) (W.contents output.new)
-        outbox.old outbox.new (decimal number ++ behind.now) }
-    ensures counted { CountsFailure result (W.failures output.old) (W.failures output.new) }
-    ensures kind { FailsByTransport result }
+    ensures bytes { SendsAll result sender.old sender.new (decimal number ++ behind.now) }
+    ensures written { sender.new.waiting ≡ [] }
 {
-    outbox.send_part(output, Buffer::new().format(number).as_bytes())?;
-    outbox.send_part(output, behind)
+    sender.send_parts(Buffer::new().format(number).as_bytes(), behind)?;
+    sender.flush()
 }

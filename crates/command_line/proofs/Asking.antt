@@ -1,14 +1,13 @@
 -- What words ask for.
 use Rattle.std.proofs.Common.{◌≡◌, ◌∙◌, ap, ap₂, refl, sym, false, true, inl, inr, Bool, List, [], ◌∷◌, Option, Some, None, Box, Result, Err, subst, option_map, unwrap_or, Bor}
 use Rattle.std.proofs.lemmas.Option.{none-some, same_Some}
-use Rattle.clap.specs.Words.{App, FailsBy, HasKind, Kinds, HasMatchesOf, IsParsedFrom, kind_of, Row, Text, app_of, fault_of, has_subcommand, subcommand_of, subcommand_rows, is_simple, is_simple_and_free}
+use Rattle.clap.specs.Words.{App, FailsBy, HasKind, Kinds, HasMatchesOf, kind_of, Row, Text, app_of, fault_of, subcommand_of, subcommand_rows, is_simple, is_simple_and_free}
 use Rattle.std.specs.Prelude.{◌&&◌, codes, if◌then◌else◌}
 use Rattle.std.specs.Str.{bytes_eq}
 use Rattle.clap.specs.declared.error.kind.ErrorKind.TheVariants.{ArgumentConflict}
 use Rattle.clap.specs.Kinds.{or_else}
 use Rattle.clap.specs.Matches.{subcommand_name_of}
 use Rattle.clap.specs.declared.builder.command.Command.{Command}
-use Rattle.clap.specs.declared.builder.command.Command.TheViews.{out-Command}
 use Rattle.clap.specs.declared.error.Error.{Error}
 use Rattle.clap.specs.declared.parser.matches.ArgMatches.{ArgMatches}
 use Rattle.clap.specs.declared.parser.matches.ArgMatches.TheViews.{out-ArgMatches, out-SubCommand}
@@ -98,13 +97,3 @@ pub asked : (parsers : Parsers) (words : List Text) (command : Command) (matches
 asked parsers words command matches name rows request is has named given asks =
     let found = named_by parsers words command matches name rows is has named given in
     rw found asks
-
-pub not_both : (met : Bool) → false ≡ met → met ≡ true → ⊥
-not_both met lacks has = cc
-
--- a command has to be given
-pub not_bare : (command : Command) (parsers : Parsers) (matches : ArgMatches) → app_of command ≡ program parsers → (out-Command command).has_globals ≡ false
-    → IsParsedFrom command matches → has_subcommand matches ≡ true
-not_bare command parsers matches is local parsed =
-    let required : (out-Command command).subcommand_required ≡ true = ap (λ (a : App). a.top.subcommand_required) is in
-    (parsed.parsed (parsed.from.globals ∙ local)).checked.subcommand (parsed.from.needs_subcommand ∙ required)

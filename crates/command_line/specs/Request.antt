@@ -19,7 +19,7 @@ use Rattle.command_line.specs.declared.request.Format.{Format}
 use Rattle.command_line.specs.declared.request.Format.TheVariants.{Lines, Arrow, Csv, Table}
 use Rattle.command_line.specs.declared.request.PutForm.{PutForm}
 use Rattle.command_line.specs.declared.request.PutForm.TheVariants.{Arrow as Stream, Csv as Records}
-use Rattle.command_line.specs.declared.request.Serving.{Serving}
+use Rattle.command_line.specs.declared.request.ServeOptions.{ServeOptions}
 use Rattle.command_line.specs.declared.request.Request.{Request}
 use Rattle.command_line.specs.declared.request.Request.TheVariants.{Pipe, Serve, Put, Query, Tables}
 use Rattle.command_line.specs.declared.request.Request.TheVariants.{Expire}
@@ -71,7 +71,7 @@ is_misused rows = not (is_csv rows)
     && (is_some (first_of (codes "columns") rows) || flag_given rows (codes "header"))
 
 -- how `serve` with these options serves
-pub record IsServing (rows : List Row) (serving : Serving) : Type 0 where
+pub record AreServeOptions (rows : List Row) (serving : ServeOptions) : Type 0 where
   pub port : IsGiven rows (codes "port") port_taken serving.port
   pub seats : IsGiven rows (codes "seats") seats_taken serving.seats
   pub accept : IsGiven rows (codes "accept") accept_taken serving.accept
@@ -87,7 +87,7 @@ Asks (name, rows) (Pipe parts workers) =
     (name ≢ codes "serve") × (name ≢ codes "put") × (name ≢ codes "query") × (name ≢ codes "tables")
     × (name ≢ codes "expire") × IsGiven rows (codes "parts") parts_taken parts
     × IsGiven rows (codes "workers") workers_taken workers
-Asks (name, rows) (Serve serving) = (name ≡ codes "serve") × IsServing rows serving
+Asks (name, rows) (Serve serving) = (name ≡ codes "serve") × AreServeOptions rows serving
 Asks (name, rows) (Put port table mode form progress) =
     (name ≡ codes "put") × IsGiven rows (codes "port") port_taken port
     × (table.now ≡ text_given rows (codes "table"))

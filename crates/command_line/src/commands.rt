@@ -48,7 +48,7 @@ fn version<'a>(alloc: Global) -> Arg<'a>
     ensures rule { rule_of result ≡ line.version_rule }
     ensures local { result.global ≡ false }
 {
-    let help = "The oldest version that is kept";
+    let help = "The oldest version to keep";
     number_option(alloc, "version", VERSION, "V", help).required(true)
 }
 
@@ -68,9 +68,9 @@ fn mode<'a>(alloc: Global, names: &'a [&'a str]) -> Arg<'a>
 
 // What help says of the formats of `query`, and of the forms of what `put` reads.
 const FORMATS_HELP: &str =
-    "lines: cells apart by tabs; table: aligned; csv: as RFC 4180; arrow: an Arrow IPC stream [default: lines]";
+    "lines: tabs between cells; table: aligned; csv: RFC 4180; arrow: IPC stream [default: lines]";
 
-const FORMS_HELP: &str = "arrow: an Arrow IPC stream; csv: as RFC 4180 [default: arrow]";
+const FORMS_HELP: &str = "arrow: IPC stream; csv: RFC 4180 [default: arrow]";
 
 // The option `--format`, of these names.
 fn format<'a>(alloc: Global, names: &'a [&'a str], help: &'a str) -> Arg<'a>
@@ -94,9 +94,7 @@ fn columns<'a>(alloc: Global) -> Arg<'a>
         .long("columns")
         .action(ArgAction::Set)
         .value_name("C")
-        .help(
-            "The columns of CSV, as 'id:int64, town:utf8?' [default: found, and printed on standard error]",
-        )
+        .help("Columns of CSV, as 'id:int64, town:utf8?' [default: found, and printed]")
 }
 
 // The option of this name, which has no value.
@@ -124,7 +122,7 @@ fn progress<'a>(alloc: Global) -> Arg<'a>
     ensures rule { rule_of result ≡ line.progress_rule }
     ensures local { result.global ≡ false }
 {
-    let help = "Tells on standard error how far it is";
+    let help = "Reports rows and bytes on standard error";
     flag(alloc, "progress", help)
 }
 
@@ -208,18 +206,19 @@ fn serve<'a>(alloc: Global) -> Result<Command<'a>, AllocError>
     ensures shape { IfOk result (λ command. app_of command ≡ line.serve) }
     ensures local { IfOk result (λ command. (out-Command command).has_globals ≡ false) }
 {
-    let about = "Serves connections to a port of 127.0.0.1, and prints which port it is";
-    let example = "Example: flightscan serve --port 4711 --parts 4\nPort 0 takes one that is free.";
+    let about = "Serves clients on a port of 127.0.0.1, and prints the port";
+    let example =
+        "Example: flightscan serve --port 4711 --parts 4\nWith --port 0 the system chooses one.";
     let many = "Connections at once, 1 to 32 [default: 4]";
-    let end = "Ends after A connections, 0: no end [default: 0]";
+    let end = "Connections to accept before it ends, 0: no end [default: 0]";
     let at_port = with_one(command(alloc, "serve", about, example), port(alloc))?;
     let seated = with_two(
         at_port,
         number_option(alloc, "seats", SEATS, "S", many),
         number_option(alloc, "accept", ACCEPT, "A", end),
     )?;
-    let silence = "Ends a connection after so many seconds without news, 0: never [default: 300]";
-    let newest = "Versions that are kept behind each put, 0: all [default: 0]";
+    let silence = "Ends a connection after so many seconds without a byte, 0: never [default: 300]";
+    let newest = "Versions to keep after each put, 0: all [default: 0]";
     let kept = with_two(
         seated,
         number_option(alloc, "idle", IDLE, "SECONDS", silence),
@@ -240,7 +239,7 @@ fn put<'a>(
     ensures local { IfOk result (λ command. (out-Command command).has_globals ≡ false) }
 {
     let about =
-        "Puts an Arrow IPC stream or CSV from standard input into a table, and prints its rows' number";
+        "Puts an Arrow IPC stream or CSV from standard input into a table, and counts its rows";
     let example = "Example: flightscan put --port 4711 --table trips --mode create < trips.arrows";
     let at_port = with_one(command(alloc, "put", about, example), port(alloc))?;
     let targeted = with_two(at_port, table(alloc), mode(alloc, modes))?;
@@ -254,10 +253,10 @@ fn query<'a>(alloc: Global, formats: &'a [&'a str]) -> Result<Command<'a>, Alloc
     ensures shape { IfOk result (λ command. app_of command ≡ line.query (Names formats.entry)) }
     ensures local { IfOk result (λ command. (out-Command command).has_globals ≡ false) }
 {
-    let about = "Prints the rows that a query answers";
+    let about = "Prints the rows of a query's answer";
     let example =
         "Example: flightscan query --port 4711 'SELECT town, COUNT(*) FROM trips GROUP BY town'";
-    let many = "Connections that fetch, 1 to 16 [default: 1]";
+    let many = "Connections to fetch over, 1 to 16 [default: 1]";
     let bare = command(alloc, "query", about, example);
     let formatted = with_two(bare, port(alloc), format(alloc, formats, FORMATS_HELP))?;
     let streams = number_option(alloc, "streams", STREAMS, "K", many);
@@ -280,7 +279,7 @@ fn expire<'a>(alloc: Global) -> Result<Command<'a>, AllocError>
     ensures shape { IfOk result (λ command. app_of command ≡ line.expire) }
     ensures local { IfOk result (λ command. (out-Command command).has_globals ≡ false) }
 {
-    let about = "Expires old versions, and prints the number of the oldest one that is kept";
+    let about = "Expires the versions below V, and prints the oldest one kept";
     let example = "Example: flightscan expire --port 4711 --version 12";
     with_two(
         command(alloc, "expire", about, example),

@@ -17,7 +17,7 @@ mod request;
 use crate::commands::program;
 use crate::names::TakenNames;
 use crate::reading::{is_misused, request_of};
-pub use crate::request::{CsvForm, Format, PutForm, Request, Serving};
+pub use crate::request::{CsvForm, Format, PutForm, Request, ServeOptions};
 use clap::Error;
 use clap::error::ErrorKind;
 use std::alloc::Global;

@@ -4,12 +4,12 @@ ghost use Rattle.std.specs.Prelude.{◌≡◌, ◌&&◌, codes, option_map};
 ghost use Rattle.std.specs.Str.{bytes_eq};
 ghost use Rattle.clap.specs.Words.{first_of, found_of, rows_of};
 ghost use Rattle.command_line.specs.Numbers as taken;
-ghost use Rattle.command_line.specs.Request.{Asks, IsForm, IsGiven, IsServing, flag_given};
+ghost use Rattle.command_line.specs.Request.{Asks, IsForm, IsGiven, AreServeOptions, flag_given};
 ghost use Rattle.command_line.specs.Request.{format_named, is_csv, is_misused, mode_named};
 ghost use Rattle.command_line.specs.Request.{text_given};
 
 use crate::number::{ACCEPT, IDLE, KEEP, PARTS, PORT, SEATS, STREAMS, VERSION, WORKERS, number_of};
-use crate::request::{CsvForm, Format, PutForm, Request, Serving};
+use crate::request::{CsvForm, Format, PutForm, Request, ServeOptions};
 use clap::ArgMatches;
 use scan_base::PutMode;
 
@@ -104,10 +104,10 @@ pub(crate) fn is_misused(name: &str, matches: &ArgMatches<'_>) -> bool
 }
 
 // How `serve` is asked to serve.
-fn serving_of(matches: &ArgMatches<'_>) -> Serving
-    ensures { IsServing (rows_of (found_of matches.now)) result }
+fn serving_of(matches: &ArgMatches<'_>) -> ServeOptions
+    ensures { AreServeOptions (rows_of (found_of matches.now)) result }
 {
-    Serving {
+    ServeOptions {
         port: port_of(matches),
         seats: number_of(matches, "seats", SEATS),
         accept: number_of(matches, "accept", ACCEPT) as u16,

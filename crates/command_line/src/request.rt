@@ -4,7 +4,7 @@ use scan_base::PutMode;
 
 /// How connections are served.
 #[derive(Clone, Copy, Debug, PartialEq, Eq)]
-pub struct Serving {
+pub struct ServeOptions {
     /// The port, or 0 for one that is free.
     pub port: u16,
     /// So many at once.
@@ -62,7 +62,7 @@ pub enum Request<'a> {
         workers: u32,
     },
     /// Serves connections to a port.
-    Serve(Serving),
+    Serve(ServeOptions),
     /// Puts the rows from standard input into a table, and may tell how far it is.
     Put {
         port: u16,

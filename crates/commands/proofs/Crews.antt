@@ -1,6 +1,6 @@
 -- Workers side by side.
 use native.Mathlib.Omega.{arith}
-use Rattle.std.proofs.Common.{◌≡◌, ◌≤◌, ◌<◌, ◌⊎◌, inl, inr, ℕ, zero, suc, List, [], ◌∷◌, ◌++◌, ◌+◌, ◌-◌, All, IfOk, IsErr, Option, Some, None, Result, Ok, Err, length, map, take, drop, refl, sym, subst, ap, ◌∙◌, append_assoc, append-nil}
+use Rattle.std.proofs.Common.{◌≡◌, ◌≤◌, ◌<◌, ◌⊎◌, inl, inr, ℕ, zero, suc, List, [], ◌∷◌, ◌++◌, ◌+◌, ◌-◌, All, IfOk, IsErr, Option, Some, Result, Ok, Err, length, map, take, drop, refl, sym, subst, ap, ◌∙◌, append_assoc, append-nil}
 use Rattle.std.specs.Prelude.{slice_index_or}
 use Rattle.std.proofs.lemmas.List.Elements.{All-nil, All-cons, All-head, All-tail, All-pop, All-push}
 use Rattle.std.proofs.lemmas.List.{length-append, length-map, map-append}
@@ -15,17 +15,54 @@ use Rattle.version_cell.specs.Merges.{MergesAll}
 use Rattle.logbook.specs.Pages.{Book}
 use Rattle.version_cell.specs.Rests.{RestAt}
 use Rattle.version_cell.specs.Seats as cell
-use Rattle.flight_core.specs.Placed.{placed}
+use Rattle.flight_core.specs.PlacedEntries.{placed}
 use Rattle.flight_core.specs.Seats.{Seat, seat_of}
 use Rattle.shared_calls.specs.Sharing.{onward, seat_at}
 use Rattle.connection_turns.specs.Drawers.{DrawerAt, drawer_at}
-use Rattle.command_line.specs.declared.request.Serving.{Serving}
+use Rattle.command_line.specs.declared.request.ServeOptions.{ServeOptions}
 use Rattle.command_ends.specs.Network.{Accepting, Ends}
-use Rattle.command_ends.specs.Printing.{AnnouncedAt, Said, listening_line}
-use Rattle.commands.specs.Shown.{IsNewSeat, WasShown}
-use Rattle.commands.specs.Port.{IsDueAfter, IsFresh, IsServed, RefusesOne, ServesPort, Sharing, SharesEach, SharesSome, listeners_of, most_of, options_of}
-use Rattle.commands.specs.Serve.{DrawsAll, Pays, Work, Worker, IsPartOf, ServesSideBySide, both, first_fault, made_by, made_by_each}
-use Rattle.commands.specs.inside.Gathering.{Begun, Gathered, HasDrawn, HasWorked, HiredWorker, IsAtRest, IsNew, IsWithin, MayServe, hired_listeners, seat_in, state_of, work_of}
+use Rattle.command_ends.specs.Printing.{PortLineAt, Said, listening_line}
+use Rattle.commands.specs.ShownSeat.{IsNewSeat, WasShown}
+use Rattle.commands.specs.Port.{IsDueAfter, IsFresh, IsServed, ServesPort, Sharing, SharesEach, SharesSome, listeners_of, most_of, options_of}
+use Rattle.commands.specs.Serve.{Pays, Worker}
+use Rattle.commands.specs.ServeSideBySide.{DrawsAll, Work, IsPartOf, ServesSideBySide, both}
+use Rattle.commands.specs.ServeSideBySide.{first_fault, made_by, made_by_each, drawn_by}
+use Rattle.commands.specs.inside.Gathering.{HasDrawn, HasWorked, HiredWorker, IsAtRest, IsNew, IsWithin, MayServe, hired_listeners, seat_in, state_of, work_of}
+
+-- those after the ones that are left are done with: their seats are taken in, and the hub has all
+-- that they drew
+pub record Gathered {L : Type 0} (all left : List (HiredWorker L)) (seats : cell.GatheredSeatsAt)
+    (result : Result (Unit {0}) Fault) (name : TableId) (hub : DrawerAt) : Type 0 where
+  pub done : List (HiredWorker L)
+  pub whole : all ≡ left ++ done
+  pub others : All (HasDrawn name) left
+  pub within : All (IsWithin seats.log) done
+  pub many : seats.seats ≡ length done
+  pub made : seats.made ≡ made_by (map work_of done)
+  pub each : seats.each ≡ made_by_each (map work_of done)
+  pub first : result ≡ first_fault (map work_of done)
+  pub named : hub.name ≡ name
+  pub parts : hub.parts ≡ length done + 1
+  pub drawn : hub.drawn ≡ drawn_by (map work_of done)
+  pub ended : (0 < hub.ended) ⊎ All (λ work. IsErr work.result) (map work_of done)
+
+-- Workers were made for the seats that were taken, and the first drawer has a part for each that is
+-- left. The network, which was first this one and then that, gave each of them its listener.
+pub record Begun {L : Type 0} (shares : Sharing L) (at_rest : L → Type 0) (port_of : L → ℕ)
+    (rests known : L → RestAt → Type 0) (due : L → ℕ → Option (List ℕ) → Type 0) (handed : L → ℕ)
+    (heard network : L) (book : Book) (name : TableId) (hub : DrawerAt)
+    (workers : List (HiredWorker L)) (left : List cell.Seat) (count : ℕ) : Type 0 where
+  pub counted : length workers + length left ≡ count
+  pub given : SharesEach shares heard (hired_listeners workers) network
+  pub counts : handed network ≡ handed heard + length workers
+  pub port : port_of network ≡ port_of heard
+  pub knows : (shown : RestAt) → shown.book ≡ book → known network shown
+  pub dues : (port : ℕ) (held : Option (List ℕ)) → due heard port held → due network port held
+  pub fresh : All (λ hired. IsFresh (state_of hired)) workers
+  pub new : All (IsNew name) workers
+  pub may : All (IsAtRest at_rest port_of rests known due heard book) workers
+  pub seats : All (λ found. found ≡ cell.seat found.number [] [] 0 []) left
+  pub parts : hub ≡ drawer_at name (length left + 1) 0 0
 
 -- all that is of a history is of one that goes on from it
 within_more : {L : Type 0} (told history : Log) → Begins told history → (all : List (HiredWorker L)) → All (IsWithin told) all → All (IsWithin history) all
@@ -36,23 +73,6 @@ within_more {L} told history more (hired ∷ all) parts =
     (within_more told history more all (All-tail (IsWithin told) hired all parts))
 
 -- ---- workers that begin
-
-pub none_begun : {L : Type 0} (shares : Sharing L) (at_rest : L → Type 0) (port_of : L → ℕ) (rests known : L → RestAt → Type 0) (due : L → ℕ → Option (List ℕ) → Type 0) (handed : L → ℕ) (heard : L) (book : Book) (name : TableId) (hub : DrawerAt) (left : List cell.Seat) → All (λ found. found ≡ cell.seat found.number [] [] 0 []) left → hub ≡ drawer_at name (length left + 1) 0 0
-    → ((shown : RestAt) → shown.book ≡ book → known heard shown)
-    → Begun shares at_rest port_of rests known due handed heard heard book name hub [] left (length left)
-none_begun {L} shares at_rest port_of rests known due handed heard book name hub left seats parts knows = record {
-  counted = omega arith;
-  given = refl;
-  counts = omega arith;
-  port = refl;
-  knows = knows;
-  dues = λ port held is. is;
-  fresh = All-nil (λ (hired : HiredWorker L). IsFresh (state_of hired));
-  new = All-nil (IsNew name);
-  may = All-nil (IsAtRest at_rest port_of rests known due heard book);
-  seats = seats;
-  parts = parts;
-}
 
 -- one listener more was given
 one_shared : {L : Type 0} (shares : Sharing L) (given : List L) (listener old middle new : L) → SharesEach shares old given middle → shares middle (Some listener) new
@@ -120,7 +140,7 @@ one_begins {L} shares at_rest port_of rests known due handed heard network liste
     }
 
 -- workers may serve, when the line of the port was printed
-pub may_serve : {L : Type 0} (at_rest : L → Type 0) (port_of : L → ℕ) (rests known : L → RestAt → Type 0) (due : L → ℕ → Option (List ℕ) → Type 0) (owed : RestAt → Ends → Ends → RestAt → Type 0) (options : Options) (heard : L) (announced : AnnouncedAt) (book : Book) (name : TableId) (all : List (HiredWorker L))
+pub may_serve : {L : Type 0} (at_rest : L → Type 0) (port_of : L → ℕ) (rests known : L → RestAt → Type 0) (due : L → ℕ → Option (List ℕ) → Type 0) (owed : RestAt → Ends → Ends → RestAt → Type 0) (options : Options) (heard : L) (announced : PortLineAt) (book : Book) (name : TableId) (all : List (HiredWorker L))
     → announced.port ≡ port_of heard → due heard announced.port announced.held → Pays onward options owed
     → All (λ hired. IsFresh (state_of hired)) all → All (IsNew name) all → All (IsAtRest at_rest port_of rests known due heard book) all
     → All (MayServe at_rest port_of rests known due owed options announced book name) all
@@ -144,7 +164,7 @@ may_serve {L} at_rest port_of rests known due owed options heard announced book 
     (All-tail (IsAtRest at_rest port_of rests known due heard book) hired all may))
 
 -- a listener may be asked for an accept, when the line of the port was printed
-pub dues_so : {L : Type 0} (due : L → ℕ → Option (List ℕ) → Type 0) (heard : L) (announced : AnnouncedAt) (port : ℕ) (before after : Option (List ℕ))
+pub dues_so : {L : Type 0} (due : L → ℕ → Option (List ℕ) → Type 0) (heard : L) (announced : PortLineAt) (port : ℕ) (before after : Option (List ℕ))
     → IsDueAfter (due heard) before → Appends before after (listening_line port) → announced.port ≡ port → announced.held ≡ after
     → due heard announced.port announced.held
 dues_so {L} due heard announced port before after dues printed same held = rw (same, held) (dues port after printed)
@@ -162,7 +182,7 @@ new_shown book held found is fresh =
 
 -- ---- workers that have ended
 
-pub none_gathered : {L : Type 0} (all : List (HiredWorker L)) (seats : cell.GatheredAt) (name : TableId) (hub : DrawerAt) → seats.seats ≡ 0 → seats.made ≡ 0 → seats.each ≡ [] → hub ≡ drawer_at name 1 0 0 → All (HasDrawn name) all
+pub none_gathered : {L : Type 0} (all : List (HiredWorker L)) (seats : cell.GatheredSeatsAt) (name : TableId) (hub : DrawerAt) → seats.seats ≡ 0 → seats.made ≡ 0 → seats.each ≡ [] → hub ≡ drawer_at name 1 0 0 → All (HasDrawn name) all
     → Gathered all all seats (Ok tt) name hub
 none_gathered {L} all seats name hub none made nothing is drawn = record {
   done = [];
@@ -189,24 +209,24 @@ ends_so {L} name hired done before more (Err fault) is none (inr failed) =
     inr (All-cons (λ (work : Work L). IsErr work.result) (work_of hired) (map work_of done) (rw (← is) refl) failed)
 
 -- the last one of those that are left has drawn, by the same word
-pub last_drawn : {L : Type 0} (name : TableId) (all left rest : List (HiredWorker L)) (hired : HiredWorker L) (seats : cell.GatheredAt) (result : Result (Unit {0}) Fault) (hub : DrawerAt)
+pub last_drawn : {L : Type 0} (name : TableId) (all left rest : List (HiredWorker L)) (hired : HiredWorker L) (seats : cell.GatheredSeatsAt) (result : Result (Unit {0}) Fault) (hub : DrawerAt)
     → Gathered all left seats result name hub → left ≡ rest ++ hired ∷ [] → HasDrawn name hired
 last_drawn {L} name all left rest hired seats result hub gathered last = (All-pop (HasDrawn name) left rest (Some hired) last gathered.others).1
 
 -- what it means to take in the seat of a worker
-pub record Takes (found : Option cell.Seat) (seats after : cell.GatheredAt) : Type 0 where
+pub record Takes (found : Option cell.Seat) (seats after : cell.GatheredSeatsAt) : Type 0 where
   pub more : Begins seats.log after.log
   pub within : Begins (seat_in found).log after.log
   pub many : after.seats ≡ seats.seats + 1
   pub made : after.made ≡ seats.made + length (seat_in found).made
   pub each : after.each ≡ (seat_in found).made ∷ seats.each
 
-pub takes_so : (found : Option cell.Seat) (scanner : cell.Seat) (seats after : cell.GatheredAt) → found ≡ Some scanner → Begins seats.log after.log → Begins scanner.log after.log → after.seats ≡ seats.seats + 1
+pub takes_so : (found : Option cell.Seat) (scanner : cell.Seat) (seats after : cell.GatheredSeatsAt) → found ≡ Some scanner → Begins seats.log after.log → Begins scanner.log after.log → after.seats ≡ seats.seats + 1
     → after.made ≡ seats.made + length scanner.made → after.each ≡ scanner.made ∷ seats.each → Takes found seats after
 takes_so found scanner seats after there more within many made each = rw there (record { more = more; within = within; many = many; made = made; each = each })
 
 -- it is done with
-pub one_gathered : {L : Type 0} (all left rest : List (HiredWorker L)) (hired : HiredWorker L) (seats after : cell.GatheredAt) (result next_result : Result (Unit {0}) Fault) (name : TableId) (hub next : DrawerAt)
+pub one_gathered : {L : Type 0} (all left rest : List (HiredWorker L)) (hired : HiredWorker L) (seats after : cell.GatheredSeatsAt) (result next_result : Result (Unit {0}) Fault) (name : TableId) (hub next : DrawerAt)
     → Gathered all left seats result name hub → left ≡ rest ++ hired ∷ []
     → Takes hired.scanner seats after → next_result ≡ both hired.served result
     → next ≡ drawer_at hub.name (hub.parts + hired.drawer.parts) (hub.drawn + hired.drawer.drawn) (hub.ended + hired.drawer.ended)
@@ -232,27 +252,19 @@ one_gathered {L} all left rest hired seats after result next_result name hub nex
     }
 
 -- what is known of workers that are all done with
-pub record AllGathered {L : Type 0} (all : List (HiredWorker L)) (seats : cell.GatheredAt) (result : Result (Unit {0}) Fault) : Type 0 where
+pub record AllGathered {L : Type 0} (all : List (HiredWorker L)) (seats : cell.GatheredSeatsAt) (result : Result (Unit {0}) Fault) : Type 0 where
   pub first : result ≡ first_fault (map work_of all)
   pub within : All (IsWithin seats.log) all
   pub many : seats.seats ≡ length all
   pub made : seats.made ≡ made_by (map work_of all)
   pub each : seats.each ≡ made_by_each (map work_of all)
 
-pub all_gathered : {L : Type 0} (all : List (HiredWorker L)) (seats : cell.GatheredAt) (result : Result (Unit {0}) Fault) (name : TableId) (hub : DrawerAt) → Gathered all [] seats result name hub
+pub all_gathered : {L : Type 0} (all : List (HiredWorker L)) (seats : cell.GatheredSeatsAt) (result : Result (Unit {0}) Fault) (name : TableId) (hub : DrawerAt) → Gathered all [] seats result name hub
     → AllGathered all seats result
 all_gathered {L} all seats result name hub gathered = rw gathered.whole (record { first = gathered.first; within = gathered.within; many = gathered.many; made = gathered.made; each = gathered.each })
 
--- the hub has every part
-pub all_parts : {L : Type 0} (all : List (HiredWorker L)) (seats : cell.GatheredAt) (result : Result (Unit {0}) Fault) (name : TableId) (hub : DrawerAt) (parts : ℕ) → Gathered all [] seats result name hub → parts ≡ length all + 1
-    → hub.parts ≡ parts
-all_parts {L} all seats result name hub parts gathered whole =
-    let same : length all ≡ length gathered.done = ap length gathered.whole in
-    let held = gathered.parts in
-    omega (arith, same, held, whole)
-
 -- so all was drawn, or each worker failed
-pub all_drawn : {L : Type 0} (all : List (HiredWorker L)) (seats : cell.GatheredAt) (result : Result (Unit {0}) Fault) (name : TableId) (hub : DrawerAt) (most : ℕ) → Gathered all [] seats result name hub
+pub all_drawn : {L : Type 0} (all : List (HiredWorker L)) (seats : cell.GatheredSeatsAt) (result : Result (Unit {0}) Fault) (name : TableId) (hub : DrawerAt) (most : ℕ) → Gathered all [] seats result name hub
     → hub.drawn ≤ most → (0 < hub.ended → hub.drawn ≡ most) → DrawsAll most (map work_of all)
 all_drawn {L} all seats result name hub most gathered few none =
     rw gathered.whole (by_end gathered.ended)
@@ -334,12 +346,12 @@ same_listeners : {L : Type 0} (all : List (HiredWorker L)) → hired_listeners a
 same_listeners {L} [] = refl
 same_listeners {L} (hired ∷ all) = ap (λ (others : List L). hired.listener ∷ others) (same_listeners all)
 
-as_served : {L : Type 0} (accepts : Accepting L) (shares : Sharing L) (serving : Serving) (result : Result (Unit {0}) Fault) (heard new : L) (out out' : Said)
+as_served : {L : Type 0} (accepts : Accepting L) (shares : Sharing L) (serving : ServeOptions) (result : Result (Unit {0}) Fault) (heard new : L) (out out' : Said)
     → IsServed accepts shares serving result heard new out out' → ServesPort accepts shares serving result heard new out out'
 as_served accepts shares serving (Ok done) heard new out out' served = served
 as_served accepts shares serving (Err fault) heard new out out' served = inl served
 
-pub port_served : {L : Type 0} (accepts : Accepting L) (shares : Sharing L) (serving : Serving) (result : Result (Unit {0}) Fault) (heard new : L) (out out' : Said) (all : List (HiredWorker L))
+pub port_served : {L : Type 0} (accepts : Accepting L) (shares : Sharing L) (serving : ServeOptions) (result : Result (Unit {0}) Fault) (heard new : L) (out out' : Said) (all : List (HiredWorker L))
     → Appends out.bytes out'.bytes (listening_line serving.port) → out'.failures ≡ out.failures → length all ≡ serving.seats → SharesEach shares heard (hired_listeners all) new
     → All (λ hired. IsFresh (state_of hired)) all → ServesSideBySide accepts (options_of serving) (most_of serving.accept) (map state_of all) result
     → ServesPort accepts shares serving result heard new out out'
@@ -354,20 +366,7 @@ port_served {L} accepts shares serving result heard new out out' all printed qui
       served = served;
     })
 
--- it gave no listener
-pub shares_none : {L : Type 0} (shares : Sharing L) (heard : L) → SharesSome shares heard heard
-shares_none shares heard = ([], refl)
-
--- it gave those of workers
-pub shares_some : {L : Type 0} (shares : Sharing L) (heard new : L) (given : List L) → SharesEach shares heard given new → SharesSome shares heard new
-shares_some shares heard new given each = (given, each)
-
 -- it gave some, and then one more
 pub shares_more : {L : Type 0} (shares : Sharing L) (given : List L) (listener heard middle new : L)
     → SharesEach shares heard given middle → shares middle (Some listener) new → SharesSome shares heard new
 shares_more shares given listener heard middle new each shared = (given ++ listener ∷ [], one_shared shares given listener heard middle new each shared)
-
--- it gave some, and refused the next one
-pub refuses_one : {L : Type 0} (shares : Sharing L) (given : List L) (heard middle new : L)
-    → SharesEach shares heard given middle → shares middle None new → RefusesOne shares heard new
-refuses_one shares given heard middle new each refused = (middle, (given, each), refused)

@@ -6,12 +6,13 @@ use Rattle.flight_info.proofs.Results.{same_some}
 use Rattle.flight_calls.specs.declared.setting.Options.{Options}
 use Rattle.flight_calls.specs.Laws.{IsNew}
 use Rattle.flight_core.specs.Seats.{Seat}
-use Rattle.flight_calls.specs.Owed.{Connection, Serves, connection_of}
+use Rattle.flight_calls.specs.OwedAnswers.{Connection, Serves, connection_of}
 use Rattle.flight_calls.proofs.New.{new_whole}
 use Rattle.shared_calls.specs.Sharing.{onward}
 use Rattle.command_ends.specs.Network.{Accepting, Ends}
 use Rattle.commands.specs.New.{TakenAreWhole}
-use Rattle.commands.specs.Serve.{Accept, AcceptsThenCloses, Broke, Failed, Took, Worker, ServesInTurn, worker_of}
+use Rattle.commands.specs.Serve.{Accept, AcceptsThenCloses, Broke, Failed, Took, Worker}
+use Rattle.commands.specs.Serve.{ServesInTurn, worker_of}
 
 -- an accept took a connection of these ends, and it was served so
 record IsTakenSo {L : Type 0} (accepts : Accepting L) (options : Options) (result : Result (Unit {0}) Fault) (last : Connection) : Type 0 where

@@ -7,17 +7,18 @@ use Rattle.grpc_frame.specs.Ends.{Tape}
 use Rattle.logbook.specs.Pages.{Book}
 use Rattle.version_log.specs.Log.{Begins, Log}
 use Rattle.version_cell.specs.Rests.{RestAt}
-use Rattle.version_cell.specs.Signed.{log_of}
+use Rattle.version_cell.specs.SignedEntries.{log_of}
 use Rattle.flight_core.proofs.Running.{begins_on, begins_same}
 use Rattle.flight_calls.specs.declared.setting.Options.{Options}
-use Rattle.flight_core.specs.Placed.{Placed}
+use Rattle.flight_core.specs.PlacedEntries.{Placed}
 use Rattle.flight_core.specs.Seats.{Learns, Moves, Seat}
 use Rattle.shared_calls.specs.Sharing.{RestsAs}
-use Rattle.flight_calls.specs.Owed.{Connection, Serves, connection_of}
+use Rattle.flight_calls.specs.OwedAnswers.{Connection, Serves, connection_of}
 use Rattle.command_ends.specs.Network.{Accepting, Ends, ends_of}
 use Rattle.command_ends.specs.declared.accept_failure.AcceptFailure.TheVariants.{MayPass}
-use Rattle.commands.specs.Shown.{HasLearnt, IsSameSeat, IsShownAs, WasShown, seat_shown}
-use Rattle.commands.specs.Serve.{Accept, AcceptsThenCloses, AsksOthers, Broke, Failed, IsServedTo, Took, Worker, ServesInTurn, ServesNext, ServesUpTo, worker_of}
+use Rattle.commands.specs.ShownSeat.{HasLearnt, IsSameSeat, IsShownAs, WasShown, seat_shown}
+use Rattle.commands.specs.Serve.{Accept, AcceptsThenCloses, AsksOthers, Broke, Failed, IsServedTo}
+use Rattle.commands.specs.Serve.{Took, Worker, ServesInTurn, ServesNext, ServesUpTo, worker_of}
 use Rattle.commands.specs.inside.Accepting.{FailsSo, TakesNext, TakesNone}
 
 -- so many connections more

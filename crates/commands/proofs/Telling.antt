@@ -14,7 +14,7 @@ use Rattle.flight_info.specs.Payloads.{Payload}
 use Rattle.flight_info.specs.Replies.{ReplyAt}
 use Rattle.flight_core.specs.Asked.{Asked}
 use Rattle.flight_core.specs.Machine.{PutStep, ReplyTo}
-use Rattle.flight_core.specs.Placed.{Placed, placed, log_in}
+use Rattle.flight_core.specs.PlacedEntries.{Placed, placed, log_in}
 use Rattle.flight_core.specs.Puts.{put_said}
 use Rattle.flight_calls.specs.Calls.{Call, asked_by}
 use Rattle.flight_calls.specs.declared.setting.Options.{Options}
@@ -28,8 +28,9 @@ use Rattle.flight_calls.proofs.Making.{puts_made}
 use Rattle.shared_calls.specs.Sharing.{onward}
 use Rattle.command_ends.specs.Network.{Accepting}
 use Rattle.commands.specs.Port.{IsFresh}
-use Rattle.commands.specs.Serve.{Accept, Broke, Failed, Took, Work, Worker, IsPartOf, ServesInTurn, made_by_each, worker_of}
-use Rattle.commands.specs.Told.{told_in_turn, told_by, told_by_each, unmarked, IsMarked, IsOwnMark, HistoryIsMarked, WorkersMakeWhatIsTold, HistoryIsTold, PutsAreTold}
+use Rattle.commands.specs.Serve.{Accept, Broke, Failed, Took, Worker, ServesInTurn, worker_of}
+use Rattle.commands.specs.ServeSideBySide.{Work, IsPartOf, made_by_each}
+use Rattle.commands.specs.ToldHistory.{told_in_turn, told_by, told_by_each, unmarked, IsMarked, IsOwnMark, HistoryIsMarked, WorkersMakeWhatIsTold, HistoryIsTold, PutsAreTold}
 
 -- nothing is made where nothing more is served
 nothing_more : {L : Type 0} (old new : Worker L) → new ≡ old → log_in new.seat.made ≡ log_in old.seat.made ++ []

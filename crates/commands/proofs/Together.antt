@@ -3,8 +3,8 @@ use Rattle.std.proofs.Common.{◌≡◌, ◌≤◌, ℕ, zero, suc, List, [], �
 use Rattle.std.specs.List.{slice_get}
 use Rattle.scan_base.specs.declared.fault.Fault.{Fault}
 use Rattle.endpoint_split.specs.Handle.{HandleAt}
-use Rattle.ipc_batch.specs.Said.{Rows}
-use Rattle.flight_proto.specs.Wanted.{Wanted}
+use Rattle.ipc_batch.specs.SaidRows.{Rows}
+use Rattle.flight_proto.specs.InfoCommand.{InfoCommand}
 use Rattle.flight_info.proofs.Results.{same_some}
 use Rattle.flight_info.specs.Replies.{ReplyAt, whole}
 use Rattle.flight_core.specs.Asked.{Asked, fetch}
@@ -14,13 +14,14 @@ use Rattle.version_log.proofs.Logs.{begun_puts}
 use Rattle.flight_core.proofs.Running.{begins_on, begins_same}
 use Rattle.flight_calls.specs.declared.setting.Options.{Options}
 use Rattle.flight_core.specs.Seats.{Moves, Seat}
-use Rattle.flight_calls.specs.Owed.{Connection, Serves, connection_of}
+use Rattle.flight_calls.specs.OwedAnswers.{Connection, Serves, connection_of}
 use Rattle.flight_calls.specs.Joining.{Replied, FetchServed, InfoServed}
 use Rattle.flight_calls.proofs.Joining.{answers_keep, begins_last, seats_meet_joined}
 use Rattle.shared_calls.specs.Sharing.{onward}
 use Rattle.command_ends.specs.Network.{Accepting, Ends}
-use Rattle.commands.specs.Serve.{Accept, Broke, Failed, Took, Worker, ServesInTurn, ServesNext, worker_of}
-use Rattle.commands.specs.Together.{Takes, InfoOf, FetchOf, ServerMeetsHeadline}
+use Rattle.commands.specs.Serve.{Accept, Broke, Failed, Took, Worker, ServesInTurn, ServesNext}
+use Rattle.commands.specs.Serve.{worker_of}
+use Rattle.commands.specs.ServerHeadline.{Takes, InfoOf, FetchOf, ServerMeetsHeadline}
 
 serves_keeps : (moves : Moves) (options : Options) (result : Result (Unit {0}) Fault) (old new : Connection) → Serves moves options result old new → Begins old.seat.log new.seat.log
 serves_keeps moves options result old new serves = answers_keep moves options old.seat new.seat serves.calls serves.replies serves.answers
@@ -103,7 +104,7 @@ replied_in history log asked reply r within = record {
   learnt = begins_same history history refl;
 }
 
-info_in : {L : Type 0} (accepts : Accepting L) (options : Options) (history log : Log) (wanted : Wanted) (handles : List HandleAt)
+info_in : {L : Type 0} (accepts : Accepting L) (options : Options) (history log : Log) (wanted : InfoCommand) (handles : List HandleAt)
     → InfoOf accepts options history log wanted handles → InfoServed onward history log wanted handles
 info_in {L} accepts options history log wanted handles i =
     let s = i.served in

@@ -2,8 +2,9 @@ pub mod New
 pub mod Pipe
 pub mod Port
 pub mod Serve
-pub mod Shown
-pub mod Told
-pub mod Together
+pub mod ServeSideBySide
+pub mod ShownSeat
+pub mod ToldHistory
+pub mod ServerHeadline
 pub mod Words
 pub mod inside

@@ -4,11 +4,11 @@ use Rattle.scan_base.specs.declared.fault.Fault.{Fault}
 use Rattle.version_log.specs.Log.{Log}
 use Rattle.flight_calls.specs.declared.setting.Options.{Options}
 use Rattle.flight_calls.specs.Laws.{IsWhole}
-use Rattle.flight_calls.specs.Owed.{Connection, Serves, items_owed}
+use Rattle.flight_calls.specs.OwedAnswers.{Connection, Serves, items_owed}
 use Rattle.shared_calls.specs.Sharing.{onward}
 use Rattle.command_ends.specs.Network.{Accepting, AreNew, Ends}
 use Rattle.commands.specs.Serve.{AcceptsThenCloses}
-use Rattle.commands.specs.Together.{Takes}
+use Rattle.commands.specs.ServerHeadline.{Takes}
 
 -- whatever accepts give is new: nothing was read from it yet, and nothing was written to it
 abbrev pub GivesNew : {L : Type 0} → Accepting L → Type 0

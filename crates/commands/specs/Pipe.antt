@@ -3,7 +3,7 @@ use Rattle.std.specs.Prelude.{◌≡◌, Ok, Err}
 use Rattle.scan_base.specs.declared.fault.Fault.{Fault}
 use Rattle.flight_calls.specs.declared.setting.Options.{Options}
 use Rattle.flight_core.specs.Seats.{alone}
-use Rattle.flight_calls.specs.Owed.{Connection, Serves}
+use Rattle.flight_calls.specs.OwedAnswers.{Connection, Serves}
 use Rattle.command_ends.specs.Printing.{Said, Prints, fault_line}
 use Rattle.command_ends.specs.declared.exit_status.ExitStatus.{ExitStatus}
 use Rattle.command_ends.specs.declared.exit_status.ExitStatus.TheVariants.{Done, FaultAtThisEnd}

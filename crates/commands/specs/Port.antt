@@ -7,12 +7,13 @@ use Rattle.scan_base.specs.declared.fault.Fault.TheVariants.{OutOfMemory, Transp
 use Rattle.grpc_frame.specs.Ends.{AppendsBeginning}
 use Rattle.flight_calls.specs.declared.setting.Options.{Options}
 use Rattle.flight_core.specs.Seats.{seat_of}
-use Rattle.command_line.specs.declared.request.Serving.{Serving}
+use Rattle.command_line.specs.declared.request.ServeOptions.{ServeOptions}
 use Rattle.command_ends.specs.Network.{Accepting}
 use Rattle.command_ends.specs.Printing.{Said, Prints, cause_lines, fault_line, listening_line}
 use Rattle.command_ends.specs.declared.exit_status.ExitStatus.{ExitStatus}
 use Rattle.command_ends.specs.declared.exit_status.ExitStatus.TheVariants.{Done, FaultAtThisEnd}
-use Rattle.commands.specs.Serve.{Worker, ServesSideBySide}
+use Rattle.commands.specs.Serve.{Worker}
+use Rattle.commands.specs.ServeSideBySide.{ServesSideBySide}
 
 -- how many connections are drawn, where so many are to be accepted: 0 stands for no end
 abbrev pub most_of : ℕ → ℕ
@@ -20,12 +21,12 @@ most_of zero = 18446744073709551615
 most_of accept = accept
 
 -- how calls are answered
-abbrev pub options_of : Serving → Options
+abbrev pub options_of : ServeOptions → Options
 options_of serving =
     record { parts = serving.parts; workers = serving.workers; keep = serving.keep }
 
 -- what is asked for, at the port that the network gave
-abbrev pub at_port : ℕ → Serving → Serving
+abbrev pub at_port : ℕ → ServeOptions → ServeOptions
 at_port port serving = record serving { port = port }
 
 -- an accept may be asked for once the line of a port stands after what an output held
@@ -62,7 +63,7 @@ listeners_of workers = map (λ worker. worker.listener) workers
 -- The line of the port was printed, and as many workers as there are seats served connections to
 -- it, of one history. The network gave each of them its listener, and gave no other.
 pub record IsServed {L : Type 0} (accepts : Accepting L) (shares : Sharing L)
-    (serving : Serving) (result : Result (Unit {0}) Fault) (heard new : L)
+    (serving : ServeOptions) (result : Result (Unit {0}) Fault) (heard new : L)
     (out out' : Said) : Type 0 where
   pub printed : Appends out.bytes out'.bytes (listening_line serving.port)
   pub quiet : out'.failures ≡ out.failures
@@ -79,7 +80,7 @@ pub record IsNotPrinted (port : ℕ) (out out' : Said) : Type 0 where
 
 -- Connections were served; or no memory or no listener was there for it, and nothing is printed; or
 -- the port was not printed.
-abbrev pub ServesPort : {L : Type 0} → Accepting L → Sharing L → Serving
+abbrev pub ServesPort : {L : Type 0} → Accepting L → Sharing L → ServeOptions
     → Result (Unit {0}) Fault → L → L → Said → Said → Type 0
 ServesPort accepts shares serving (Ok done) heard new out out' =
     IsServed accepts shares serving (Ok done) heard new out out'
@@ -97,7 +98,7 @@ TellsFault (Err fault) status said said' =
 
 -- the network gave a port, which is served; or it gave none, nothing is printed, and why is said
 abbrev pub Listens : {L : Type 0} → Accepting L → Sharing L → (Option ℕ → L → Type 0)
-    → Serving → ExitStatus → L → Said → Said → Said → Said → Type 0
+    → ServeOptions → ExitStatus → L → Said → Said → Said → Said → Type 0
 Listens {L} accepts shares Hears serving status new out out' said said' =
     ((port : ℕ) × (heard : L) × Hears (Some port) heard × ((result : Result (Unit {0}) Fault)
     × ServesPort accepts shares (at_port port serving) result heard new out out'

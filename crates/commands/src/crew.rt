@@ -7,31 +7,33 @@ ghost use Rattle.version_cell.specs.Rests.{RestAt};
 ghost use Rattle.version_cell.specs.Seats.{seat};
 ghost use Rattle.connection_turns.specs.Drawers as drawers;
 ghost use Rattle.commands.specs.Port.{IsFresh, RefusesOne, SharesEach, SharesSome};
-ghost use Rattle.commands.specs.Serve.{AcceptsThenCloses, DrawsAll, Pays, ServesSideBySide};
-ghost use Rattle.commands.specs.Serve.{ServesUpTo, first_fault, made_by, made_by_each, worker_of};
+ghost use Rattle.commands.specs.Serve.{AcceptsThenCloses, Pays};
+ghost use Rattle.commands.specs.ServeSideBySide.{DrawsAll, ServesSideBySide};
+ghost use Rattle.commands.specs.Serve.{ServesUpTo, worker_of};
+ghost use Rattle.commands.specs.ServeSideBySide.{first_fault, made_by, made_by_each};
 ghost use Rattle.shared_calls.specs.Sharing.{onward, seat_at};
-ghost use Rattle.commands.specs.Shown.{WasShown};
+ghost use Rattle.commands.specs.ShownSeat.{WasShown};
 ghost use Rattle.commands.specs.inside.Gathering.{HasDrawn, HasWorked, IsAtRest, IsNew, IsWithin};
 ghost use Rattle.commands.specs.inside.Gathering.{MayServe, hired_listeners, state_of, work_of};
 
-use crate::shown::ShownSeat;
+use crate::shown_seat::ShownSeat;
 use crate::turns::{Service, serve_in_turn};
 use command_ends::Listen;
 use connection_turns::{Drawer, Turns};
 use flight_calls::Executor;
 use scan_base::Fault;
-use shared_calls::{SeatName, Shared};
+use shared_calls::{SeatName, SharedBackend};
 use std::alloc::Global;
 use std::sync::Wait;
 use std::thread;
 use std::thread::Threads;
 use std::time::Clock;
-use version_cell::{Brand, CellName, Gathered, Scanner, SharedPutter};
+use version_cell::{Brand, CellName, GatheredSeats, Scanner, SharedPutter};
 
 /// One of those that serve: its listener, its seat of the cell, what it draws by, and what came of
 /// its work.
 #[derive(Drop)]
-pub(crate) struct Hired<L, S, D> {
+pub(crate) struct CrewMember<L, S, D> {
     pub listener: L,
     // None while the worker works.
     pub scanner: Option<S>,
@@ -39,7 +41,7 @@ pub(crate) struct Hired<L, S, D> {
     pub served: Result<(), Fault>,
 }
 
-type ServingWorker<L, C> = Hired<L, Scanner<C>, Drawer>;
+type ServingWorker<L, C> = CrewMember<L, Scanner<C>, Drawer>;
 
 /// What all workers share: how they serve, and the putter of their cell.
 #[derive(Drop)]
@@ -81,7 +83,7 @@ pub(crate) fn workers_of<L: Listen<ShownSeat> + Drop, C: CellName>(
         let Ok(listener) = network.share() else {
             return Err(Fault::Transport);
         };
-        let worker = Hired {
+        let worker = CrewMember {
             listener,
             scanner: Some(scanner),
             drawer: turns.cut(drawer),
@@ -183,7 +185,7 @@ where
     ensures drawer { (drawer.new.name ≡ crew.now.service.turns.now.name) × (drawer.new.parts ≡ 1) }
     ensures ended { IfOk result.0 (λ _. 0 < drawer.new.ended) }
 {
-    let mut backend = Shared::<C, N, _, _>::new(crew.service.rt, crew.putter, scanner);
+    let mut backend = SharedBackend::<C, N, _, _>::new(crew.service.rt, crew.putter, scanner);
     let served = serve_in_turn(&crew.service, drawer, listener, &mut backend);
     (served, backend.into_seat())
 }
@@ -212,9 +214,9 @@ where
 fn first_of<L: Drop, C: CellName>(
     turns: &Turns,
     mut drawer: Drawer,
-    mut seats: Gathered<C>,
+    mut seats: GatheredSeats<C>,
     mut workers: Vec<ServingWorker<L, C>>,
-) -> (Result<(), Fault>, Gathered<C>)
+) -> (Result<(), Fault>, GatheredSeats<C>)
     requires parts { turns.now.parts ≡ length workers.items + 1 }
     requires drawer { drawer ≡ drawers.drawer_at turns.now.name 1 0 0 }
     requires worked { All (HasDrawn turns.now.name) workers.items }
@@ -229,7 +231,7 @@ fn first_of<L: Drop, C: CellName>(
 {
     let mut first = Ok(());
     while let Some(worker) = workers.pop() {
-        let Hired {
+        let CrewMember {
             listener: _,
             scanner,
             drawer: part,

@@ -2,11 +2,11 @@
 
 ghost use Rattle.commands.specs.New.{TakenAreWhole};
 ghost use Rattle.commands.specs.Serve.{AcceptsThenCloses};
-ghost use Rattle.commands.specs.Together.{ServerMeetsHeadline};
-ghost use Rattle.commands.specs.Told.{HistoryIsMarked, HistoryIsTold};
-ghost use Rattle.commands.specs.Told.{PutsAreTold, WorkersMakeWhatIsTold};
+ghost use Rattle.commands.specs.ServerHeadline.{ServerMeetsHeadline};
+ghost use Rattle.commands.specs.ToldHistory.{HistoryIsMarked, HistoryIsTold};
+ghost use Rattle.commands.specs.ToldHistory.{PutsAreTold, WorkersMakeWhatIsTold};
 
-use crate::shown::ShownSeat;
+use crate::shown_seat::ShownSeat;
 use command_ends::Listen;
 use flight_calls::laws::joined;
 

@@ -2,15 +2,15 @@
 //! print on; and the reading of the program's words.
 //!
 //! `specs/Pipe.antt` says what `pipe` does, `specs/Port.antt` what `serve` does, and
-//! `specs/Serve.antt` what its workers do. `specs/Together.antt` says what holds of all connections
-//! of a server, and `specs/Words.antt` what becomes of the program's words.
+//! `specs/Serve.antt` what its workers do. `specs/ServerHeadline.antt` says what holds of all
+//! connections of a server, and `specs/Words.antt` what becomes of the program's words.
 #![tactic(auto)]
 
 pub mod arguments;
 mod crew;
 pub mod laws;
 pub mod pipe;
+pub mod program_words;
 pub mod serve;
-pub mod shown;
+pub mod shown_seat;
 pub mod turns;
-pub mod words;

@@ -3,14 +3,14 @@
 ghost use Rattle.std.specs.Prelude.{[]};
 ghost use Rattle.grpc_frame.specs.Ends.{CanFail};
 ghost use Rattle.flight_core.specs.Seats.{Seat, seat_of};
-ghost use Rattle.flight_calls.specs.Owed.{connection_of};
+ghost use Rattle.flight_calls.specs.OwedAnswers.{connection_of};
 ghost use Rattle.command_ends.specs.Printing.{said_of};
 ghost use Rattle.commands.specs.Pipe.{Pipes};
 
 use command_ends::{ExitStatus, end_by_fault};
 use flight_calls::{Executor, Setting, serve_alone};
 use grpc_frame::{Input, Output};
-use hash_seed::HashSeed;
+use scan_base::HashSeed;
 
 /// Serves one connection, from the reader to the writer, on a catalog that is empty at first, of
 /// whose values hashes begin with the seed. It is done at the input's end. A fault of this end is

@@ -12,22 +12,21 @@ ghost use Rattle.commands.specs.Serve.{AcceptsThenCloses, Pays};
 ghost use Rattle.shared_calls.specs.Sharing.{onward};
 
 use crate::crew::{serve_side_by_side, workers_of};
-use crate::shown::ShownSeat;
+use crate::shown_seat::ShownSeat;
 use crate::turns::Service;
 use command_ends::{ExitStatus, Listen, end_by_cause, end_by_fault, print_listening};
-use command_line::Serving;
+use command_line::ServeOptions;
 use connection_turns::open as open_turns;
 use fetch_workers::Workers;
 use flight_calls::Options;
 use grpc_frame::Output;
-use hash_seed::HashSeed;
-use scan_base::Fault;
+use scan_base::{Fault, HashSeed};
 use std::alloc::{AllocError, Global};
 use std::io::Error;
 use std::sync::Wait;
 use std::thread::Threads;
 use std::time::Clock;
-use version_cell::{Blank, Brand, CellName, Opened, SharedPutter, open};
+use version_cell::{Blank, Brand, CellName, SharedPutter, UnnamedBook, open};
 
 /// What a server has of its machine: threads, a clock, memory, and the seed with which hashes of
 /// clients' values begin.
@@ -52,11 +51,11 @@ pub struct Host<'a, T> {
 /// seen nothing. So of a server that never ends this holds, too.
 pub fn serve<T, L, W: Output, E: Output>(
     host: Host<'_, T>,
-    opened: Opened,
+    opened: UnnamedBook,
     network: &mut L,
     output: &mut W,
     faults: &mut E,
-    serving: Serving,
+    serving: ServeOptions,
 ) -> ExitStatus
 where
     T: Threads + Wait + Clock + Sync,
@@ -90,7 +89,7 @@ where
         (said_of E.Output faults.old) (said_of E.Output faults.new) }
 {
     let serving = match network.listen(serving.port, serving.idle) {
-        Ok(port) => Serving { port, ..serving },
+        Ok(port) => ServeOptions { port, ..serving },
         Err(error) => return end_unheard(host.alloc, faults, serving.port, &error),
     };
     match serve_port(host, opened, network, output, serving) {
@@ -115,10 +114,10 @@ fn end_unheard<E: Output>(alloc: Global, faults: &mut E, port: u16, error: &Erro
 // Makes a cell, says which port is listened to, and serves connections.
 fn serve_port<T, L, W: Output>(
     host: Host<'_, T>,
-    opened: Opened,
+    opened: UnnamedBook,
     network: &mut L,
     output: &mut W,
-    serving: Serving,
+    serving: ServeOptions,
 ) -> Result<(), Fault>
 where
     T: Threads + Wait + Clock + Sync,
@@ -145,7 +144,7 @@ fn serve_cell<C: CellName + Send + Sync, T, L, W: Output>(
     blank: Blank,
     network: &mut L,
     output: &mut W,
-    serving: Serving,
+    serving: ServeOptions,
 ) -> Result<(), Fault>
 where
     T: Threads + Wait + Clock + Sync,
@@ -185,7 +184,7 @@ where
 }
 
 // How calls are answered.
-fn options_of(serving: &Serving) -> Options
+fn options_of(serving: &ServeOptions) -> Options
     ensures { result ≡ serves.options_of serving.now }
 {
     Options {

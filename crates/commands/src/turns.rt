@@ -5,16 +5,16 @@ ghost use Rattle.grpc_frame.specs.Ends.{FailsByTransport};
 ghost use Rattle.connection_turns.specs.Drawers as drawers;
 ghost use Rattle.version_cell.specs.Rests.{RestAt};
 ghost use Rattle.command_ends.specs.Network.{ends_of};
-ghost use Rattle.commands.specs.Shown.{HasLearnt, IsShownAs, WasShown};
+ghost use Rattle.commands.specs.ShownSeat.{HasLearnt, IsShownAs, WasShown};
 ghost use Rattle.commands.specs.Serve.{AcceptsThenCloses, AsksOthers, Pays, ServesUpTo, worker_of};
 ghost use Rattle.commands.specs.inside.Accepting.{TakesNext, TakesNone};
 
-use crate::shown::ShownSeat;
-use command_ends::{AcceptFailure, Announced, Listen};
+use crate::shown_seat::ShownSeat;
+use command_ends::{AcceptFailure, Listen, PortLine};
 use connection_turns::{Drawer, Turns};
 use flight_calls::{Executor, Options, Setting};
 use scan_base::Fault;
-use shared_calls::Resting;
+use shared_calls::RestingBackend;
 use std::alloc::Global;
 use std::sync::Wait;
 use std::thread;
@@ -35,7 +35,7 @@ pub struct Service<'a, 'h, T: Wait, X> {
     pub executor: &'a X,
     pub options: Options,
     pub turns: &'a Turns,
-    pub announced: &'a Announced,
+    pub announced: &'a PortLine,
 }
 
 /// Serves connections one after the other, for one seat: one for each turn that it draws, until
@@ -49,7 +49,7 @@ pub struct Service<'a, 'h, T: Wait, X> {
 /// # Errors
 ///
 /// `Fault::Transport` (F22) where the listener broke.
-pub fn serve_in_turn<L: Listen<ShownSeat>, B: Resting, T: Wait + Clock, X: Executor>(
+pub fn serve_in_turn<L: Listen<ShownSeat>, B: RestingBackend, T: Wait + Clock, X: Executor>(
     service: &Service<'_, '_, T, X>,
     drawer: &mut Drawer,
     network: &mut L,
@@ -94,7 +94,7 @@ pub fn serve_in_turn<L: Listen<ShownSeat>, B: Resting, T: Wait + Clock, X: Execu
 
 // The seat as a listener is shown it, after one ask.
 #[tactic(auto, using(crate::proofs::Serving::told_so))]
-fn shown_of<B: Resting>(backend: &mut B) -> ShownSeat
+fn shown_of<B: RestingBackend>(backend: &mut B) -> ShownSeat
     ensures asks { AsksOthers B.moves (B.seat backend.old) (B.seat backend.new) }
     ensures shown { IsShownAs result B.book B.number (B.seat backend.new) }
 {

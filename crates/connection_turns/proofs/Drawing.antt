@@ -8,35 +8,35 @@ use lib.Dec.{ltb}
 use prog.Atomic.{either}
 use Rattle.atomic_table.specs.Table.{State, Allows, Splits, Joins, step, keeps}
 use Rattle.atomic_table.proofs.Lists.{at_set, at_snoc, exchanged}
-use Rattle.connection_turns.specs.declared.rule.Hand.{Hand}
+use Rattle.connection_turns.specs.declared.rule.DrawerTally.{DrawerTally}
 use Rattle.connection_turns.specs.declared.rule.Key.{Key}
-use Rattle.connection_turns.specs.Rules.{hand, one_if, total_of, Idle, IdleIsEmpty, IsKept, Looked, Drew, Learnt}
+use Rattle.connection_turns.specs.Rules.{drawer_tally, one_if, total_of, Idle, IdleIsEmpty, IsKept, Looked, Drew, Learnt}
 
 -- the total after a change of one view
-total_set : (f : Hand → ℕ) (views : List Hand) (seat : ℕ) (v w : Hand) → get_elem? views seat ≡ some v → total_of f (set views seat w) + f v ≡ total_of f views + f w
+total_set : (f : DrawerTally → ℕ) (views : List DrawerTally) (seat : ℕ) (v w : DrawerTally) → get_elem? views seat ≡ some v → total_of f (set views seat w) + f v ≡ total_of f views + f w
 total_set f [] seat v w e = absurd (some-ne-none v (sym e))
 total_set f (u ∷ us) zero v w e = let s : f u ≡ f v = ap f (some-injective u v e) in omega (arith, s)
 total_set f (u ∷ us) (suc seat) v w e = omega (arith, total_set f us seat v w e)
 
-total_snoc : (f : Hand → ℕ) (views : List Hand) (w : Hand) → total_of f (views ++ w ∷ []) ≡ total_of f views + f w
+total_snoc : (f : DrawerTally → ℕ) (views : List DrawerTally) (w : DrawerTally) → total_of f (views ++ w ∷ []) ≡ total_of f views + f w
 total_snoc f [] w = omega arith
 total_snoc f (u ∷ us) w = omega (arith, total_snoc f us w)
 
-total_least : (f : Hand → ℕ) (views : List Hand) (seat : ℕ) (v : Hand) → get_elem? views seat ≡ some v → f v ≤ total_of f views
+total_least : (f : DrawerTally → ℕ) (views : List DrawerTally) (seat : ℕ) (v : DrawerTally) → get_elem? views seat ≡ some v → f v ≤ total_of f views
 total_least f [] seat v e = absurd (some-ne-none v (sym e))
 total_least f (u ∷ us) zero v e = let s : f u ≡ f v = ap f (some-injective u v e) in omega (arith, s)
 total_least f (u ∷ us) (suc seat) v e = omega (arith, total_least f us seat v e)
 
-idle_set : (views : List Hand) (seat : ℕ) (w : Hand) → (w.parts ≡ 0 → Idle w) → IdleIsEmpty views → IdleIsEmpty (set views seat w)
+idle_set : (views : List DrawerTally) (seat : ℕ) (w : DrawerTally) → (w.parts ≡ 0 → Idle w) → IdleIsEmpty views → IdleIsEmpty (set views seat w)
 idle_set views seat w mine idle j u e nil =
     ⊎_elim
-    (λ (t : (j ≡ seat) × (w ≡ u)). let m : Idle w = mine (ap (λ (z : Hand). z.parts) t.1 ∙ nil) in
-    record { drawn = sym (ap (λ (z : Hand). z.drawn) t.1) ∙ m.drawn; ended = sym (ap (λ (z : Hand). z.ended) t.1) ∙ m.ended })
+    (λ (t : (j ≡ seat) × (w ≡ u)). let m : Idle w = mine (ap (λ (z : DrawerTally). z.parts) t.1 ∙ nil) in
+    record { drawn = sym (ap (λ (z : DrawerTally). z.drawn) t.1) ∙ m.drawn; ended = sym (ap (λ (z : DrawerTally). z.ended) t.1) ∙ m.ended })
     (λ (t : (j ≢ seat) × (get_elem? views j ≡ some u)). idle j u t.1 nil)
     (at_set views seat j w u e)
 
 -- a step that changes the word and one view keeps the rule
-changes : (key : Key) (s : State (Unit {0}) Hand) (h : IsKept key s) (seat : ℕ) (v w : Hand) (next : ℕ) → get_elem? s.views seat ≡ some v → 0 < v.parts
+changes : (key : Key) (s : State (Unit {0}) DrawerTally) (h : IsKept key s) (seat : ℕ) (v w : DrawerTally) (next : ℕ) → get_elem? s.views seat ≡ some v → 0 < v.parts
     → w.parts ≡ v.parts → next + w.drawn ≡ h.left + v.drawn → next ≤ h.left → (v.ended < w.ended → next ≡ 0)
     → IsKept key (record { words = set s.words 0 next; homes = s.homes; views = set s.views seat w })
 changes key s h seat v w next at some_part same balance less fresh = record {
@@ -60,11 +60,11 @@ none_left : (n ended : ℕ) (b : Bool) → (n == 0) ≡ b → ended < ended + on
 none_left n ended true is more = grind (arith, nat_tests)
 none_left n ended false is more = absurd (omega (arith, more))
 
-pub looks : (key : Key) (slots seat : ℕ) (v : Hand) (carried : List (ℕ × Unit {0})) → 0 < v.parts
+pub looks : (key : Key) (slots seat : ℕ) (v : DrawerTally) (carried : List (ℕ × Unit {0})) → 0 < v.parts
     → Allows (IsKept key) slots seat (v, carried) 0 (λ n. n) (Looked (step slots 0 0 0 none) (v, carried))
 looks key slots seat v carried some_part s h wide at small =
     let found : slice_index s.words 0 ≡ h.left = ap (λ ws. slice_index ws 0) h.words in
-    let w = hand v.parts v.drawn (v.ended + one_if (h.left == 0)) in
+    let w = drawer_tally v.parts v.drawn (v.ended + one_if (h.left == 0)) in
     rw found (w, keeps, tt, changes key s h seat v w h.left at some_part refl refl (omega arith) (none_left h.left v.ended (h.left == 0) refl), refl)
 
 -- the word after an exchange, and what it took
@@ -72,21 +72,21 @@ taken : (n left : ℕ) → 0 < left → (b : Bool) → (n == left) ≡ b → (ei
 taken n left some_left true is = let here : n ≡ left = grind (arith, nat_tests) in (omega (arith, here, some_left), omega (arith, here))
 taken n left some_left false is = (omega arith, omega arith)
 
-pub draws : (key : Key) (slots seat : ℕ) (v : Hand) (carried : List (ℕ × Unit {0})) (left : ℕ) → 0 < v.parts → 0 < left
+pub draws : (key : Key) (slots seat : ℕ) (v : DrawerTally) (carried : List (ℕ × Unit {0})) (left : ℕ) → 0 < v.parts → 0 < left
     → Allows (IsKept key) slots seat (v, carried) 0 (λ n. either (n == left) (left - 1) n) (Drew (step slots 0 left (left - 1) none) (v, carried))
 draws key slots seat v carried left some_part some_left s h wide at small =
     let found : slice_index s.words 0 ≡ h.left = ap (λ ws. slice_index ws 0) h.words in
-    let w = hand v.parts (v.drawn + one_if (h.left == left)) v.ended in
+    let w = drawer_tally v.parts (v.drawn + one_if (h.left == left)) v.ended in
     let next = either (h.left == left) (left - 1) h.left in
     let t = taken h.left left some_left (h.left == left) refl in
     rw found (w, keeps, tt, changes key s h seat v w next at some_part refl (omega (arith, t.0)) t.1 (λ more. absurd (omega (arith, more))), refl)
 
-pub cuts : (key : Key) (seat : ℕ) (v : Hand) → 1 < v.parts → Splits (IsKept key) seat v (hand (v.parts - 1) v.drawn v.ended) (hand 1 0 0)
+pub cuts : (key : Key) (seat : ℕ) (v : DrawerTally) → 1 < v.parts → Splits (IsKept key) seat v (drawer_tally (v.parts - 1) v.drawn v.ended) (drawer_tally 1 0 0)
 cuts key seat v more s h at =
-    let w = hand (v.parts - 1) v.drawn v.ended in
-    let one = hand 1 0 0 in
+    let w = drawer_tally (v.parts - 1) v.drawn v.ended in
+    let one = drawer_tally 1 0 0 in
     let views = set s.views seat w in
-    let same : (f : Hand → ℕ) → f w + f one ≡ f v → total_of f (views ++ one ∷ []) ≡ total_of f s.views = λ f e. omega (arith, total_snoc f views one, total_set f s.views seat v w at, e) in
+    let same : (f : DrawerTally → ℕ) → f w + f one ≡ f v → total_of f (views ++ one ∷ []) ≡ total_of f s.views = λ f e. omega (arith, total_snoc f views one, total_set f s.views seat v w at, e) in
     let drawn = same (λ u. u.drawn) (omega arith) in
     let ended = same (λ u. u.ended) (omega arith) in
     record {
@@ -98,16 +98,16 @@ cuts key seat v more s h at =
       idle = λ j u e nil.
           ⊎_elim
           (λ (here : get_elem? views j ≡ some u). idle_set s.views seat w (λ z. absurd (omega (arith, z, more))) h.idle j u here nil)
-          (λ (new : one ≡ u). record { drawn = sym (ap (λ (z : Hand). z.drawn) new); ended = sym (ap (λ (z : Hand). z.ended) new) })
+          (λ (new : one ≡ u). record { drawn = sym (ap (λ (z : DrawerTally). z.drawn) new); ended = sym (ap (λ (z : DrawerTally). z.ended) new) })
           (at_snoc views one u j e);
     }
 
-pub joins : (key : Key) (seat : ℕ) (v : Hand) (other : ℕ) (u : Hand) → Joins (IsKept key) seat v other u (hand (v.parts + u.parts) (v.drawn + u.drawn) (v.ended + u.ended)) (hand 0 0 0)
+pub joins : (key : Key) (seat : ℕ) (v : DrawerTally) (other : ℕ) (u : DrawerTally) → Joins (IsKept key) seat v other u (drawer_tally (v.parts + u.parts) (v.drawn + u.drawn) (v.ended + u.ended)) (drawer_tally 0 0 0)
 joins key seat v other u s h at apart there =
-    let w = hand (v.parts + u.parts) (v.drawn + u.drawn) (v.ended + u.ended) in
-    let spent = hand 0 0 0 in
+    let w = drawer_tally (v.parts + u.parts) (v.drawn + u.drawn) (v.ended + u.ended) in
+    let spent = drawer_tally 0 0 0 in
     let views = set s.views seat w in
-    let same : (f : Hand → ℕ) → f w + f spent ≡ f v + f u → total_of f (set views other spent) ≡ total_of f s.views = λ f e. omega (arith, total_set f views other u spent there, total_set f s.views seat v w at, e) in
+    let same : (f : DrawerTally → ℕ) → f w + f spent ≡ f v + f u → total_of f (set views other spent) ≡ total_of f s.views = λ f e. omega (arith, total_set f views other u spent there, total_set f s.views seat v w at, e) in
     let drawn = same (λ z. z.drawn) (omega arith) in
     let ended = same (λ z. z.ended) (omega arith) in
     let theirs : u.parts ≡ 0 → Idle u = λ nil.
@@ -129,23 +129,23 @@ joins key seat v other u s h at apart there =
     }
 
 -- where one view has every part, the others add nothing
-others_none : (f : Hand → ℕ) (views : List Hand) → ((w : Hand) → Idle w → f w ≡ 0) → IdleIsEmpty views → total_of (λ v. v.parts) views ≡ 0 → total_of f views ≡ 0
+others_none : (f : DrawerTally → ℕ) (views : List DrawerTally) → ((w : DrawerTally) → Idle w → f w ≡ 0) → IdleIsEmpty views → total_of (λ v. v.parts) views ≡ 0 → total_of f views ≡ 0
 others_none f [] z idle nil = refl
 others_none f (u ∷ us) z idle nil =
     let here : u.parts ≡ 0 = omega (arith, nil) in
     omega (arith, z u (idle zero u refl here), others_none f us z (λ j v e. idle (suc j) v e) (omega (arith, nil)))
 
-whole : (f : Hand → ℕ) (views : List Hand) (seat : ℕ) (v : Hand) → ((w : Hand) → Idle w → f w ≡ 0) → IdleIsEmpty views → get_elem? views seat ≡ some v → total_of (λ u. u.parts) views ≡ v.parts → total_of f views ≡ f v
+whole : (f : DrawerTally → ℕ) (views : List DrawerTally) (seat : ℕ) (v : DrawerTally) → ((w : DrawerTally) → Idle w → f w ≡ 0) → IdleIsEmpty views → get_elem? views seat ≡ some v → total_of (λ u. u.parts) views ≡ v.parts → total_of f views ≡ f v
 whole f [] seat v z idle e all = absurd (some-ne-none v (sym e))
 whole f (u ∷ us) zero v z idle e all =
     let s = some-injective u v e in
-    omega (arith, ap f s, others_none f us z (λ j w at. idle (suc j) w at) (omega (arith, all, ap (λ (x : Hand). x.parts) s)))
+    omega (arith, ap f s, others_none f us z (λ j w at. idle (suc j) w at) (omega (arith, all, ap (λ (x : DrawerTally). x.parts) s)))
 whole f (u ∷ us) (suc seat) v z idle e all =
     let le = total_least (λ x. x.parts) us seat v e in
     let here : u.parts ≡ 0 = omega (arith, all, le) in
     omega (arith, z u (idle zero u refl here), whole f us seat v z (λ j w at. idle (suc j) w at) e (omega (arith, all, here)))
 
-pub learns : (key : Key) (slots seat : ℕ) (v : Hand) (carried : List (ℕ × Unit {0})) (most : ℕ) → v.parts ≡ key.drawers + 1 → key.most ≡ most
+pub learns : (key : Key) (slots seat : ℕ) (v : DrawerTally) (carried : List (ℕ × Unit {0})) (most : ℕ) → v.parts ≡ key.drawers + 1 → key.most ≡ most
     → Allows (IsKept key) slots seat (v, carried) 0 (λ n. either (n == most) most n) (Learnt (step slots 0 most most none) (v, carried))
 learns key slots seat v carried most every is_most s h wide at small =
     let found : slice_index s.words 0 ≡ h.left = ap (λ ws. slice_index ws 0) h.words in

@@ -4,7 +4,7 @@ use atomic_table::{Join, Play, Split, TableRule};
 
 // What a drawer knows: its parts, how many turns it drew, and how often it was told that none is
 // left. No value of it is made.
-pub struct Hand {
+pub struct DrawerTally {
     pub parts: u64,
     pub drawn: u64,
     pub ended: u64,
@@ -17,64 +17,65 @@ pub struct Key {
     pub drawers: usize,
 }
 
-pub struct Law;
+pub struct TurnLaw;
 
-impl TableRule<(), Hand, Key> for Law {
+impl TableRule<(), DrawerTally, Key> for TurnLaw {
     ghost use Rattle.std.specs.Prelude.{◌+◌};
-    ghost use Rattle.connection_turns.specs.Rules.{hand, IsKept};
+    ghost use Rattle.connection_turns.specs.Rules.{drawer_tally, IsKept};
 
     ghost holds = { λ key s. IsKept key s };
 
-    ghost first = { λ key. hand (key.drawers + 1) 0 0 };
+    ghost first = { λ key. drawer_tally (key.drawers + 1) 0 0 };
 }
 
 // The word is read: 0 is an end.
-pub struct Looks;
+pub struct ReadWord;
 
-impl Play<(), Hand> for Looks {
+impl Play<(), DrawerTally> for ReadWord {
     ghost use Rattle.connection_turns.specs.Rules.{Looked};
 
     ghost then = { Looked };
 }
 
 // A turn is taken from the word, unless another was first.
-pub struct Draws;
+pub struct DrawTurn;
 
-impl Play<(), Hand> for Draws {
+impl Play<(), DrawerTally> for DrawTurn {
     ghost use Rattle.connection_turns.specs.Rules.{Drew};
 
     ghost then = { Drew };
 }
 
 // With every part, the word tells what was drawn.
-pub struct Learns;
+pub struct ReadWhole;
 
-impl Play<(), Hand> for Learns {
+impl Play<(), DrawerTally> for ReadWhole {
     ghost use Rattle.connection_turns.specs.Rules.{Learnt};
 
     ghost then = { Learnt };
 }
 
 // One part goes to a new drawer.
-pub struct Apart;
+pub struct SplitPart;
 
-impl Split<Hand> for Apart {
+impl Split<DrawerTally> for SplitPart {
     ghost use Rattle.std.specs.Prelude.{◌-◌};
-    ghost use Rattle.connection_turns.specs.Rules.{hand};
+    ghost use Rattle.connection_turns.specs.Rules.{drawer_tally};
 
-    ghost left = { λ v. hand (v.parts - 1) v.drawn v.ended };
+    ghost left = { λ v. drawer_tally (v.parts - 1) v.drawn v.ended };
 
-    ghost right = { λ _. hand 1 0 0 };
+    ghost right = { λ _. drawer_tally 1 0 0 };
 }
 
 // A drawer is taken in.
-pub struct Back;
+pub struct ReturnPart;
 
-impl Join<Hand> for Back {
+impl Join<DrawerTally> for ReturnPart {
     ghost use Rattle.std.specs.Prelude.{◌+◌};
-    ghost use Rattle.connection_turns.specs.Rules.{hand};
+    ghost use Rattle.connection_turns.specs.Rules.{drawer_tally};
 
-    ghost both = { λ v w. hand (v.parts + w.parts) (v.drawn + w.drawn) (v.ended + w.ended) };
+    ghost both = { λ v w. drawer_tally (v.parts + w.parts) (v.drawn + w.drawn)
+        (v.ended + w.ended) };
 
-    ghost spent = { hand 0 0 0 };
+    ghost spent = { drawer_tally 0 0 0 };
 }

@@ -4,7 +4,9 @@ ghost use Rattle.std.specs.Prelude.{◌≡◌, ◌+◌, ◌-◌, ◌<◌, ◌≤
 ghost use Rattle.connection_turns.specs.Drawers.{turns_at, drawer_at};
 ghost use Rattle.connection_turns.specs.Rules.{one_if};
 
-use crate::rule::{Apart, Back, Draws, Hand, Key, Law, Learns, Looks};
+use crate::rule::{
+    DrawTurn, DrawerTally, Key, ReadWhole, ReadWord, ReturnPart, SplitPart, TurnLaw,
+};
 use atomic_table::{Seat, Table};
 use std::alloc::{AllocError, Global};
 use std::marker::Model;
@@ -14,7 +16,7 @@ use std::sync::Wait;
 /// in how many parts they may be drawn.
 #[derive(Drop)]
 pub struct Turns {
-    table: Table<(), Hand, Key, Law, Global>,
+    table: Table<(), DrawerTally, Key, TurnLaw, Global>,
     most: u64,
 }
 
@@ -34,7 +36,7 @@ impl Model for Turns {
 /// it was told that none is left.
 #[derive(Drop)]
 pub struct Drawer {
-    seat: Seat<(), Hand>,
+    seat: Seat<(), DrawerTally>,
 }
 
 impl Model for Drawer {
@@ -91,7 +93,7 @@ impl Turns {
         ensures { mine.new ≡ drawer_at mine.old.name mine.old.parts mine.old.drawn
             (mine.old.ended + one_if (result == 0)) }
     {
-        self.table.shared.load::<Looks>(&mut mine.seat, 0)
+        self.table.shared.load::<ReadWord>(&mut mine.seat, 0)
     }
 
     // Whether one of so many turns was taken. It was not where another number is left.
@@ -103,7 +105,7 @@ impl Turns {
             (mine.old.drawn + one_if result) mine.old.ended }
     {
         let shared = &self.table.shared;
-        shared.compare_exchange::<Draws>(&mut mine.seat, 0, left, left - 1) == left
+        shared.compare_exchange::<DrawTurn>(&mut mine.seat, 0, left, left - 1) == left
     }
 
     /// A second drawer, with one part.
@@ -114,7 +116,7 @@ impl Turns {
             ≡ drawer_at mine.old.name (mine.old.parts - 1) mine.old.drawn mine.old.ended }
         ensures other { result ≡ drawer_at mine.old.name 1 0 0 }
     {
-        let seat = self.table.shared.split_seat::<Apart>(&mut mine.seat);
+        let seat = self.table.shared.split_seat::<SplitPart>(&mut mine.seat);
         Drawer { seat }
     }
 
@@ -126,7 +128,9 @@ impl Turns {
             (mine.old.drawn + other.drawn) (mine.old.ended + other.ended) }
     {
         let Drawer { seat } = other;
-        self.table.shared.join_seat::<Back>(&mut mine.seat, seat);
+        self.table
+            .shared
+            .join_seat::<ReturnPart>(&mut mine.seat, seat);
     }
 
     /// With every part, no more was drawn than there was, and all of it if ever none was left. It
@@ -139,6 +143,6 @@ impl Turns {
         ensures ended { 0 < mine.old.ended → mine.old.drawn ≡ self.now.most }
     {
         let shared = &self.table.shared;
-        shared.compare_exchange::<Learns>(&mut mine.seat, 0, self.most, self.most);
+        shared.compare_exchange::<ReadWhole>(&mut mine.seat, 0, self.most, self.most);
     }
 }

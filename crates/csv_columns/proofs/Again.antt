@@ -6,7 +6,7 @@ use Rattle.csv.specs.Reading.{default_config, records_from, strip_bom}
 use Rattle.csv.specs.Writing.{default_writer, row_text}
 use Rattle.csv.specs.declared.parser.State.TheVariants as st
 use Rattle.csv.proofs.RoundTrip.{read-write}
-use Rattle.csv_columns.specs.Left.{records_in}
+use Rattle.csv_columns.specs.TextRecords.{records_in}
 
 -- the end of its line is a byte
 some_text : (fields : List (List ℕ)) → 1 ≤ length (row_text default_writer fields)

@@ -1,8 +1,8 @@
 -- What holds of each item of a list, by its place.
 use Rattle.std.proofs.Common.{◌≡◌, ◌≢◌, ◌<◌, ◌+◌, ℕ, List, [], ◌∷◌, ◌++◌, length, get_or, get_or-set_other, get_or-set_same, set, refl, sym, ap, subst, arith, below_more}
 use Rattle.std.proofs.lemmas.List.{get_or_append_left, get_or_push}
-use Rattle.csv_columns.specs.declared.seen.Seen.{Seen}
-use Rattle.csv_columns.specs.Found.{column_of}
+use Rattle.csv_columns.specs.declared.type_candidates.TypeCandidates.{TypeCandidates}
+use Rattle.csv_columns.specs.FittingColumns.{column_of}
 use Rattle.csv_columns.specs.inside.Tests.{HasSeen}
 
 -- of each so far, and of one more
@@ -17,10 +17,10 @@ each_more P xs y n long one each =
     k
 
 -- one of them is put where it stands, and those after it stay
-pub one_set : (all first : List Seen) (records : List (List (List ℕ))) (fields : List (List ℕ)) (n : ℕ) (y : Seen) → n < length all
+pub one_set : (all first : List TypeCandidates) (records : List (List (List ℕ))) (fields : List (List ℕ)) (n : ℕ) (y : TypeCandidates) → n < length all
     → HasSeen y (column_of n (records ++ fields ∷ []))
-    → ((k : ℕ) (d : Seen) → k < n → HasSeen (get_or all k d) (column_of k (records ++ fields ∷ [])))
-    → (k : ℕ) (d : Seen) → k < n + 1 → HasSeen (get_or (set all n y) k d) (column_of k (records ++ fields ∷ []))
+    → ((k : ℕ) (d : TypeCandidates) → k < n → HasSeen (get_or all k d) (column_of k (records ++ fields ∷ [])))
+    → (k : ℕ) (d : TypeCandidates) → k < n + 1 → HasSeen (get_or (set all n y) k d) (column_of k (records ++ fields ∷ []))
 one_set all first records fields n y low one each =
     λ k d. below_more (λ (j : ℕ). HasSeen (get_or (set all n y) j d) (column_of j (records ++ fields ∷ []))) n
     (λ (j : ℕ) (less : j < n).

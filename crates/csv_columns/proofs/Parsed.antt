@@ -5,8 +5,8 @@ use Rattle.std.proofs.Math.Seq.{drop-append-add, get_or-append_seam, take-append
 use Rattle.std.proofs.lemmas.Bool.{cases_lt}
 use Rattle.std.proofs.lemmas.List.{append_cancel_right, get_or-append-add, length-append}
 use Rattle.std.proofs.lemmas.List.Sums.{AllPass-from_list_all}
-use Rattle.arrow_schema.specs.declared.schema.Field.{Field}
-use Rattle.csv_columns.specs.Spelled.{mark_of, spelled, word_of}
+use Rattle.arrow_types.specs.declared.schema.Field.{Field}
+use Rattle.csv_columns.specs.SpelledColumns.{mark_of, spelled, word_of}
 use Rattle.csv_columns.specs.inside.Marks.{IsUnmarked}
 use Rattle.csv_columns.proofs.Words.{is_inner, no_colon, no_mark, word_inner}
 

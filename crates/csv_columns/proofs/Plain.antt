@@ -4,12 +4,11 @@ use Rattle.std.specs.List.{list_any}
 use Rattle.std.proofs.lemmas.Option.{none-some}
 use Rattle.scan_base.specs.Limits.{most_columns}
 use Rattle.scan_base.specs.Lists.{repeats}
-use Rattle.arrow_schema.specs.declared.data_type.DataType.{DataType}
-use Rattle.arrow_schema.specs.declared.data_type.DataType.TheVariants as type
-use Rattle.arrow_schema.specs.declared.schema.Field.{Field}
-use Rattle.arrow_schema.specs.Header.{same_dictionary, shares_dictionary}
-use Rattle.arrow_schema.specs.Schema.{IsField, IsSchema}
-use Rattle.arrow_schema.specs.Written.{encoding_of}
+use Rattle.arrow_types.specs.declared.data_type.DataType.{DataType}
+use Rattle.arrow_types.specs.declared.data_type.DataType.TheVariants as type
+use Rattle.arrow_types.specs.declared.schema.Field.{Field}
+use Rattle.arrow_types.specs.Schema.{same_dictionary, shares_dictionary, IsField, IsSchema}
+use Rattle.arrow_types.specs.DataType.{encoding_of}
 
 abbrev pub ArePlain : List Field → Type 0
 ArePlain fields = All (λ (field : Field). encoding_of field.data_type ≡ None) fields

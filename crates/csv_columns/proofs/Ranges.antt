@@ -4,19 +4,19 @@ use Rattle.std.proofs.Math.Facts.{leb_yes}
 use Rattle.std.proofs.lemmas.Bool.{cases_Bool}
 use Rattle.std.proofs.lemmas.Option.{none-some, same_Some}
 use Rattle.jiff_core.proofs.SignedLemmas.{signed_arith}
-use Rattle.arrow_schema.specs.declared.data_type.IntegerType.{IntegerType}
-use Rattle.arrow_schema.specs.declared.data_type.IntegerType.TheVariants.{Int8, Int16, Int32, Int64, UInt8, UInt16, UInt32, UInt64}
+use Rattle.arrow_types.specs.declared.data_type.IntegerType.{IntegerType}
+use Rattle.arrow_types.specs.declared.data_type.IntegerType.TheVariants.{Int8, Int16, Int32, Int64, UInt8, UInt16, UInt32, UInt64}
 use Rattle.std.specs.Prelude.{IfSome, option_map}
 use Rattle.std.specs.Str.{is_utf8}
 use Rattle.scan_base.specs.Value.{value_of}
 use Rattle.scan_base.specs.declared.value.Value.TheVariants.{Text}
 use Rattle.scan_base.specs.declared.value.ValueRef.{ValueRef}
-use Rattle.arrow_schema.specs.declared.data_type.DataType.TheVariants as type
-use Rattle.arrow_schema.specs.declared.data_type.DictionaryEncoding.{DictionaryEncoding}
-use Rattle.arrays.specs.Typed.{IsInteger, IsValueOf}
+use Rattle.arrow_types.specs.declared.data_type.DataType.TheVariants as type
+use Rattle.arrow_types.specs.declared.data_type.DictionaryEncoding.{DictionaryEncoding}
+use Rattle.arrays.specs.TypedLayouts.{IsInteger, IsValueOf}
 use Rattle.calendar.specs.Dates.{is_from_to}
 use Rattle.calendar.proofs.Parts.{from_to-parts}
-use Rattle.csv_columns.specs.Said.{greatest_of, kept_in, least_of}
+use Rattle.csv_columns.specs.FieldValues.{greatest_of, kept_in, least_of}
 
 -- a number between the least and the greatest is one of the type
 between : (integer : IntegerType) (number : ℤ) → least_of integer ≤ℤ number → number ≤ℤ greatest_of integer → IsInteger integer number

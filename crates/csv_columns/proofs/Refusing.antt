@@ -9,12 +9,12 @@ use Rattle.scan_base.specs.Reading.{text_in}
 use Rattle.scan_base.specs.declared.fault.Fault.{Fault}
 use Rattle.scan_base.specs.declared.fault.Fault.TheVariants.{BadBatch}
 use Rattle.std.specs.Prelude.{Ok, Err}
-use Rattle.arrow_schema.specs.declared.data_type.DataType.{DataType}
-use Rattle.arrow_schema.specs.declared.data_type.DataType.TheVariants as type
-use Rattle.arrow_schema.specs.declared.schema.Field.{Field}
-use Rattle.arrow_schema.specs.Schema.{IsField}
-use Rattle.csv_columns.specs.Refused.{IsText, WhyNoColumn, WhyNoColumns, WhyNoFields, WhyNoName}
-use Rattle.csv_columns.specs.Spelled.{mark_of, spelled, word_of}
+use Rattle.arrow_types.specs.declared.data_type.DataType.{DataType}
+use Rattle.arrow_types.specs.declared.data_type.DataType.TheVariants as type
+use Rattle.arrow_types.specs.declared.schema.Field.{Field}
+use Rattle.arrow_types.specs.Schema.{IsField}
+use Rattle.csv_columns.specs.Refusals.{IsText, WhyNoColumn, WhyNoColumns, WhyNoFields, WhyNoName}
+use Rattle.csv_columns.specs.SpelledColumns.{mark_of, spelled, word_of}
 use Rattle.csv_columns.specs.inside.Marks.{IsUnmarked}
 use Rattle.csv_columns.proofs.Parsed.{cut_is, front_of, has_colon}
 use Rattle.csv_columns.proofs.Worded.{joined}

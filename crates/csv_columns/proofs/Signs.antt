@@ -5,7 +5,7 @@ use Rattle.std.specs.Str.{byte}
 use Rattle.std.specs.Str.Parse.{digits_value}
 use Rattle.std.proofs.lemmas.Bool.{cases_Bool, eqb-true}
 use Rattle.jiff_core.proofs.SignedLemmas.{signed_arith}
-use Rattle.sql_text.specs.Values.{is_digits, is_small, number_of}
+use Rattle.sql_text.specs.Values.{are_digits, is_small, number_of}
 
 no_sign : (b : Bool) (n : ℕ) → IfSome (if b then Some (pos n) else None) (λ number. pos 0 ≤ℤ number)
 no_sign true n = omega (arith, signed_arith)
@@ -14,7 +14,7 @@ no_sign false n = tt
 -- the value of digits is not below 0
 pub unsigned : (text : List ℕ) (found : Option ℤ) → found ≡ number_of text → IfSome found (λ number. pos 0 ≤ℤ number)
 unfolding number_of
-unsigned text found e = subst (λ (o : Option ℤ). IfSome o (λ number. pos 0 ≤ℤ number)) (sym e) (no_sign (is_digits text && is_small text) (digits_value 10 text))
+unsigned text found e = subst (λ (o : Option ℤ). IfSome o (λ number. pos 0 ≤ℤ number)) (sym e) (no_sign (are_digits text && is_small text) (digits_value 10 text))
 
 -- no minus stands in front
 pub no_minus : (text : List ℕ) → ((rest : List ℕ) → text ≢ 45 ∷ rest) → (slice_index text 0 == byte "-") ≡ false

@@ -9,7 +9,7 @@ use Rattle.csv.specs.declared.error.ErrorKind.{ErrorKind}
 use Rattle.csv.specs.declared.error.ErrorKind.TheVariants as kind
 use Rattle.csv.specs.declared.parser.State.{State}
 use Rattle.csv.specs.declared.reader.Reader.{Reader}
-use Rattle.csv_columns.specs.Left.{TakesRecord}
+use Rattle.csv_columns.specs.TextRecords.{TakesRecord}
 use Rattle.csv_columns.specs.inside.Reading.{records_behind, records_left}
 use Rattle.csv_columns.proofs.Left.{record_more, record_none}
 

@@ -1,15 +1,12 @@
 -- The words of types.
-use Rattle.std.proofs.Common.{◌≡◌, ◌≢◌, ◌<◌, ◌==◌, ◌&&◌, not, ℕ, Bool as Truth, true, List, Option, Some, None, length, get_or, refl, sym, ap, ◌∙◌, arith, eq-eqb}
-use Rattle.std.specs.Prelude.{is_none}
+use Rattle.std.proofs.Common.{◌≡◌, ◌≢◌, ◌<◌, ◌==◌, ◌&&◌, not, ℕ, Bool as Truth, true, List, length, get_or, refl, sym, ap, ◌∙◌, arith, eq-eqb}
 use Rattle.std.specs.List.{list_all}
 use Rattle.std.proofs.lemmas.Bool.{and_parts, true≢false}
-use Rattle.std.proofs.lemmas.List.Sums.{AllPass-from_list_all}
-use Rattle.arrow_schema.specs.declared.data_type.IntegerType.TheVariants.{Int8, Int16, Int32, Int64, UInt8, UInt16, UInt32, UInt64}
-use Rattle.arrow_schema.specs.declared.data_type.DataType.{DataType}
-use Rattle.arrow_schema.specs.declared.data_type.DataType.TheVariants.{Integer, Utf8, Bool, Decimal128, Date, Dictionary}
-use Rattle.arrow_schema.specs.Written.{encoding_of}
+use Rattle.arrow_types.specs.declared.data_type.IntegerType.TheVariants.{Int8, Int16, Int32, Int64, UInt8, UInt16, UInt32, UInt64}
+use Rattle.arrow_types.specs.declared.data_type.DataType.{DataType}
+use Rattle.arrow_types.specs.declared.data_type.DataType.TheVariants.{Integer, Utf8, Bool, Decimal128, Date, Dictionary}
 use Rattle.csv_columns.specs.declared.word.TheConstants.{TYPES}
-use Rattle.csv_columns.specs.Spelled.{word_of}
+use Rattle.csv_columns.specs.SpelledColumns.{word_of}
 
 -- ---- the bytes of a word
 
@@ -43,14 +40,6 @@ pub no_mark : (byte : ℕ) → is_inner byte ≡ true → byte ≢ 63
 no_mark byte inner = is_other byte 63 (and_parts (not (byte == 58)) (not (byte == 63)) inner).1
 
 -- ---- the types that have words of their own
-
--- none has a dictionary
-pub plain_at : (k : ℕ) (d : DataType) → k < length TYPES → encoding_of (get_or TYPES k d) ≡ None
-plain_at k d low = none_is (encoding_of (get_or TYPES k d)) (AllPass-from_list_all (λ (t : DataType). is_none (encoding_of t)) TYPES refl k d low)
-  where
-    none_is : {X : Type 0} (found : Option X) → is_none found ≡ true → found ≡ None
-    none_is None none = refl
-    none_is (Some x) none = absurd (true≢false (sym none))
 
 -- so a word that none of them has is that of no type
 pub none_named : (word : List ℕ) → ((k : ℕ) (d : DataType) → k < length TYPES → word ≢ word_of (get_or TYPES k d)) → (t : DataType) → word ≢ word_of t

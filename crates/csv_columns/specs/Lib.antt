@@ -1,6 +1,6 @@
-pub mod Spelled
-pub mod Refused
+pub mod SpelledColumns
+pub mod Refusals
 pub mod inside
-pub mod Left
-pub mod Said
-pub mod Found
+pub mod TextRecords
+pub mod FieldValues
+pub mod FittingColumns

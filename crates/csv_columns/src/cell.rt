@@ -2,11 +2,11 @@
 
 ghost use Rattle.std.specs.Prelude.{◌≡◌, IfSome, option_map};
 ghost use Rattle.scan_base.specs.Value.{value_of};
-ghost use Rattle.arrays.specs.Typed.{IsValueOf};
-ghost use Rattle.csv_columns.specs.Said.{cell_in};
+ghost use Rattle.arrays.specs.TypedLayouts.{IsValueOf};
+ghost use Rattle.csv_columns.specs.FieldValues.{cell_in};
 
-use crate::said::value_in;
-use arrow_schema::Field;
+use crate::field_values::value_in;
+use arrow_types::Field;
 use scan_base::ValueRef;
 
 /// The value that a field says in a column, if it says one. A field without a byte is a null where

@@ -3,35 +3,35 @@
 ghost use Rattle.std.specs.Prelude.{◌≡◌, ◌<◌, ◌∷◌, [], ◌++◌, ℕ, List, None, All, IfErr, IfOk};
 ghost use Rattle.std.specs.Prelude.{length, get_or};
 ghost use Rattle.csv.specs.Records.{fields_of};
-ghost use Rattle.arrow_schema.specs.Schema.{IsField, IsSchema};
-ghost use Rattle.arrow_schema.specs.Written.{encoding_of};
-ghost use Rattle.csv_columns.specs.Left.{records_in};
-ghost use Rattle.csv_columns.specs.Found.{AreFound, WhyNoNames, WhyNoneFound, column_seen};
-ghost use Rattle.csv_columns.specs.Found.{rows_behind};
+ghost use Rattle.arrow_types.specs.Schema.{IsField, IsSchema};
+ghost use Rattle.arrow_types.specs.DataType.{encoding_of};
+ghost use Rattle.csv_columns.specs.TextRecords.{records_in};
+ghost use Rattle.csv_columns.specs.FittingColumns.{AreFound, WhyNoNames, WhyNoneFound, column_seen};
+ghost use Rattle.csv_columns.specs.FittingColumns.{rows_behind};
 ghost use Rattle.csv_columns.specs.inside.Tests.{HaveSeen, PassesOne};
 
-use crate::naming::name_in;
-use crate::seen::Seen;
+use crate::column_naming::name_in;
+use crate::type_candidates::TypeCandidates;
 use crate::{Records, field_in};
-use arrow_schema::{Field, MAX_COLUMNS, Schema};
+use arrow_types::{Field, MAX_COLUMNS, Schema};
 use csv::ByteRecord;
 use scan_base::{Fault, Items};
 use std::alloc::{AllocError, Global};
 
 // So many columns of which no field was seen.
-fn none_seen(alloc: Global, width: usize) -> Result<Vec<Seen>, AllocError>
+fn none_seen(alloc: Global, width: usize) -> Result<Vec<TypeCandidates>, AllocError>
     ensures many { IfOk result (λ all. length all.items ≡ width) }
     ensures seen { IfOk result (λ all. HaveSeen all.items []) }
 {
     let mut all = Vec::with_capacity(alloc, width)?;
     for _number in 0..width {
-        all.push(Seen::none())?;
+        all.push(TypeCandidates::none())?;
     }
     Ok(all)
 }
 
 // Sees the fields of a record, each in its column.
-fn see(all: &mut Vec<Seen>, fields: &ByteRecord)
+fn see(all: &mut Vec<TypeCandidates>, fields: &ByteRecord)
     ensures many { length all.new.items ≡ length all.old.items }
     ensures seen { (records : List (List (List ℕ))) → HaveSeen all.old.items records →
         HaveSeen all.new.items (records ++ fields_of fields.now ∷ []) }
@@ -42,7 +42,11 @@ fn see(all: &mut Vec<Seen>, fields: &ByteRecord)
 }
 
 // What is seen of the records that are left.
-fn seen_in(alloc: Global, width: usize, records: &mut Records<'_>) -> Result<Vec<Seen>, AllocError>
+fn seen_in(
+    alloc: Global,
+    width: usize,
+    records: &mut Records<'_>,
+) -> Result<Vec<TypeCandidates>, AllocError>
     ensures many { IfOk result (λ all. length all.items ≡ width) }
     ensures seen { IfOk result (λ all. HaveSeen all.items records.old) }
 {
@@ -59,7 +63,7 @@ fn fields_in(
     alloc: Global,
     header: bool,
     first: &ByteRecord,
-    seen: &[Seen],
+    seen: &[TypeCandidates],
 ) -> Result<Items<Field>, Fault>
     requires { length seen.now ≡ length (fields_of first.now) }
     ensures many { IfOk result (λ columns. length columns ≡ length seen.now) }
@@ -97,7 +101,7 @@ fn rows_seen(
     text: &[u8],
     header: bool,
     width: usize,
-) -> Result<Vec<Seen>, AllocError>
+) -> Result<Vec<TypeCandidates>, AllocError>
     ensures many { IfOk result (λ all. length all.items ≡ width) }
     ensures seen { IfOk result
         (λ all. HaveSeen all.items (rows_behind header (records_in text.now))) }

@@ -1,10 +1,10 @@
 //! Names of columns.
 
 ghost use Rattle.std.specs.Prelude.{◌≡◌, IfErr, IfOk};
-ghost use Rattle.arrow_schema.specs.Schema.{IsName};
-ghost use Rattle.csv_columns.specs.Refused.{WhyNoName};
+ghost use Rattle.arrow_types.specs.Schema.{IsName};
+ghost use Rattle.csv_columns.specs.Refusals.{WhyNoName};
 
-use arrow_schema::MAX_NAME_BYTES;
+use arrow_types::MAX_NAME_BYTES;
 use scan_base::{Fault, Text, read_text};
 use std::alloc::Global;
 

@@ -1,10 +1,10 @@
 //! Whole numbers in decimal.
 
 ghost use Rattle.std.specs.Prelude.{◌≡◌, ◌≤ℤ◌, IfSome, neg_ℤ, option_map, pos};
-ghost use Rattle.csv_columns.specs.Said.{greatest_of, kept_in, least_of, number_in};
+ghost use Rattle.csv_columns.specs.FieldValues.{greatest_of, kept_in, least_of, number_in};
 ghost use Rattle.sql_text.specs.Values.{number_of};
 
-use arrow_schema::IntegerType;
+use arrow_types::IntegerType;
 use sql_text::{Token, TokenKind};
 
 // The value of digits alone, if it is below 10^38: that of a literal in a query.

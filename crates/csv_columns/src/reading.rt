@@ -3,17 +3,17 @@
 ghost use Rattle.std.specs.Prelude.{◌≡◌, ◌≢◌, ◌<◌, ℕ, None, All, IfErr, IfOk, MatchOption, ◌++◌};
 ghost use Rattle.std.specs.Prelude.{◌∷◌, [], drop, length, take, slice_index};
 ghost use Rattle.csv.specs.Records.{fields_of, trimmed};
-ghost use Rattle.arrow_schema.specs.Schema.{IsField, IsSchema};
-ghost use Rattle.arrow_schema.specs.Written.{encoding_of};
-ghost use Rattle.csv_columns.specs.Left.{records_in};
-ghost use Rattle.csv_columns.specs.Refused.{WhyNoColumn, WhyNoColumns, WhyNoFields};
-ghost use Rattle.csv_columns.specs.Spelled.{AreSpelledAs, Spells, mark_of, spelled};
+ghost use Rattle.arrow_types.specs.Schema.{IsField, IsSchema};
+ghost use Rattle.arrow_types.specs.DataType.{encoding_of};
+ghost use Rattle.csv_columns.specs.TextRecords.{records_in};
+ghost use Rattle.csv_columns.specs.Refusals.{WhyNoColumn, WhyNoColumns, WhyNoFields};
+ghost use Rattle.csv_columns.specs.SpelledColumns.{AreSpelledAs, Spells, mark_of, spelled};
 ghost use Rattle.csv_columns.specs.inside.Marks.{IsUnmarked};
 
 use crate::name::name_of;
 use crate::word::type_named;
 use crate::{Records, field_in};
-use arrow_schema::{Field, MAX_COLUMNS, Schema};
+use arrow_types::{Field, MAX_COLUMNS, Schema};
 use csv::ByteRecord;
 use scan_base::{Fault, Items};
 use std::alloc::Global;

@@ -2,7 +2,7 @@
 
 ghost use Rattle.std.specs.Prelude.{◌≡◌};
 ghost use Rattle.csv.specs.Records.{fields_of};
-ghost use Rattle.csv_columns.specs.Left.{TakesRecord, records_in};
+ghost use Rattle.csv_columns.specs.TextRecords.{TakesRecord, records_in};
 
 use csv::{ByteRecord, Reader, ReaderBuilder};
 use std::alloc::{AllocError, Global};

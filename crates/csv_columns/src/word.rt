@@ -1,12 +1,12 @@
 //! Words for types.
 
 ghost use Rattle.std.specs.Prelude.{◌≡◌, ◌≢◌, None, IfSome, MatchOption};
-ghost use Rattle.arrow_schema.specs.Written.{encoding_of};
-ghost use Rattle.arrow_schema.specs.declared.data_type.DataType.{DataType};
-ghost use Rattle.arrow_schema.specs.declared.data_type.DataType.TheVariants as type;
-ghost use Rattle.csv_columns.specs.Spelled.{word_of};
+ghost use Rattle.arrow_types.specs.DataType.{encoding_of};
+ghost use Rattle.arrow_types.specs.declared.data_type.DataType.{DataType};
+ghost use Rattle.arrow_types.specs.declared.data_type.DataType.TheVariants as type;
+ghost use Rattle.csv_columns.specs.SpelledColumns.{word_of};
 
-use arrow_schema::{DataType, IntegerType};
+use arrow_types::{DataType, IntegerType};
 
 // The types of columns, each of which has a word of its own.
 const TYPES: [DataType; 12] = [

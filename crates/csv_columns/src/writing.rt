@@ -4,11 +4,11 @@ ghost use Rattle.std.specs.Prelude.{◌≡◌, ◌≤◌, ◌∷◌, [], IfOk, l
 ghost use Rattle.csv.specs.Records.{fields_of};
 ghost use Rattle.csv.specs.Reading.{strip_bom};
 ghost use Rattle.csv.specs.Writing.{default_writer, row_text};
-ghost use Rattle.csv_columns.specs.Left.{records_in};
-ghost use Rattle.csv_columns.specs.Spelled.{mark_of, spelled};
+ghost use Rattle.csv_columns.specs.TextRecords.{records_in};
+ghost use Rattle.csv_columns.specs.SpelledColumns.{mark_of, spelled};
 
 use crate::word::word_for;
-use arrow_schema::Field;
+use arrow_types::Field;
 use csv::{ByteRecord, WriterBuilder};
 use std::alloc::{AllocError, Global};
 

@@ -1,17 +1,16 @@
 -- Values that are all of one kind.
-use Rattle.std.proofs.Common.{◌≡◌, ◌∙◌, suc, List, [], ◌∷◌, All, length, map, get_or, refl, sym, ap, ap₂, subst, arith}
-use Rattle.std.proofs.lemmas.List.{length-map, get_or-map}
+use Rattle.std.proofs.Common.{◌≡◌, suc, List, [], ◌∷◌, All, length, map, refl, sym, ap₂, subst, arith}
+use Rattle.std.proofs.lemmas.List.{get_or-map}
 use Rattle.scan_base.specs.Value.{value_of}
 use Rattle.scan_base.specs.declared.value.Value.{Value}
 use Rattle.scan_base.specs.declared.value.Value.TheVariants.{Null, Bool, Int, Text}
 use Rattle.scan_base.specs.declared.value.ValueRef.{ValueRef}
 use Rattle.scan_base.specs.declared.value.ValueRef.TheVariants as borrowed
-use Rattle.arrow_schema.specs.declared.data_type.DataType.{DataType}
-use Rattle.arrow_schema.specs.declared.data_type.DataType.TheVariants as type
-use Rattle.arrow_schema.specs.declared.data_type.DictionaryEncoding.{DictionaryEncoding}
-use Rattle.arrays.specs.Typed.{IsValueOf}
-use Rattle.array_select.specs.inside.Filled.{AreOfType}
-use Rattle.csv_input.specs.inside.Chosen.{number_or_null, flag_or_null, text_or_null}
+use Rattle.arrow_types.specs.declared.data_type.DataType.{DataType}
+use Rattle.arrow_types.specs.declared.data_type.DataType.TheVariants as type
+use Rattle.arrays.specs.TypedLayouts.{IsValueOf}
+use Rattle.array_select.specs.inside.SlotFilling.{AreOfType}
+use Rattle.csv_input.specs.inside.ValueLists.{number_or_null, flag_or_null, text_or_null}
 
 -- all values are of a type
 abbrev pub AllOf : DataType → List ValueRef → Type 0
@@ -52,22 +51,7 @@ flags_kept values all = keep_each flag_or_null type.Bool flag_kept values all
 pub texts_kept : (values : List ValueRef) → AllOf type.Utf8 values → map text_or_null (map value_of values) ≡ map value_of values
 texts_kept values all = keep_each text_or_null type.Utf8 text_kept values all
 
--- as many were chosen as there are values
-pub as_many : {T : Type 0} (held : T → Value) (f : Value → Value) (chosen : List T) (values : List ValueRef) → map held chosen ≡ map f (map value_of values) → length chosen ≡ length values
-as_many held f chosen values e =
-    sym (length-map chosen held) ∙ ap length e ∙ length-map (map value_of values) f ∙ length-map values value_of
-
 -- by their places
 pub of_types : (data_type : DataType) (values : List ValueRef) → AllOf data_type values → AreOfType data_type (map value_of values) (length values)
 of_types data_type values all = λ k low.
     subst (IsValueOf data_type) (sym (get_or-map value_of values k borrowed.Null Null low)) (all k borrowed.Null low)
-
--- the values of a dictionary of texts are texts
-led_value : (encoding : DictionaryEncoding) (value : Value) → IsValueOf (type.Dictionary encoding) value → IsValueOf type.Utf8 value
-led_value encoding Null of = tt
-led_value encoding (Int number) of = absurd of
-led_value encoding (Bool flag) of = absurd of
-led_value encoding (Text bytes) of = of
-
-pub led_values : (encoding : DictionaryEncoding) (values : List ValueRef) → AllOf (type.Dictionary encoding) values → AllOf type.Utf8 values
-led_values encoding values all = λ k d low. led_value encoding (value_of (get_or values k d)) (all k d low)

@@ -1,15 +1,15 @@
 -- A stream that begins with its schema.
 use Rattle.std.proofs.Common.{◌≡◌, ℕ, List, [], ◌∷◌, map, None, Some, Ok, refl, arith}
+use Rattle.arrow_types.specs.declared.schema.Schema.{Schema}
+use Rattle.arrow_types.specs.Schema.{IsSchema}
 use Rattle.arrow_schema.specs.declared.header.HeaderKind.TheVariants as kinds
-use Rattle.arrow_schema.specs.declared.schema.Schema.{Schema}
 use Rattle.arrow_schema.specs.Header.{schema_in, schema_message_of, schema_of}
-use Rattle.arrow_schema.specs.Schema.{IsSchema}
-use Rattle.arrow_schema.specs.Written.{schema_part, schema_bytes}
+use Rattle.arrow_schema.specs.WrittenHeader.{schema_part, schema_bytes}
 use Rattle.arrow_schema.proofs.Messages.{messages_read}
 use Rattle.arrow_schema.proofs.Again.{whole_schema, short_schema, schemas_read}
 use Rattle.ipc_batch.specs.State.{Known}
 use Rattle.ipc_batch.specs.Parts.{body_claimed}
-use Rattle.ipc_batch.specs.Said.{News, Says, Sent, schema_sent, news_of}
+use Rattle.ipc_batch.specs.SaidRows.{News, Says, Sent, schema_sent, news_of}
 use Rattle.ipc_stream.specs.declared.message.IpcMessage.{IpcMessage}
 use Rattle.csv_input.specs.Rows.{SaysRecords, sent_in}
 use Rattle.csv_input.proofs.Joined.{no_rows}

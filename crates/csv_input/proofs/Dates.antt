@@ -4,11 +4,9 @@ use Rattle.scan_base.specs.Value.{value_of}
 use Rattle.scan_base.specs.declared.value.Value.{Value}
 use Rattle.scan_base.specs.declared.value.Value.TheVariants.{Null, Bool, Int, Text}
 use Rattle.scan_base.specs.declared.value.ValueRef.{ValueRef}
-use Rattle.arrow_schema.specs.declared.data_type.IntegerType.TheVariants.{Int32}
-use Rattle.arrow_schema.specs.declared.data_type.DataType.TheVariants as type
-use Rattle.arrays.specs.declared.layout.Layout.{Layout}
-use Rattle.arrays.specs.declared.layout.Layout.TheVariants as layout
-use Rattle.arrays.specs.Typed.{IsOfType, IsValueOf}
+use Rattle.arrow_types.specs.declared.data_type.IntegerType.TheVariants.{Int32}
+use Rattle.arrow_types.specs.declared.data_type.DataType.TheVariants as type
+use Rattle.arrays.specs.TypedLayouts.{IsValueOf}
 use Rattle.csv_input.proofs.Alike.{AllOf}
 
 day_number : (value : Value) → IsValueOf type.Date value → IsValueOf (type.Integer Int32) value
@@ -19,7 +17,3 @@ day_number (Text bytes) is = absurd is
 
 pub day_numbers : (values : List ValueRef) → AllOf type.Date values → AllOf (type.Integer Int32) values
 day_numbers values all = λ k d low. day_number (value_of (get_or values k d)) (all k d low)
-
-pub days_again : (known : Layout) → IsOfType (type.Integer Int32) known → IsOfType type.Date known
-days_again (layout.Integers cells) of = of
-days_again known of = absurd of

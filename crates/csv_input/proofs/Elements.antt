@@ -13,17 +13,17 @@ use Rattle.byteorder.specs.Endian.{little_from}
 use Rattle.scan_base.specs.declared.value.Value.{Value}
 use Rattle.scan_base.specs.declared.value.Value.TheVariants.{Null, Bool, Int, Text}
 use Rattle.scan_base.specs.Value.{is_null}
-use Rattle.arrow_schema.specs.declared.data_type.IntegerType.{IntegerType}
-use Rattle.arrow_schema.specs.declared.data_type.IntegerType.TheVariants.{Int8, Int16, Int32, Int64, UInt8, UInt16, UInt32, UInt64}
-use Rattle.arrow_schema.specs.declared.data_type.DataType.TheVariants as type
+use Rattle.arrow_types.specs.declared.data_type.IntegerType.{IntegerType}
+use Rattle.arrow_types.specs.declared.data_type.IntegerType.TheVariants.{Int8, Int16, Int32, Int64, UInt8, UInt16, UInt32, UInt64}
+use Rattle.arrow_types.specs.declared.data_type.DataType.TheVariants as type
 use Rattle.arrays.specs.declared.layout.Layout.{Layout}
 use Rattle.arrays.specs.declared.slots.Values.TheVariants as kind
 use Rattle.arrays.specs.Number.{AreBytes, byte_width, element_at, number_from, integer_at, signed_from}
 use Rattle.arrays.specs.Validity.{is_valid, where_valid}
 use Rattle.arrays.specs.Layout.{layout_count, layout_slot}
 use Rattle.arrays.specs.Column.{slot_of, values_of, whole}
-use Rattle.arrays.specs.Typed.{IsInteger, IsValueOf}
-use Rattle.array_select.specs.inside.Filled.{low_bytes, AreOfType, AreValidUnlessNull, AreNumbersOf, FillSlots}
+use Rattle.arrays.specs.TypedLayouts.{IsInteger, IsValueOf}
+use Rattle.array_select.specs.inside.SlotFilling.{low_bytes, AreOfType, AreValidUnlessNull, AreNumbersOf, FillSlots}
 use Rattle.std.proofs.Math.Seq.{drop-append_seam, take-append_seam}
 use Rattle.byteorder.specs.Numbers.{little_from-take}
 use Rattle.bitmap.proofs.Masks.{little_drop}

@@ -1,13 +1,13 @@
 -- The first record that is wrong.
 use Rattle.std.proofs.Common.{◌≡◌, ◌<◌, ◌+◌, ℕ, List, [], ◌∷◌, ◌++◌, length, get_or, sym, ap, subst, ◌∙◌, arith, inl, inr, append-nil, append_assoc}
-use Rattle.std.specs.Prelude.{IsSome, None}
+use Rattle.std.specs.Prelude.{IsSome}
 use Rattle.std.proofs.lemmas.Bool.{cases_lt}
 use Rattle.std.proofs.lemmas.List.{get_or-append-add, get_or_append_left, get_or_default, length-append}
 use Rattle.std.proofs.lemmas.List.Elements.{All-append, All-nil, All-cons}
-use Rattle.arrow_schema.specs.declared.schema.Field.{Field}
-use Rattle.csv_columns.specs.Said.{cell_in}
-use Rattle.csv_input.specs.declared.outcome.Wrong.{Wrong}
-use Rattle.csv_input.specs.Rows.{AreRight, IsFirstWrong, IsRight, IsWrong, IsWrongCell, SaysCell}
+use Rattle.arrow_types.specs.declared.schema.Field.{Field}
+use Rattle.csv_columns.specs.FieldValues.{cell_in}
+use Rattle.csv_input.specs.declared.outcome.RecordFault.{RecordFault}
+use Rattle.csv_input.specs.Rows.{AreRight, IsFirstWrong, IsRight, IsWrong, SaysCell}
 
 -- ---- one record
 
@@ -25,15 +25,6 @@ first_more columns fields number column inside is some so = λ k low d. elim (ca
       subst (λ (n : ℕ). IsSome (cell_in (get_or columns n d) (get_or fields n []))) same
       (subst (λ (c : Field). IsSome (cell_in c (get_or fields number []))) (is ∙ get_or_default columns number column d inside) some)
 ]
-
--- or it does not
-pub wrong_at : (columns : List Field) (fields : List (List ℕ)) (number : ℕ) (column : Field) → number < length columns → column ≡ get_or columns number column → cell_in column (get_or fields number []) ≡ None →
-    SayFirst columns fields number → IsWrongCell columns fields number
-wrong_at columns fields number column inside is none so = record {
-  there = inside;
-  none = λ d. subst (λ (c : Field). cell_in c (get_or fields number []) ≡ None) (is ∙ get_or_default columns number column d inside) none;
-  before = so;
-}
 
 -- ---- all records
 
@@ -68,7 +59,7 @@ pub right_none : (columns : List Field) (left : List (List (List ℕ))) → left
 right_none columns left none = λ k d low. absurd (omega (arith, low, ap length none))
 
 -- it is the first that is wrong where those before it are right
-pub wrong_first : (columns : List Field) (all read : List (List (List ℕ))) (fields : List (List ℕ)) (left rest : List (List (List ℕ))) (before : ℕ) (wrong : Wrong) → all ≡ read ++ left → left ≡ fields ∷ rest →
+pub wrong_first : (columns : List Field) (all read : List (List (List ℕ))) (fields : List (List ℕ)) (left rest : List (List (List ℕ))) (before : ℕ) (wrong : RecordFault) → all ≡ read ++ left → left ≡ fields ∷ rest →
     before ≡ length read → AreRight columns read → IsWrong columns fields wrong → IsFirstWrong columns all (record { before = before; wrong = wrong })
 wrong_first columns all read fields left rest before wrong splits took count right is =
     let whole : all ≡ read ++ fields ∷ rest = splits ∙ ap (λ (l : List (List (List ℕ))). read ++ l) took in

@@ -4,20 +4,20 @@ use Rattle.std.proofs.lemmas.Bool.{cases_lt}
 use Rattle.std.proofs.lemmas.List.{get_or_append_left, get_or-append_right, length-append, map-append}
 use Rattle.std.proofs.lemmas.Option.{none-some}
 use Rattle.scan_base.specs.declared.value.Value.{Value}
-use Rattle.arrow_schema.specs.declared.data_type.DataType.{DataType}
-use Rattle.arrow_schema.specs.declared.data_type.DataType.TheVariants as type
-use Rattle.arrow_schema.specs.declared.schema.Field.{Field}
-use Rattle.arrow_schema.specs.declared.schema.Schema.{Schema}
-use Rattle.arrow_schema.specs.Written.{encoding_of}
+use Rattle.arrow_types.specs.declared.data_type.DataType.{DataType}
+use Rattle.arrow_types.specs.declared.data_type.DataType.TheVariants as type
+use Rattle.arrow_types.specs.declared.schema.Field.{Field}
+use Rattle.arrow_types.specs.declared.schema.Schema.{Schema}
+use Rattle.arrow_types.specs.DataType.{encoding_of}
 use Rattle.arrays.specs.declared.layout.Layout.{Layout}
 use Rattle.arrays.specs.Batch.{BatchAt, rows_of}
 use Rattle.arrays.specs.Column.{ColumnAt}
-use Rattle.arrays.specs.Typed.{AreOfTypes}
-use Rattle.array_buffers.specs.Written.{IsLedBy}
+use Rattle.arrays.specs.TypedLayouts.{AreOfTypes}
+use Rattle.array_buffers.specs.ColumnBuffers.{IsLedBy}
 use Rattle.ipc_batch.specs.Columns.{values_led_to}
 use Rattle.ipc_batch.specs.State.{Dictionaries}
-use Rattle.ipc_batch.specs.Said.{Sent, News, Rows, Follows, Says}
-use Rattle.ipc_batch.specs.Written.{AreLedBy, SaysBatch}
+use Rattle.ipc_batch.specs.SaidRows.{Sent, News, Rows, Follows, Says}
+use Rattle.ipc_batch.specs.WrittenMessages.{AreLedBy, SaysBatch}
 use Rattle.ipc_batch.proofs.Messages.{joined}
 use Rattle.ipc_stream.specs.declared.message.IpcMessage.{IpcMessage}
 use Rattle.csv_input.specs.Rows.{AreRows, IsRow, sent_in}

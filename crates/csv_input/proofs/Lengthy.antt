@@ -1,26 +1,22 @@
 -- Texts and records that are too long, or too many.
-use Rattle.std.proofs.Common.{◌≡◌, ◌<◌, ◌≤◌, ◌+◌, ◌^◌, ℕ, suc, false, List, [], ◌∷◌, ◌++◌, Option, Some, None, length, map, take, get_or, refl, sym, ap, ap₂, subst, ◌∙◌, arith, inl, inr}
-use Rattle.std.specs.Prelude.{IsSome, ◌↔◌, ◌⊎◌}
-use Rattle.std.proofs.lemmas.Bool.{cases_lt, false≢true}
+use Rattle.std.proofs.Common.{◌≡◌, ◌<◌, ◌≤◌, ◌+◌, ◌^◌, ℕ, suc, false, List, [], ◌∷◌, ◌++◌, Some, length, map, take, get_or, refl, sym, ap, ap₂, subst, ◌∙◌, arith, inl, inr}
 use Rattle.std.proofs.Math.ListN.{get_or-map}
 use Rattle.std.proofs.lemmas.List.{get_or_default, length-append, length-map, take-map}
 use Rattle.std.proofs.lemmas.List.Folds.{length-flat_map-take}
 use Rattle.scan_base.specs.Value.{value_of}
 use Rattle.scan_base.specs.declared.fault.Fault.{Fault}
-use Rattle.scan_base.specs.declared.fault.Fault.TheVariants.{LimitReached, OutOfMemory}
+use Rattle.scan_base.specs.declared.fault.Fault.TheVariants.{LimitReached}
 use Rattle.scan_base.specs.declared.value.Value.{Value}
 use Rattle.scan_base.specs.declared.value.Value.TheVariants.{Null}
 use Rattle.scan_base.specs.declared.value.ValueRef.{ValueRef}
-use Rattle.arrow_schema.specs.declared.schema.Field.{Field}
-use Rattle.arrow_schema.specs.declared.schema.Schema.{Schema}
-use Rattle.arrays.specs.Batch.{BatchAt}
-use Rattle.arrays.specs.Written.{text_bytes, texts_joined}
+use Rattle.arrow_types.specs.declared.schema.Field.{Field}
+use Rattle.arrow_types.specs.declared.schema.Schema.{Schema}
+use Rattle.arrays.specs.WrittenSlots.{text_bytes, texts_joined}
 use Rattle.std.specs.List.{flat_map}
-use Rattle.ipc_batch.specs.Written.{body_length}
-use Rattle.csv_columns.specs.Said.{cell_in}
+use Rattle.csv_columns.specs.FieldValues.{cell_in}
 use Rattle.csv_input.specs.Long.{AreTooLong, WhyNoMessage, WhyNoneTold, text_said, texts_said}
 use Rattle.csv_input.specs.Rows.{AreRight, IsRight}
-use Rattle.csv_input.specs.inside.Batches.{HasTaken, IsNextBatch}
+use Rattle.csv_input.specs.inside.Batches.{HasTaken}
 use Rattle.csv_input.specs.inside.Cells.{AreCells, HasLongCells, HasLongColumn, WhyNoColumn, WhyNoColumns}
 use Rattle.csv_input.specs.inside.Chunks.{ChunkAt, Holds}
 use Rattle.csv_input.proofs.Faulty.{right_more, splits_more}
@@ -97,21 +93,6 @@ long_taken columns chunk old new fault has why = elim why [
 ]
 
 -- ---- messages
-
--- a body that is not short is long
-pub not_short : {X : Type 0} (found : Option X) (length : ℕ) → found ≡ None → (IsSome found ↔ (length < 2 ^ 31)) → 2 ^ 31 ≤ length
-not_short found length none short = elim (cases_lt length (2 ^ 31)) [
-  | inl low ↦ absurd (false≢true (subst IsSome none (short.1 low)))
-  | inr high ↦ high
-]
-
--- a batch of the next records is too long
-pub long_batch : (columns : List Field) (batch : BatchAt) (old new : List (List (List ℕ))) (fault : Fault) → IsNextBatch columns batch old new
-    → (fault ≡ OutOfMemory) ⊎ ((fault ≡ LimitReached) × (2 ^ 31 ≤ body_length batch)) → WhyNoMessage columns old new fault
-long_batch columns batch old new fault next why = elim why [
-  | inl memory ↦ inl memory
-  | inr long ↦ inr (long.0, record { taken = next.taken; splits = next.splits; long = inr (batch, next.rows, next.typed, long.1) })
-]
 
 -- ---- records
 

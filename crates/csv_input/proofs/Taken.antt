@@ -4,18 +4,18 @@ use Rattle.std.specs.Prelude.{IsSome}
 use Rattle.std.proofs.lemmas.List.{get_or_append_left, length-append}
 use Rattle.csv.specs.Machine.{next_record}
 use Rattle.csv.specs.Reading.{records_from, strip_bom}
-use Rattle.arrow_schema.specs.declared.schema.Field.{Field}
-use Rattle.arrow_schema.specs.declared.schema.Schema.{Schema}
+use Rattle.arrow_types.specs.declared.schema.Field.{Field}
+use Rattle.arrow_types.specs.declared.schema.Schema.{Schema}
 use Rattle.arrays.specs.Batch.{BatchAt, rows_of}
-use Rattle.ipc_batch.specs.Written.{SaysBatch}
+use Rattle.ipc_batch.specs.WrittenMessages.{SaysBatch}
 use Rattle.ipc_stream.specs.declared.message.IpcMessage.{IpcMessage}
-use Rattle.csv_columns.specs.Left.{records_in}
-use Rattle.csv_columns.specs.Said.{cell_in}
+use Rattle.csv_columns.specs.TextRecords.{records_in}
+use Rattle.csv_columns.specs.FieldValues.{cell_in}
 use Rattle.csv_input.specs.Rows.{AreRight, IsNext, IsRight, sent_in}
 use Rattle.csv_input.specs.inside.Batches.{HasTaken, IsBatchOf, IsNextBatch}
-use Rattle.csv_input.specs.inside.Cells.{HasWrongColumn, SaysCells}
+use Rattle.csv_input.specs.inside.Cells.{HasWrongColumn}
+use Rattle.csv_input.proofs.Columnar.{SaysCells, wrong_says}
 use Rattle.csv_input.specs.inside.Chunks.{ChunkAt, Holds}
-use Rattle.csv_input.proofs.Columnar.{wrong_says}
 use Rattle.csv_input.proofs.Joined.{ArePlain, more_said, rows_joined}
 use Rattle.csv_input.proofs.Placed.{holds_more, holds_none}
 use Rattle.csv_input.proofs.Transposed.{batch_types, rows_are}

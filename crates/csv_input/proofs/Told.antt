@@ -1,9 +1,9 @@
 -- What a text gave, as what its input did.
 use Rattle.std.proofs.Common.{ℕ, List, Result, Ok, Err, inr}
 use Rattle.command_ends.specs.Printing.{Said}
-use Rattle.command_ends.specs.Whole.{Source, Gives}
+use Rattle.command_ends.specs.WholeInput.{Source, Gives}
 use Rattle.command_ends.specs.declared.exit_status.ExitStatus.{ExitStatus}
-use Rattle.csv_columns.specs.Left.{records_in}
+use Rattle.csv_columns.specs.TextRecords.{records_in}
 use Rattle.csv_input.specs.Input.{Form, ReadsCsv, ReadsText, TextAt}
 
 pub gave : {A : Type 0} (form : Form) (view : A → TextAt) (result : Result A ExitStatus) (old new : Source) (said said' : Said) (text : List ℕ)

@@ -3,12 +3,12 @@ use Rattle.std.proofs.Common.{◌≡◌, ◌<◌, ◌+◌, ℕ, suc, List, [], �
 use Rattle.std.proofs.lemmas.List.{length-map, get_or-map}
 use Rattle.std.proofs.lemmas.List.FromFn.{length-map-range_with_len, get_or-map-range_with_len}
 use Rattle.scan_base.specs.declared.value.Value.TheVariants.{Null}
-use Rattle.arrow_schema.specs.declared.schema.Field.{Field}
+use Rattle.arrow_types.specs.declared.schema.Field.{Field}
 use Rattle.arrays.specs.declared.layout.Layout.TheVariants as layout
 use Rattle.arrays.specs.Batch.{BatchAt, row_of, rows_of}
 use Rattle.arrays.specs.Column.{ColumnAt, slot_of, values_of, whole}
-use Rattle.arrays.specs.Typed.{AreOfTypes, IsOfType}
-use Rattle.csv_columns.specs.Said.{cell_in}
+use Rattle.arrays.specs.TypedLayouts.{AreOfTypes, IsOfType}
+use Rattle.csv_columns.specs.FieldValues.{cell_in}
 use Rattle.csv_input.specs.Rows.{AreRows, IsRow}
 use Rattle.csv_input.specs.inside.Chunks.{ChunkAt, Holds}
 use Rattle.csv_input.specs.inside.Batches.{IsBatchOf}

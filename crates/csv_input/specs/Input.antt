@@ -1,24 +1,23 @@
--- An input as CSV: its columns, its rows, and what is printed of them and of a record that is
--- wrong.
+-- An input as CSV: its columns, its rows, and what is printed of them or of a wrong record.
 use Rattle.std.specs.Prelude.{◌≡◌, ◌⊎◌, ◌<◌, ◌^◌, ℕ, ◌+◌, Bool, List, Option, Some, None, Result}
 use Rattle.std.specs.Prelude.{Ok, Err, codes, option_map}
 use Rattle.std.specs.Borrow.{Bor}
 use Rattle.std.specs.Io.KnownBytes.{Appends}
 use Rattle.scan_base.specs.declared.fault.Fault.{Fault}
 use Rattle.scan_base.specs.declared.fault.Fault.TheVariants.{OutOfMemory, Transport}
-use Rattle.arrow_schema.specs.declared.schema.Field.{Field}
-use Rattle.arrow_schema.specs.declared.schema.Schema.{Schema}
+use Rattle.arrow_types.specs.declared.schema.Field.{Field}
+use Rattle.arrow_types.specs.declared.schema.Schema.{Schema}
 use Rattle.grpc_frame.specs.Ends.{AppendsBeginning}
 use Rattle.command_line.specs.declared.request.CsvForm.{CsvForm}
 use Rattle.command_ends.specs.Printing.{Said, Prints, cause_lines, fault_line}
-use Rattle.command_ends.specs.Whole.{Source, Gives, Stops}
+use Rattle.command_ends.specs.WholeInput.{Source, Gives, StopsReading}
 use Rattle.command_ends.specs.declared.exit_status.ExitStatus.{ExitStatus}
 use Rattle.command_ends.specs.declared.exit_status.ExitStatus.TheVariants.{FaultAtThisEnd}
-use Rattle.csv_columns.specs.Left.{records_in}
-use Rattle.csv_columns.specs.Refused.{WhyNoColumns}
-use Rattle.csv_columns.specs.Spelled.{Spells}
+use Rattle.csv_columns.specs.TextRecords.{records_in}
+use Rattle.csv_columns.specs.Refusals.{WhyNoColumns}
+use Rattle.csv_columns.specs.SpelledColumns.{Spells}
 use Rattle.csv_input.specs.Lines.{columns_line, wrong_line}
-use Rattle.csv_columns.specs.Found.{AreFound, WhyNoneFound, rows_behind}
+use Rattle.csv_columns.specs.FittingColumns.{AreFound, WhyNoneFound, rows_behind}
 use Rattle.csv_input.specs.Long.{WhyNoneTold}
 use Rattle.csv_input.specs.Rows.{AreRight, IsFirstWrong}
 use Rattle.csv_input.specs.declared.outcome.WrongRecord.{WrongRecord}
@@ -131,9 +130,9 @@ unread_lines Transport = cause_lines (codes "cannot read the input")
 unread_lines fault = fault_line fault
 
 -- the input was not read, and why is printed
-pub record IsUnread (status : ExitStatus) (old new : Source) (said said' : Said) : Type 0 where
+pub record IsInputUnread (status : ExitStatus) (old new : Source) (said said' : Said) : Type 0 where
   pub fault : Fault
-  pub stops : Stops fault old new
+  pub stops : StopsReading fault old new
   pub ends : status ≡ FaultAtThisEnd
   pub says : Prints (unread_lines fault) said said'
 
@@ -148,4 +147,4 @@ abbrev pub ReadsCsv : {A : Type 0} → Form → (A → TextAt) → Result A Exit
     Said → Said → Type 0
 ReadsCsv form view (Ok text) old new said said' = GivesText form view (Ok text) old new said said'
 ReadsCsv form view (Err status) old new said said' =
-    IsUnread status old new said said' ⊎ GivesText form view (Err status) old new said said'
+    IsInputUnread status old new said said' ⊎ GivesText form view (Err status) old new said said'

@@ -3,10 +3,10 @@ use Rattle.std.specs.Prelude.{ℕ, ◌+◌, Bool, true, false, List, [], ◌++�
 use Rattle.std.specs.Prelude.{option_map, slice_get, unwrap_or}
 use Rattle.std.specs.Fmt.{decimal}
 use Rattle.csv.specs.Writing.{default_writer, row_text}
-use Rattle.arrow_schema.specs.declared.schema.Field.{Field}
-use Rattle.csv_columns.specs.Spelled.{spelled}
-use Rattle.csv_input.specs.declared.outcome.Wrong.{Wrong}
-use Rattle.csv_input.specs.declared.outcome.Wrong.TheVariants.{Fields, Cell}
+use Rattle.arrow_types.specs.declared.schema.Field.{Field}
+use Rattle.csv_columns.specs.SpelledColumns.{spelled}
+use Rattle.csv_input.specs.declared.outcome.RecordFault.{RecordFault}
+use Rattle.csv_input.specs.declared.outcome.RecordFault.TheVariants.{Fields, Cell}
 use Rattle.csv_input.specs.declared.outcome.WrongRecord.{WrongRecord}
 
 -- the text that spells the columns
@@ -35,7 +35,7 @@ name_at columns place =
     unwrap_or (option_map (λ (column : Field). column.name) (slice_get columns place)) []
 
 -- what is said of a record of this number
-abbrev pub line_for : List Field → ℕ → Wrong → List ℕ
+abbrev pub line_for : List Field → ℕ → RecordFault → List ℕ
 line_for columns number (Fields count) = length_words number count (length columns)
 line_for columns number (Cell place) = cell_words number (name_at columns place)
 

@@ -5,12 +5,12 @@ use Rattle.std.specs.List.{flat_map}
 use Rattle.scan_base.specs.declared.fault.Fault.{Fault}
 use Rattle.scan_base.specs.declared.fault.Fault.TheVariants.{LimitReached, OutOfMemory}
 use Rattle.scan_base.specs.declared.value.Value.{Value}
-use Rattle.arrow_schema.specs.declared.schema.Field.{Field}
+use Rattle.arrow_types.specs.declared.schema.Field.{Field}
 use Rattle.arrays.specs.Batch.{BatchAt, rows_of}
-use Rattle.arrays.specs.Typed.{AreOfTypes}
-use Rattle.arrays.specs.Written.{text_bytes}
-use Rattle.ipc_batch.specs.Written.{body_length}
-use Rattle.csv_columns.specs.Said.{cell_in}
+use Rattle.arrays.specs.TypedLayouts.{AreOfTypes}
+use Rattle.arrays.specs.WrittenSlots.{text_bytes}
+use Rattle.ipc_batch.specs.WrittenMessages.{body_length}
+use Rattle.csv_columns.specs.FieldValues.{cell_in}
 use Rattle.csv_input.specs.Rows.{AreRight, AreRows}
 
 -- the first records are more than are counted, and each is right

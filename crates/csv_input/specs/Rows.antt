@@ -3,13 +3,13 @@ use Rattle.std.specs.Prelude.{◌≡◌, ◌≢◌, ◌<◌, ℕ, List, [], ◌�
 use Rattle.std.specs.Prelude.{Option, Some, None, IsSome}
 use Rattle.scan_base.specs.declared.value.Value.{Value}
 use Rattle.scan_base.specs.declared.value.Value.TheVariants.{Null}
-use Rattle.arrow_schema.specs.declared.schema.Field.{Field}
-use Rattle.arrow_schema.specs.declared.schema.Schema.{Schema}
-use Rattle.ipc_batch.specs.Said.{Rows, Says, Sent}
+use Rattle.arrow_types.specs.declared.schema.Field.{Field}
+use Rattle.arrow_types.specs.declared.schema.Schema.{Schema}
+use Rattle.ipc_batch.specs.SaidRows.{Rows, Says, Sent}
 use Rattle.ipc_stream.specs.declared.message.IpcMessage.{IpcMessage}
-use Rattle.csv_columns.specs.Said.{cell_in}
-use Rattle.csv_input.specs.declared.outcome.Wrong.{Wrong}
-use Rattle.csv_input.specs.declared.outcome.Wrong.TheVariants.{Fields, Cell}
+use Rattle.csv_columns.specs.FieldValues.{cell_in}
+use Rattle.csv_input.specs.declared.outcome.RecordFault.{RecordFault}
+use Rattle.csv_input.specs.declared.outcome.RecordFault.TheVariants.{Fields, Cell}
 use Rattle.csv_input.specs.declared.outcome.WrongRecord.{WrongRecord}
 
 -- a record has a field for each column, and each says the value of its place in the row
@@ -41,7 +41,7 @@ pub record IsWrongCell (columns : List Field) (fields : List (List ℕ)) (place 
   pub before : (k : ℕ) → k < place → SaysCell columns fields k
 
 -- what is wrong with a record
-abbrev pub IsWrong : List Field → List (List ℕ) → Wrong → Type 0
+abbrev pub IsWrong : List Field → List (List ℕ) → RecordFault → Type 0
 IsWrong columns fields (Fields count) = (count ≡ length fields) × (count ≢ length columns)
 IsWrong columns fields (Cell place) =
     (length fields ≡ length columns) × IsWrongCell columns fields place

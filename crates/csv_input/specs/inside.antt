@@ -2,4 +2,4 @@
 pub mod Chunks
 pub mod Cells
 pub mod Batches
-pub mod Chosen
+pub mod ValueLists

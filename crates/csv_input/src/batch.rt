@@ -1,15 +1,15 @@
 //! A batch of records.
 
 ghost use Rattle.std.specs.Prelude.{◌≡◌, ◌<◌, None, All, IfErr, IfOk, MatchOption, length};
-ghost use Rattle.arrow_schema.specs.Written.{encoding_of};
-ghost use Rattle.arrays.specs.Typed.{AreOfTypes};
+ghost use Rattle.arrow_types.specs.DataType.{encoding_of};
+ghost use Rattle.arrays.specs.TypedLayouts.{AreOfTypes};
 ghost use Rattle.csv_input.specs.inside.Cells.{AreColumnsIn, HasWrongColumn, WhyNoColumns};
 ghost use Rattle.csv_input.specs.inside.Batches.{IsBatchOf};
 
 use crate::cells::column_in;
 use crate::chunk::Chunk;
 use arrays::{Batch, Column};
-use arrow_schema::Field;
+use arrow_types::Field;
 use scan_base::Fault;
 use std::alloc::Global;
 

@@ -3,20 +3,18 @@
 ghost use Rattle.std.specs.Prelude.{◌≡◌, ◌≤◌, ◌<◌, ◌^◌, None, false, true, IfErr, IfOk};
 ghost use Rattle.std.specs.Prelude.{MatchOption, length, map};
 ghost use Rattle.scan_base.specs.Value.{value_of};
-ghost use Rattle.arrow_schema.specs.Written.{encoding_of};
-ghost use Rattle.arrays.specs.Written.{text_bytes, texts_joined};
+ghost use Rattle.arrow_types.specs.DataType.{encoding_of};
+ghost use Rattle.arrays.specs.WrittenSlots.{text_bytes, texts_joined};
 ghost use Rattle.csv_input.specs.inside.Cells.{AreCells, HasWrongCell, IsColumnIn, WhyNoColumn};
 
 use crate::chunk::Chunk;
 use crate::column_of_values;
+use array_select::MOST_OFFSET;
 use arrays::Column;
-use arrow_schema::Field;
+use arrow_types::Field;
 use csv_columns::cell_in;
 use scan_base::{Fault, ValueRef};
 use std::alloc::{AllocError, Global};
-
-// As many bytes as an offset can name.
-const MOST_TEXT_BYTES: usize = 2_147_483_647;
 
 /// A column of the fields at a place, or none where one says no value of the column.
 ///
@@ -74,7 +72,7 @@ fn texts_fit(cells: &[ValueRef<'_>]) -> bool
     ensures fits { result ≡ true → length (texts_joined (map value_of cells.now)) < 2 ^ 31 }
     ensures long { result ≡ false → 2 ^ 31 ≤ length (texts_joined (map value_of cells.now)) }
 {
-    let mut left = MOST_TEXT_BYTES;
+    let mut left = MOST_OFFSET;
     for cell in cells {
         let bytes = text_bytes(*cell).len();
         if bytes > left {

@@ -2,17 +2,17 @@
 
 ghost use Rattle.std.specs.Prelude.{◌≡◌, ◌<◌, ◌^◌, All, IfOk, length, map};
 ghost use Rattle.scan_base.specs.Value.{value_of};
-ghost use Rattle.arrow_schema.specs.Answer.{copied_type};
-ghost use Rattle.arrow_schema.specs.declared.data_type.DataType.TheVariants as type;
+ghost use Rattle.arrow_types.specs.Answer.{copied_type};
+ghost use Rattle.arrow_types.specs.declared.data_type.DataType.TheVariants as type;
 ghost use Rattle.arrays.specs.Column.{values_of};
-ghost use Rattle.arrays.specs.Typed.{IsOfType, IsValueOf};
-ghost use Rattle.arrays.specs.Written.{texts_joined};
+ghost use Rattle.arrays.specs.TypedLayouts.{IsOfType, IsValueOf};
+ghost use Rattle.arrays.specs.WrittenSlots.{texts_joined};
 
-use crate::chosen::{flags_in, numbers_in, texts_in};
-use crate::packed::{column_of_dates, column_of_integers};
+use crate::packed_columns::{column_of_dates, column_of_integers};
+use crate::value_lists::{flags_in, numbers_in, texts_in};
 use array_select::{column_of_bools, column_of_decimals, column_of_texts};
 use arrays::Column;
-use arrow_schema::DataType;
+use arrow_types::DataType;
 use scan_base::ValueRef;
 use std::alloc::{AllocError, Global};
 

@@ -2,18 +2,18 @@
 
 ghost use Rattle.std.specs.Prelude.{◌≡◌, IfErr, MatchResult, OnOk};
 ghost use Rattle.grpc_frame.specs.Ends.{CanFail};
-ghost use Rattle.csv_columns.specs.Left.{records_in};
+ghost use Rattle.csv_columns.specs.TextRecords.{records_in};
 ghost use Rattle.command_ends.specs.Printing.{Prints, said_of};
-ghost use Rattle.command_ends.specs.Whole.{source_of};
+ghost use Rattle.command_ends.specs.WholeInput.{source_of};
 ghost use Rattle.command_ends.specs.declared.exit_status.ExitStatus.TheVariants.{FaultAtThisEnd};
 ghost use Rattle.csv_input.specs.Input.{ChecksRows, IsTold, IsUntold, ReadsCsv, ReadsText};
 ghost use Rattle.csv_input.specs.Input.{TellsWrong, form_of};
 
 use crate::WrongRecord;
 use crate::reading::{columns_of, wrong_record};
-use crate::saying::wrong_line;
 use crate::text::CsvText;
-use arrow_schema::{Field, Schema};
+use crate::wrong_lines::wrong_line;
+use arrow_types::{Field, Schema};
 use bytes::Bytes;
 use command_ends::{ExitStatus, end_by_cause, end_by_fault, read_whole};
 use command_line::CsvForm;

@@ -6,24 +6,24 @@
 
 mod batch;
 mod cells;
-mod chosen;
 mod chunk;
 mod columns;
-mod finding;
 mod input;
 mod message;
 mod outcome;
-mod packed;
+mod packed_columns;
 mod reading;
-mod saying;
+mod record_chunks;
 mod table;
-mod taking;
 mod text;
+mod value_lists;
+mod wrong_lines;
+mod wrong_records;
 
 pub use crate::columns::column_of_values;
-pub use crate::finding::first_wrong;
 pub use crate::input::read_csv;
 pub use crate::message::schema_message;
-pub use crate::outcome::{Wrong, WrongRecord};
+pub use crate::outcome::{RecordFault, WrongRecord};
 pub use crate::table::next_message;
 pub use crate::text::{CsvRows, CsvText};
+pub use crate::wrong_records::first_wrong;

@@ -3,12 +3,13 @@
 ghost use Rattle.std.specs.Prelude.{◌≡◌, ◌⊎◌, ◌≤◌, ◌^◌, ◌∷◌, [], IfErr, IfOk, length};
 ghost use Rattle.scan_base.specs.Limits.{most_columns};
 ghost use Rattle.scan_base.specs.declared.fault.Fault.TheVariants.{LimitReached, OutOfMemory};
-ghost use Rattle.arrow_schema.specs.Schema.{IsSchema};
-ghost use Rattle.ipc_batch.specs.Written.{SaysBatch, body_length};
+ghost use Rattle.arrow_types.specs.Schema.{IsSchema};
+ghost use Rattle.ipc_batch.specs.WrittenMessages.{SaysBatch, body_length};
 ghost use Rattle.csv_input.specs.Rows.{SaysRecords, sent_in};
 
 use arrays::Batch;
-use arrow_schema::{Schema, write_schema};
+use arrow_schema::write_schema;
+use arrow_types::Schema;
 use bytes::Bytes;
 use ipc_batch::write_batch;
 use ipc_stream::IpcMessage;

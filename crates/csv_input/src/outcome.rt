@@ -2,7 +2,7 @@
 
 /// What is wrong with a record.
 #[derive(Clone, Copy, Debug, PartialEq, Eq)]
-pub enum Wrong {
+pub enum RecordFault {
     /// It has so many fields, and there are not as many columns.
     Fields(usize),
     /// The field of the column at this place, counted from 0, says no value of it.
@@ -13,5 +13,5 @@ pub enum Wrong {
 #[derive(Clone, Copy, Debug, PartialEq, Eq)]
 pub struct WrongRecord {
     pub before: usize,
-    pub wrong: Wrong,
+    pub wrong: RecordFault,
 }

@@ -1,16 +1,16 @@
 //! Reading a whole text.
 
 ghost use Rattle.std.specs.Prelude.{◌≡◌, None, All, IfErr, IfOk};
-ghost use Rattle.arrow_schema.specs.Schema.{IsSchema};
-ghost use Rattle.arrow_schema.specs.Written.{encoding_of};
-ghost use Rattle.csv_columns.specs.Left.{records_in};
-ghost use Rattle.csv_columns.specs.Found.{rows_behind};
+ghost use Rattle.arrow_types.specs.Schema.{IsSchema};
+ghost use Rattle.arrow_types.specs.DataType.{encoding_of};
+ghost use Rattle.csv_columns.specs.TextRecords.{records_in};
+ghost use Rattle.csv_columns.specs.FittingColumns.{rows_behind};
 ghost use Rattle.csv_input.specs.Long.{WhyNoneTold};
 ghost use Rattle.csv_input.specs.Rows.{FindsWrong};
 ghost use Rattle.csv_input.specs.Input.{AreColumnsOf, WhyNoneOf, form_of};
 
 use crate::{WrongRecord, first_wrong};
-use arrow_schema::Schema;
+use arrow_types::Schema;
 use command_line::CsvForm;
 use csv::ByteRecord;
 use csv_columns::{Records, columns_in, found_columns};

@@ -1,17 +1,17 @@
 //! The rows of records that are right, message by message.
 
 ghost use Rattle.std.specs.Prelude.{◌≡◌, None, All, IfErr, IfOk};
-ghost use Rattle.arrow_schema.specs.Schema.{IsSchema};
-ghost use Rattle.arrow_schema.specs.Written.{encoding_of};
+ghost use Rattle.arrow_types.specs.Schema.{IsSchema};
+ghost use Rattle.arrow_types.specs.DataType.{encoding_of};
 ghost use Rattle.csv_input.specs.Long.{WhyNoMessage};
 ghost use Rattle.csv_input.specs.Rows.{AreRight, TakesMessage};
 ghost use Rattle.csv_input.specs.inside.Batches.{TakesBatch};
 
 use crate::batch::batch_in;
 use crate::message::batch_message;
-use crate::taking::next_chunk;
+use crate::record_chunks::next_chunk;
 use arrays::Batch;
-use arrow_schema::{Field, Schema};
+use arrow_types::{Field, Schema};
 use csv_columns::Records;
 use ipc_stream::IpcMessage;
 use scan_base::Fault;

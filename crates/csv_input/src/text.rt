@@ -6,7 +6,7 @@ ghost use Rattle.csv_input.specs.Rows.{SaysRecords, TakesMessage};
 
 use crate::reading::records_behind;
 use crate::{next_message, schema_message};
-use arrow_schema::Schema;
+use arrow_types::Schema;
 use bytes::Bytes;
 use csv_columns::Records;
 use ipc_stream::IpcMessage;
@@ -24,10 +24,10 @@ pub struct CsvText {
 
 impl Model for CsvText {
     ghost use Rattle.std.specs.Prelude.{◌≡◌, None, All};
-    ghost use Rattle.arrow_schema.specs.Schema.{IsSchema};
-    ghost use Rattle.arrow_schema.specs.Written.{encoding_of};
-    ghost use Rattle.csv_columns.specs.Left.{records_in};
-    ghost use Rattle.csv_columns.specs.Found.{rows_behind};
+    ghost use Rattle.arrow_types.specs.Schema.{IsSchema};
+    ghost use Rattle.arrow_types.specs.DataType.{encoding_of};
+    ghost use Rattle.csv_columns.specs.TextRecords.{records_in};
+    ghost use Rattle.csv_columns.specs.FittingColumns.{rows_behind};
     ghost use Rattle.csv_input.specs.Rows.{AreRight};
     ghost use Rattle.csv_input.specs.Input.{TextAt};
 
@@ -79,8 +79,8 @@ pub struct CsvRows<'a> {
 
 impl<'a> Model for CsvRows<'a> {
     ghost use Rattle.std.specs.Prelude.{◌≡◌, None, All};
-    ghost use Rattle.arrow_schema.specs.Schema.{IsSchema};
-    ghost use Rattle.arrow_schema.specs.Written.{encoding_of};
+    ghost use Rattle.arrow_types.specs.Schema.{IsSchema};
+    ghost use Rattle.arrow_types.specs.DataType.{encoding_of};
     ghost use Rattle.csv_input.specs.Rows.{AreRight};
     ghost use Rattle.csv_input.specs.Input.{TextAt};
 

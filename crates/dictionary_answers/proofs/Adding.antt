@@ -6,7 +6,7 @@ use Rattle.std.proofs.lemmas.Option.{slice_get_within}
 use Rattle.scan_base.specs.declared.value.Value.{Value}
 use Rattle.scan_base.specs.declared.value.Value.TheVariants.{Null, Text}
 use Rattle.dictionary_answers.specs.Firsts.{with_text, bytes_in, Leads}
-use Rattle.dictionary_answers.specs.Coded.{held, no_place, FoundAt}
+use Rattle.dictionary_answers.specs.inside.CodedTexts.{held, no_place, DistinctTextsAt}
 use Rattle.dictionary_answers.specs.inside.Coding.{Finds}
 use Rattle.dictionary_answers.proofs.Places.{led_stays, few_with}
 
@@ -15,7 +15,7 @@ pub held_some : (place : ℕ) → place ≢ no_place → held place ≡ Some pla
 held_some place other = rw (ne_eqb place no_place other) refl
 
 -- a text that was looked up
-pub finds_text : (old new : FoundAt) (place : ℕ) (text : List ℕ) (value : Value) → length old.texts < 2 ^ 31 → new.texts ≡ with_text old.texts text →
+pub finds_text : (old new : DistinctTextsAt) (place : ℕ) (text : List ℕ) (value : Value) → length old.texts < 2 ^ 31 → new.texts ≡ with_text old.texts text →
     slice_get new.texts place ≡ Some text → bytes_in new.texts + new.left ≡ bytes_in old.texts + old.left → value ≡ Text text → Finds old new place value
 finds_text old new place text value few texts there bytes is =
     let low = slice_get_within new.texts place text there in
@@ -25,17 +25,17 @@ finds_text old new place text value few texts there bytes is =
     rw is (record { texts = texts; leads = rw at (text, there, refl); bytes = bytes })
 
 -- a null
-pub finds_null : (found : FoundAt) (value : Value) → value ≡ Null → Finds found found 4294967295 value
+pub finds_null : (found : DistinctTextsAt) (value : Value) → value ≡ Null → Finds found found 4294967295 value
 finds_null found value is = rw is (record { texts = refl; leads = refl; bytes = refl })
 
 -- a value that is known
-pub finds_known : (found : FoundAt) (place : ℕ) (value : Value) → place ≢ no_place → Leads found.texts (Some place) value → Finds found found place value
+pub finds_known : (found : DistinctTextsAt) (place : ℕ) (value : Value) → place ≢ no_place → Leads found.texts (Some place) value → Finds found found place value
 finds_known found place value other leads =
     let at : held place ≡ Some place = held_some place other in
     record { texts = sym (led_stays found.texts place value leads); leads = rw at leads; bytes = refl }
 
 -- one that was kept
-pub finds_kept : (found : FoundAt) (place : ℕ) (value : Value) → Leads found.texts (held place) value → Finds found found place value
+pub finds_kept : (found : DistinctTextsAt) (place : ℕ) (value : Value) → Leads found.texts (held place) value → Finds found found place value
 finds_kept found place value leads = by (nat_eq place no_place) refl
   where
     by : (t : _) → nat_eq place no_place ≡ t → Finds found found place value

@@ -1,7 +1,7 @@
 -- The columns that are answered so far.
 use Rattle.std.proofs.Common.{◌≡◌, ◌<◌, ℕ, ◌+◌, List, [], ◌∷◌, ◌++◌, length, map, take, get_or, sym, ap, ◌∙◌, arith, append-nil}
 use Rattle.std.proofs.lemmas.List.{length-take, map-append, take_more}
-use Rattle.arrow_schema.specs.declared.schema.Field.{Field}
+use Rattle.arrow_types.specs.declared.schema.Field.{Field}
 use Rattle.arrays.specs.Column.{ColumnAt}
 use Rattle.arrays.specs.Texts.{TextsAt, texts_values}
 use Rattle.dictionary_answers.specs.declared.batches.ColumnDictionary.{ColumnDictionary}

@@ -7,12 +7,12 @@ use Rattle.scan_base.specs.declared.value.Value.{Value}
 use Rattle.scan_base.specs.declared.value.Value.TheVariants.{Null, Bool as Flag, Int, Text}
 use Rattle.scan_base.specs.Value.{IsTextOrNull}
 use Rattle.scan_base.specs.Limits.{most_values}
-use Rattle.arrow_schema.specs.declared.data_type.IntegerType.TheVariants.{Int32}
-use Rattle.arrow_schema.specs.declared.data_type.DictionaryEncoding.{DictionaryEncoding}
-use Rattle.arrow_schema.specs.declared.data_type.DataType.{DataType}
-use Rattle.arrow_schema.specs.declared.data_type.DataType.TheVariants.{Integer, Utf8, Bool as Flags, Decimal128, Date, Dictionary}
-use Rattle.arrow_schema.specs.declared.schema.Field.{Field}
-use Rattle.arrow_schema.specs.declared.schema.Schema.{Schema}
+use Rattle.arrow_types.specs.declared.data_type.IntegerType.TheVariants.{Int32}
+use Rattle.arrow_types.specs.declared.data_type.DictionaryEncoding.{DictionaryEncoding}
+use Rattle.arrow_types.specs.declared.data_type.DataType.{DataType}
+use Rattle.arrow_types.specs.declared.data_type.DataType.TheVariants.{Integer, Utf8, Bool as Flags, Decimal128, Date, Dictionary}
+use Rattle.arrow_types.specs.declared.schema.Field.{Field}
+use Rattle.arrow_types.specs.declared.schema.Schema.{Schema}
 use Rattle.arrays.specs.declared.layout.Layout.{Layout}
 use Rattle.arrays.specs.declared.layout.Layout.TheVariants as layout
 use Rattle.arrays.specs.Number.{integer_at}
@@ -20,18 +20,18 @@ use Rattle.arrays.specs.Dictionary.{entry_at}
 use Rattle.arrays.specs.Batch.{BatchAt, AreLong, rows_of}
 use Rattle.arrays.specs.Column.{ColumnAt, IsColumn, slot_of, values_of}
 use Rattle.arrays.specs.Firsts.{firsts}
-use Rattle.arrays.specs.Typed.{IsOfType, IsValueOf, AreOfTypes, ValuesAreOfTheirType}
-use Rattle.array_buffers.specs.Written.{IsLedBy}
+use Rattle.arrays.specs.TypedLayouts.{IsOfType, IsValueOf, AreOfTypes, ValuesAreOfTheirType}
+use Rattle.array_buffers.specs.ColumnBuffers.{IsLedBy}
 use Rattle.dictionary_answers.specs.Answer.{IsAnswered, IsCodable, AreAnswered, AreCodable, LiesOver, column_dictionary, dictionaries_of}
 use Rattle.dictionary_answers.proofs.Places.{few_behind}
 use Rattle.ipc_batch.specs.State.{Known, Dictionaries, values_under}
 use Rattle.ipc_batch.specs.Columns.{values_led_to}
 use Rattle.ipc_batch.specs.News.{has_id, leads_to}
-use Rattle.ipc_batch.specs.Said.{Sent, Rows}
-use Rattle.ipc_batch.specs.Written.{AreLedBy, SaysBatch, SaysValues}
-use Rattle.ipc_batch.specs.Dressed.{cells_in, is_coded, coded_from, HasTexts, SaysWhole, AddsRows}
+use Rattle.ipc_batch.specs.SaidRows.{Sent, Rows}
+use Rattle.ipc_batch.specs.WrittenMessages.{AreLedBy, SaysBatch, SaysValues}
+use Rattle.ipc_batch.specs.DressedBatches.{cells_in, is_coded, coded_from, HasTexts, SaysWhole, AddsRows}
 use Rattle.ipc_batch.proofs.Dressing.{column_cells, whole_said}
-use Rattle.dictionary_answers.specs.Dress.{IsNumbered, AreNumbered, HoldsTexts, IsDressable, AreDressable}
+use Rattle.dictionary_answers.specs.Dress.{IsNumbered, AreNumbered, IsTextLayout, IsDressable, AreDressable}
 
 -- ---- texts
 
@@ -48,13 +48,13 @@ text_led encoding (Flag flag) is = absurd is
 text_led encoding (Int number) is = absurd is
 
 -- a column that holds texts has no other values
-texts_held : ValuesAreOfTheirType → (column : ColumnAt) → IsColumn column → HoldsTexts column.layout → All IsTextOrNull (values_of column)
+texts_held : ValuesAreOfTheirType → (column : ColumnAt) → IsColumn column → IsTextLayout column.layout → All IsTextOrNull (values_of column)
 texts_held typed column stands holds = by column.layout refl holds
   where
     any : DictionaryEncoding
     any = record { id = 0; index = Int32 }
 
-    by : (known : Layout) → column.layout ≡ known → HoldsTexts known → All IsTextOrNull (values_of column)
+    by : (known : Layout) → column.layout ≡ known → IsTextLayout known → All IsTextOrNull (values_of column)
     by (layout.Texts cells) e holds =
         λ k d low. text_if (get_or (values_of column) k d) (typed Utf8 column stands (subst (IsOfType Utf8) (sym e) tt) k d low)
     by (layout.Indices cells) e holds =

@@ -7,8 +7,8 @@ use Rattle.std.proofs.lemmas.Option.{slice_get-get_or}
 use Rattle.scan_base.specs.declared.value.Value.{Value}
 use Rattle.scan_base.specs.declared.value.Value.TheVariants.{Null}
 use Rattle.scan_base.specs.Value.{is_null}
-use Rattle.arrow_schema.specs.declared.data_type.IntegerType.{IntegerType}
-use Rattle.arrow_schema.specs.DataType.{bit_width, is_signed}
+use Rattle.arrow_types.specs.declared.data_type.IntegerType.{IntegerType}
+use Rattle.arrow_types.specs.DataType.{bit_width, is_signed}
 use Rattle.arrays.specs.Number.{byte_width, element_at, number_from}
 use Rattle.arrays.specs.Validity.{is_valid}
 use Rattle.arrays.specs.Dictionary.{entry_at}
@@ -76,10 +76,6 @@ valid_where cells slot some = by (is_valid cells.validity slot) refl
     by : (t : Bool) → is_valid cells.validity slot ≡ t → is_valid cells.validity slot ≡ true
     by true e = e
     by false e = absurd (let is : is_null Null ≡ false = rw e at some in let no : ⊥ = cc in no)
-
--- a slot whose validity bit is 0 is null
-pub null_where : (cells : IndicesAt) (slot : ℕ) → is_valid cells.validity slot ≡ false → layout_slot (layout.Indices cells) slot ≡ Null
-null_where cells slot e = rw e refl
 
 -- where no slot is counted as null, none is
 pub none_null : (f : ℕ → Value) (a n k : ℕ) → length (filter is_null (map f (range_with_len a n))) ≡ 0 → k < n → is_null (f (a + k)) ≡ false

@@ -8,7 +8,7 @@ use Rattle.std.proofs.lemmas.Option.{slice_get_within, slice_get-get_or, get_or_
 use Rattle.scan_base.specs.declared.value.Value.{Value}
 use Rattle.scan_base.specs.declared.value.Value.TheVariants.{Null, Text}
 use Rattle.scan_base.specs.Value.{IsTextOrNull}
-use Rattle.arrow_schema.specs.declared.data_type.IntegerType.TheVariants.{Int32}
+use Rattle.arrow_types.specs.declared.data_type.IntegerType.TheVariants.{Int32}
 use Rattle.arrays.specs.Number.{number_from}
 use Rattle.arrays.specs.Validity.{is_valid}
 use Rattle.arrays.specs.Dictionary.{entry_at}
@@ -16,7 +16,7 @@ use Rattle.arrays.specs.Indices.{IndicesAt, AreIndices, entry_of, index_stands}
 use Rattle.arrays.specs.Layout.{layout_slot}
 use Rattle.arrays.specs.declared.layout.Layout.TheVariants as layout
 use Rattle.dictionary_answers.specs.Firsts.{Leads, AreLed}
-use Rattle.dictionary_answers.specs.inside.Packed.{ArePacked, AreValidWhereSome}
+use Rattle.dictionary_answers.specs.inside.PackedPlaces.{ArePacked, AreValidWhereSome}
 
 -- a small number of 32 bits has no sign
 pub plain : (n : ℕ) → n < 2 ^ 31 → number_from Int32 n ≡ pos n

@@ -6,26 +6,26 @@ use Rattle.std.proofs.lemmas.List.FromFn.{length-map-range_with_len}
 use Rattle.scan_base.specs.declared.value.Value.{Value}
 use Rattle.scan_base.specs.declared.value.Value.TheVariants.{Text}
 use Rattle.scan_base.specs.Value.{is_null}
-use Rattle.arrow_schema.specs.declared.data_type.DataType.{DataType}
-use Rattle.arrow_schema.specs.declared.data_type.DataType.TheVariants.{Integer, Utf8, Bool as Flags, Decimal128, Date, Dictionary}
-use Rattle.arrow_schema.specs.declared.schema.Field.{Field}
+use Rattle.arrow_types.specs.declared.data_type.DataType.{DataType}
+use Rattle.arrow_types.specs.declared.data_type.DataType.TheVariants.{Integer, Utf8, Bool as Flags, Decimal128, Date, Dictionary}
+use Rattle.arrow_types.specs.declared.schema.Field.{Field}
 use Rattle.arrays.specs.declared.layout.Layout.{Layout}
 use Rattle.arrays.specs.declared.layout.Layout.TheVariants as layout
 use Rattle.arrays.specs.Number.{byte_width}
 use Rattle.arrays.specs.Column.{ColumnAt, slot_of, values_of, whole}
 use Rattle.arrays.specs.Firsts.{firsts}
 use Rattle.arrays.specs.Texts.{TextsAt, texts_values}
-use Rattle.arrays.specs.Written.{elements, offsets_from, texts_joined}
+use Rattle.arrays.specs.WrittenSlots.{elements, offsets_from, texts_joined}
 use Rattle.arrays.proofs.Offsets.{length-offsets}
-use Rattle.array_buffers.specs.Written.{packed_bits, validity_written, values_written, written_by, buffers_written as column_written}
+use Rattle.array_buffers.specs.ColumnBuffers.{packed_bits, validity_written, values_written, written_by, buffers_written as column_written}
 use Rattle.dictionary_answers.specs.declared.batches.ColumnDictionary.{ColumnDictionary}
 use Rattle.dictionary_answers.specs.Answer.{IsAnswered, AreAnswered, LiesOver, column_bytes, coded_bytes, column_dictionary, dictionaries_of, dictionary_seen}
 use Rattle.dictionary_answers.specs.Firsts.{bytes_in}
-use Rattle.ipc_batch.specs.Written.{body_of, body_length, buffers_written, values_batch}
+use Rattle.ipc_batch.specs.WrittenMessages.{body_of, body_length, batch_buffers_written, values_batch}
 use Rattle.ipc_batch.proofs.DictionaryAgain.{texts_whole}
 use Rattle.ipc_batch.proofs.WriterLoops.{buffer_more, length_more}
 use Rattle.dictionary_answers.specs.Lengths.{with_zeros, texts_length, column_length, dressed_length}
-use Rattle.dictionary_answers.specs.inside.Written.{written_length, all_written}
+use Rattle.dictionary_answers.specs.inside.WrittenLengths.{written_length, all_written}
 
 -- ---- buffers
 
@@ -122,26 +122,26 @@ tail (one ∷ more) = more
 -- what is written has no more bytes than it may
 pub written_short : (number : ℕ) (fields : List Field) (columns made : List ColumnAt) (dictionaries : List ColumnDictionary) → AreAnswered fields columns made →
     map dictionary_seen dictionaries ≡ dictionaries_of number fields columns →
-    all_written dictionaries + length (body_of (buffers_written made)) ≤ dressed_length fields columns
+    all_written dictionaries + length (body_of (batch_buffers_written made)) ≤ dressed_length fields columns
 written_short number [] [] [] [] answered is = omega arith
 written_short number [] [] [] (d ∷ dictionaries) answered is = absurd (omega (arith, ap length is))
 written_short number (field ∷ fields) (column ∷ columns) (m ∷ made) dictionaries answered is =
     by (λ some are. written_short (number + 1) fields columns made some answered.1 are) field.data_type answered.0 is
   where
-    behind : length (body_of (buffers_written (m ∷ made))) ≡ length (body_of (column_written m)) + length (body_of (buffers_written made))
+    behind : length (body_of (batch_buffers_written (m ∷ made))) ≡ length (body_of (column_written m)) + length (body_of (batch_buffers_written made))
     behind = length_more (m ∷ made) made 0 m refl
 
     same : ((some : List ColumnDictionary) → map dictionary_seen some ≡ dictionaries_of (number + 1) fields columns →
-        all_written some + length (body_of (buffers_written made)) ≤ dressed_length fields columns) → (t : DataType) → column_length t column ≡ length (body_of (column_written column)) → m ≡ column → map dictionary_seen dictionaries ≡ dictionaries_of (number + 1) fields columns →
-        all_written dictionaries + length (body_of (buffers_written (m ∷ made))) ≤ column_length t column + dressed_length fields columns
+        all_written some + length (body_of (batch_buffers_written made)) ≤ dressed_length fields columns) → (t : DataType) → column_length t column ≡ length (body_of (column_written column)) → m ≡ column → map dictionary_seen dictionaries ≡ dictionaries_of (number + 1) fields columns →
+        all_written dictionaries + length (body_of (batch_buffers_written (m ∷ made))) ≤ column_length t column + dressed_length fields columns
     same rest t long e are =
         let first : length (body_of (column_written m)) ≡ length (body_of (column_written column)) = ap (λ (c : ColumnAt). length (body_of (column_written c))) e in
         omega (arith, behind, rest dictionaries are, first, long)
 
     of : ((some : List ColumnDictionary) → map dictionary_seen some ≡ dictionaries_of (number + 1) fields columns →
-        all_written some + length (body_of (buffers_written made)) ≤ dressed_length fields columns) → (some : List ColumnDictionary) → (values_of m ≡ values_of column) × LiesOver (firsts (values_of column)) m →
+        all_written some + length (body_of (batch_buffers_written made)) ≤ dressed_length fields columns) → (some : List ColumnDictionary) → (values_of m ≡ values_of column) × LiesOver (firsts (values_of column)) m →
         map dictionary_seen some ≡ (number, map Text (firsts (values_of column))) ∷ dictionaries_of (number + 1) fields columns →
-        all_written some + length (body_of (buffers_written (m ∷ made)))
+        all_written some + length (body_of (batch_buffers_written (m ∷ made)))
         ≤ texts_length (firsts (values_of column)) + (with_zeros (length (validity_written column)) + with_zeros (4 * column.len)) + dressed_length fields columns
     of rest [] over are = absurd (omega (arith, ap length are))
     of rest (d ∷ some) over are =
@@ -156,8 +156,8 @@ written_short number (field ∷ fields) (column ∷ columns) (m ∷ made) dictio
         )
 
     by : ((some : List ColumnDictionary) → map dictionary_seen some ≡ dictionaries_of (number + 1) fields columns →
-        all_written some + length (body_of (buffers_written made)) ≤ dressed_length fields columns) → (t : DataType) → IsAnswered t column m → map dictionary_seen dictionaries ≡ map (λ values. (number, values)) (column_dictionary t column) ++ dictionaries_of (number + 1) fields columns →
-        all_written dictionaries + length (body_of (buffers_written (m ∷ made))) ≤ column_length t column + dressed_length fields columns
+        all_written some + length (body_of (batch_buffers_written made)) ≤ dressed_length fields columns) → (t : DataType) → IsAnswered t column m → map dictionary_seen dictionaries ≡ map (λ values. (number, values)) (column_dictionary t column) ++ dictionaries_of (number + 1) fields columns →
+        all_written dictionaries + length (body_of (batch_buffers_written (m ∷ made))) ≤ column_length t column + dressed_length fields columns
     by rest (Integer integer) e are = same rest (Integer integer) refl e are
     by rest Utf8 e are = same rest Utf8 refl e are
     by rest Flags e are = same rest Flags refl e are

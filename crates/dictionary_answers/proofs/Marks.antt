@@ -1,13 +1,12 @@
 -- Lists of places where a mark stands for none.
-use Rattle.std.proofs.Common.{◌≡◌, ◌≢◌, ◌≤◌, ◌<◌, ◌^◌, ℕ, zero, suc, pos, ◌+◌, ◌/◌, ◌||◌, not, Bool, true, false, List, [], ◌∷◌, length, map, get_or, set, nat_eq, Option, Some, None, is_some, unwrap_or, refl, sym, ap, ◌∙◌, inl, inr, arith}
-use Rattle.std.specs.List.{flat_map, list_any}
-use Rattle.std.proofs.lemmas.Bool.{cases_eq, ne_eqb}
-use Rattle.std.proofs.lemmas.Option.{slice_get_within}
+use Rattle.std.proofs.Common.{◌≡◌, ◌≢◌, ◌≤◌, ◌<◌, ℕ, zero, suc, pos, ◌+◌, ◌/◌, ◌||◌, not, Bool, true, false, List, [], ◌∷◌, length, map, get_or, set, nat_eq, Option, Some, None, is_some, unwrap_or, refl, sym, ap, ◌∙◌, arith}
+use Rattle.std.specs.List.{list_any}
+use Rattle.std.proofs.lemmas.Bool.{ne_eqb}
 use Rattle.std.proofs.lemmas.List.{length-map, get_or-map, get_or_default}
 use Rattle.std.proofs.lemmas.List.FromFn.{length-map-range_with_len, get_or-map-range_with_len}
-use Rattle.byteorder.specs.Endian.{IsMapped, little_bytes}
+use Rattle.byteorder.specs.Endian.{IsMapped}
 use Rattle.byteorder.proofs.Slices.{MappedTo, mapped_all, mapped_more}
-use Rattle.arrow_schema.specs.declared.data_type.IntegerType.TheVariants.{Int32}
+use Rattle.arrow_types.specs.declared.data_type.IntegerType.TheVariants.{Int32}
 use Rattle.arrays.specs.Number.{element_at, integer_at, number_from}
 use Rattle.scan_base.specs.declared.value.Value.{Value}
 use Rattle.scan_base.specs.declared.value.Value.TheVariants.{Null}
@@ -15,12 +14,16 @@ use Rattle.scan_base.specs.Value.{is_null}
 use Rattle.arrays.specs.Column.{ColumnAt, slot_of, values_of}
 use Rattle.arrays.specs.Nulls.{null_count}
 use Rattle.dictionary_answers.specs.Firsts.{AreLed, Leads}
-use Rattle.dictionary_answers.specs.Coded.{held, no_place}
-use Rattle.dictionary_answers.specs.inside.Packed.{numbers_in, shown, ArePacked, AreValidWhereSome}
+use Rattle.dictionary_answers.specs.inside.CodedTexts.{held, no_place}
+use Rattle.dictionary_answers.specs.inside.PackedPlaces.{numbers_in, ArePacked, AreValidWhereSome}
 use Rattle.dictionary_answers.proofs.Indexed.{none_null}
 use Rattle.dictionary_answers.proofs.IndicesMade.{led_at, plain}
-use Rattle.dictionary_answers.proofs.Numbers.{length-numbers, get_or-numbers, numbers_packed}
-use Rattle.dictionary_answers.proofs.Adding.{held_some}
+use Rattle.dictionary_answers.proofs.Numbers.{length-numbers, get_or-numbers}
+use Rattle.std.specs.Prelude.{if◌then◌else◌}
+
+-- a number in a list of places, as it is packed
+abbrev pub shown : ℕ → ℕ
+shown number = if nat_eq number no_place then 0 else number
 
 -- a number is a place where it is not the mark
 pub held_where : (number : ℕ) → is_some (held number) ≡ not (nat_eq number no_place)
@@ -77,25 +80,6 @@ shown_more old bytes after slot number put low read made is before =
     let fits : slot < length (numbers_in bytes) = omega (arith, length-numbers bytes, low) in
     rw is (mapped_more shown old (numbers_in bytes) slot put number fits
     (read ∙ sym (get_or-numbers bytes slot low) ∙ get_or_default (numbers_in bytes) slot 0 number fits) made before)
-
--- a number that leads to a value has 32 bits
-small_led : (texts : List (List ℕ)) (number : ℕ) (value : Value) → length texts ≤ 2 ^ 31 → Leads texts (held number) value → number < 2 ^ 32
-small_led texts number value few leads = elim (cases_eq number no_place) [
-  | inl same ↦ omega (arith, same)
-  | inr other ↦
-      let at : held number ≡ Some number = held_some number other in
-      let there : Leads texts (Some number) value = rw at at leads in
-      omega (arith, slice_get_within texts number there.0 there.1, few)
-]
-
--- so numbers that were packed are read back
-pub numbers_made : (texts : List (List ℕ)) (numbers bytes : List ℕ) (values : List Value) → length texts ≤ 2 ^ 31 → AreLed texts (map held numbers) values →
-    bytes ≡ flat_map (little_bytes 4) numbers → numbers_in bytes ≡ numbers
-numbers_made texts numbers bytes values few led made =
-    ap numbers_in made ∙ numbers_packed numbers (λ k low.
-    let at : get_or (map held numbers) k None ≡ held (get_or numbers k 0) = get_or-map held numbers k 0 None low in
-    small_led texts (get_or numbers k 0) (get_or values k Null) few
-    (rw at at (led_at texts (map held numbers) values led k (omega (arith, length-map numbers held, low)))))
 
 -- all are shown
 pub shown_all : (old new : List ℕ) (slot : ℕ) → length old / 4 ≤ slot → MappedTo shown (numbers_in old) (numbers_in new) slot → ArePacked new (map held (numbers_in old))

@@ -1,6 +1,5 @@
 -- Numbers of 32 bits in bytes.
-use Rattle.std.proofs.Common.{◌≡◌, ◌≢◌, ◌≤◌, ◌<◌, ◌^◌, ℕ, zero, suc, ◌+◌, ◌-◌, ◌*◌, ◌/◌, List, [], ◌∷◌, ◌++◌, length, set, take, drop, get_or, append_assoc, append-nil, refl, sym, ap, ◌∙◌, inl, inr, arith}
-use Rattle.std.specs.List.{flat_map}
+use Rattle.std.proofs.Common.{◌≡◌, ◌≢◌, ◌≤◌, ◌<◌, ◌^◌, ℕ, ◌+◌, ◌-◌, ◌*◌, ◌/◌, List, [], ◌++◌, length, set, take, drop, get_or, append_assoc, append-nil, sym, ap, ◌∙◌, inl, inr, arith}
 use Rattle.std.proofs.Math.Seq.{drop-append_seam, drop-drop, drop_at}
 use borrow.Rule.Slice.PartMut.{mid_of, put_mid}
 use Rattle.std.proofs.lemmas.Bool.{cases_eq, cases_lt}
@@ -10,7 +9,7 @@ use Rattle.byteorder.specs.Endian.{little_from, little_bytes}
 use Rattle.byteorder.specs.Numbers.{little_from-take, little_number-reads_back, length-bytes_low_first}
 use Rattle.bitmap.proofs.Masks.{little_drop}
 use Rattle.arrays.specs.Number.{element_at}
-use Rattle.dictionary_answers.specs.inside.Packed.{numbers_in}
+use Rattle.dictionary_answers.specs.inside.PackedPlaces.{numbers_in}
 
 -- there is a number for each four bytes
 pub length-numbers : (bytes : List ℕ) → length (numbers_in bytes) ≡ length bytes / 4
@@ -71,31 +70,6 @@ unfolding element_at
 number_behind front rest k number long small =
     let e : 4 * k ≡ length front + 0 = omega (arith, long) in
     rw e (behind front (little_bytes 4 number ++ rest) 0 4) ∙ little_number-reads_back 4 number rest small
-
-length-packed : (numbers : List ℕ) → length (flat_map (little_bytes 4) numbers) ≡ 4 * length numbers
-length-packed [] = refl
-length-packed (number ∷ numbers) =
-    omega (arith, length-append (little_bytes 4 number) (flat_map (little_bytes 4) numbers), length-bytes_low_first 0 4 number, length-packed numbers)
-
-number_again : (numbers : List ℕ) (k : ℕ) → k < length numbers → get_or numbers k 0 < 2 ^ 32 → element_at 4 (flat_map (little_bytes 4) numbers) k ≡ get_or numbers k 0
-unfolding element_at
-number_again [] k low small = absurd (omega arith)
-number_again (number ∷ numbers) zero low small = little_number-reads_back 4 number (flat_map (little_bytes 4) numbers) small
-number_again (number ∷ numbers) (suc k) low small =
-    let at : 4 * suc k ≡ length (little_bytes 4 number) + 4 * k = omega (arith, length-bytes_low_first 0 4 number) in
-    ap (λ (p : ℕ). little_from p 4 (little_bytes 4 number ++ flat_map (little_bytes 4) numbers)) at
-    ∙ behind (little_bytes 4 number) (flat_map (little_bytes 4) numbers) (4 * k) 4
-    ∙ number_again numbers k (omega arith) small
-
--- numbers that were packed are read back
-pub numbers_packed : (numbers : List ℕ) → ((k : ℕ) → k < length numbers → get_or numbers k 0 < 2 ^ 32) → numbers_in (flat_map (little_bytes 4) numbers) ≡ numbers
-numbers_packed numbers small =
-    let bytes : List ℕ = flat_map (little_bytes 4) numbers in
-    let many : length bytes / 4 ≡ length numbers = omega (arith, length-packed numbers) in
-    ext_get_or 0 (numbers_in bytes) numbers (length-numbers bytes ∙ many)
-    (λ k low.
-    let under : k < length numbers = omega (arith, low, length-numbers bytes, many) in
-    get_or-numbers bytes k (omega (arith, many, under)) ∙ number_again numbers k under (small k under))
 
 -- a number is put in the stead of another
 put_bytes : (bytes : List ℕ) (k number : ℕ) → 4 * (k + 1) ≤ length bytes → number < 2 ^ 32 →

@@ -10,7 +10,7 @@ use Rattle.scan_base.specs.Limits.{most_values}
 use Rattle.arrays.specs.Dictionary.{extended_by}
 use Rattle.arrays.specs.Number.{element_at}
 use Rattle.arrays.specs.Texts.{TextsAt, texts_of, texts_slot, texts_stand, texts_values}
-use Rattle.arrays.specs.Written.{text_bytes, texts_joined, offsets_from}
+use Rattle.arrays.specs.WrittenSlots.{text_bytes, texts_joined, offsets_from}
 use Rattle.arrays.proofs.Offsets.{offset_again, text_again}
 use Rattle.dictionary_answers.specs.Firsts.{bytes_in}
 

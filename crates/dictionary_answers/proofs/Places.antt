@@ -11,9 +11,9 @@ use Rattle.indexmap.specs.IndexSet.{insert_key}
 use Rattle.indexmap.proofs.SetLemmas.{AllZip-push}
 use Rattle.scan_base.specs.declared.value.Value.{Value}
 use Rattle.scan_base.specs.declared.value.Value.TheVariants.{Null, Bool as Flag, Int, Text}
-use Rattle.arrays.specs.Written.{text_bytes}
+use Rattle.arrays.specs.WrittenSlots.{text_bytes}
 use Rattle.dictionary_answers.specs.Firsts.{text_in, with_text, firsts, firsts_behind, bytes_in, Leads, AreLed}
-use Rattle.dictionary_answers.specs.Coded.{AreCoded, held, FoundAt, coded_at}
+use Rattle.dictionary_answers.specs.inside.CodedTexts.{AreCoded, held, DistinctTextsAt, coded_texts_at}
 use Rattle.dictionary_answers.specs.inside.Coding.{Finds}
 
 pub any_map : {A : Type 0} (f : A → List ℕ) (p : List ℕ → Bool) (xs : List A) → list_any p (map f xs) ≡ list_any (λ x. p (f x)) xs
@@ -108,8 +108,8 @@ leads_behind texts (Flag flag) place other leads = leads
 leads_behind texts (Int number) place other leads = leads
 
 -- a slot more is coded
-pub coded_more : (values : List Value) (room : ℕ) (old new : FoundAt) (places : List ℕ) (place : ℕ) (value : Value) → AreCoded values room (coded_at old places) → Finds old new place value →
-    AreCoded (values ++ value ∷ []) room (coded_at new (places ++ place ∷ []))
+pub coded_more : (values : List Value) (room : ℕ) (old new : DistinctTextsAt) (places : List ℕ) (place : ℕ) (value : Value) → AreCoded values room (coded_texts_at old places) → Finds old new place value →
+    AreCoded (values ++ value ∷ []) room (coded_texts_at new (places ++ place ∷ []))
 coded_more values room old new places place value are finds = record {
   texts = finds.texts ∙ ap (λ (t : List (List ℕ)). firsts_behind t (value ∷ [])) are.texts ∙ sym (firsts_more values value);
   places = rw (map-append held places (place ∷ []))

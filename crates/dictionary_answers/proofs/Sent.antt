@@ -5,11 +5,11 @@ use Rattle.std.proofs.lemmas.List.Elements.{All-nil, All-cons}
 use Rattle.scan_base.specs.declared.value.Value.{Value}
 use Rattle.dictionary_answers.specs.declared.batches.ColumnDictionary.{ColumnDictionary}
 use Rattle.dictionary_answers.specs.Answer.{dictionary_seen}
-use Rattle.ipc_batch.specs.Said.{Sent}
-use Rattle.ipc_batch.specs.Written.{most_header_bytes, SaysValues}
+use Rattle.ipc_batch.specs.SaidRows.{Sent}
+use Rattle.ipc_batch.specs.WrittenMessages.{most_header_bytes, SaysValues}
 use Rattle.dictionary_answers.specs.Dress.{ClaimsAll, IsMessageOf}
 use Rattle.dictionary_answers.specs.Lengths.{bodies_length}
-use Rattle.dictionary_answers.specs.inside.Written.{written_length, all_written}
+use Rattle.dictionary_answers.specs.inside.WrittenLengths.{written_length, all_written}
 
 -- one message more
 pub message_more : (dictionaries : List ColumnDictionary) (sents : List Sent) (dictionary : ColumnDictionary) (sent : Sent) → AllZip IsMessageOf dictionaries sents → IsMessageOf dictionary sent →

@@ -2,15 +2,15 @@
 use Rattle.std.proofs.Common.{◌≡◌, ◌≤◌, ℕ, suc, All, List, [], ◌∷◌, length, map, refl, ap, arith}
 use Rattle.std.specs.List.{AllZip}
 use Rattle.scan_base.specs.Limits.{most_values}
-use Rattle.arrow_schema.specs.declared.schema.Field.{Field}
-use Rattle.arrow_schema.specs.declared.schema.Schema.{Schema}
+use Rattle.arrow_types.specs.declared.schema.Field.{Field}
+use Rattle.arrow_types.specs.declared.schema.Schema.{Schema}
 use Rattle.arrays.specs.Batch.{BatchAt, AreLong, rows_of}
 use Rattle.arrays.specs.Column.{ColumnAt, IsColumn}
-use Rattle.arrays.specs.Typed.{ValuesAreOfTheirType}
+use Rattle.arrays.specs.TypedLayouts.{ValuesAreOfTheirType}
 use Rattle.dictionary_answers.specs.declared.batches.ColumnDictionary.{ColumnDictionary}
 use Rattle.dictionary_answers.specs.Answer.{AreAnswered, dictionaries_of, dictionary_seen}
-use Rattle.ipc_batch.specs.Seen.{written_seen}
-use Rattle.dictionary_answers.specs.declared.dressed.DressedBatch.{DressedBatch}
+use Rattle.ipc_batch.specs.MessageView.{written_seen}
+use Rattle.dictionary_answers.specs.declared.dressed_batch.DressedBatch.{DressedBatch}
 use Rattle.dictionary_answers.specs.Dress.{AreDressable, AreNumbered, IsDressedBatch, IsMessageOf}
 use Rattle.dictionary_answers.proofs.Dressing.{adds_rows, batch_cells, dictionaries_whole, dressable_coded}
 use Rattle.dictionary_answers.proofs.Lengths.{written_short}

@@ -1,11 +1,11 @@
 -- Batches over their own texts, after the messages of these.
 use Rattle.std.specs.Prelude.{◌≡◌, ◌≤◌, ℕ, ◌+◌, false, List, [], ◌∷◌, All, length, map, Ok}
 use Rattle.std.specs.List.{AllZip}
-use Rattle.arrow_schema.specs.declared.data_type.IntegerType.TheVariants.{Int32}
-use Rattle.arrow_schema.specs.declared.data_type.DataType.{DataType}
-use Rattle.arrow_schema.specs.declared.data_type.DataType.TheVariants.{Dictionary}
-use Rattle.arrow_schema.specs.declared.schema.Field.{Field}
-use Rattle.arrow_schema.specs.declared.schema.Schema.{Schema}
+use Rattle.arrow_types.specs.declared.data_type.IntegerType.TheVariants.{Int32}
+use Rattle.arrow_types.specs.declared.data_type.DataType.{DataType}
+use Rattle.arrow_types.specs.declared.data_type.DataType.TheVariants.{Dictionary}
+use Rattle.arrow_types.specs.declared.schema.Field.{Field}
+use Rattle.arrow_types.specs.declared.schema.Schema.{Schema}
 use Rattle.arrow_schema.specs.Header.{MessageAt, message_of, body_length_of}
 use Rattle.arrays.specs.declared.layout.Layout.{Layout}
 use Rattle.arrays.specs.declared.layout.Layout.TheVariants as layout
@@ -13,16 +13,16 @@ use Rattle.arrays.specs.Batch.{BatchAt, rows_of}
 use Rattle.arrays.specs.Column.{ColumnAt}
 use Rattle.arrays.specs.Firsts.{firsts}
 use Rattle.arrays.specs.Texts.{texts_values}
-use Rattle.arrays.specs.Typed.{IsOfType}
+use Rattle.arrays.specs.TypedLayouts.{IsOfType}
 use Rattle.dictionary_answers.specs.Answer.{AreAnswered}
 use Rattle.dictionary_answers.specs.declared.batches.ColumnDictionary.{ColumnDictionary}
-use Rattle.ipc_batch.specs.Said.{Sent}
-use Rattle.ipc_batch.specs.Written.{body_length, most_header_bytes, values_batch, SaysBatch}
-use Rattle.ipc_batch.specs.Written.{SaysValues}
-use Rattle.ipc_batch.specs.Seen.{written_seen}
-use Rattle.ipc_batch.specs.Dressed.{cells_in, coded_from, SaysWhole, AddsRows}
+use Rattle.ipc_batch.specs.SaidRows.{Sent}
+use Rattle.ipc_batch.specs.WrittenMessages.{body_length, most_header_bytes, values_batch, SaysBatch}
+use Rattle.ipc_batch.specs.WrittenMessages.{SaysValues}
+use Rattle.ipc_batch.specs.MessageView.{written_seen}
+use Rattle.ipc_batch.specs.DressedBatches.{cells_in, coded_from, SaysWhole, AddsRows}
 use Rattle.dictionary_answers.specs.Lengths.{bodies_length, dressed_length}
-use Rattle.dictionary_answers.specs.declared.dressed.DressedBatch.{DressedBatch}
+use Rattle.dictionary_answers.specs.declared.dressed_batch.DressedBatch.{DressedBatch}
 
 -- the id of a dictionary is the number of its column, and its indices have 32 bits
 abbrev pub IsNumbered : ℕ → DataType → Type 0
@@ -36,14 +36,14 @@ AreNumbered number (field ∷ fields) =
     IsNumbered number field.data_type × AreNumbered (number + 1) fields
 
 -- texts, as they are or by indices
-abbrev pub HoldsTexts : Layout → Type 0
-HoldsTexts (layout.Texts cells) = Unit {0}
-HoldsTexts (layout.Indices cells) = Unit {0}
-HoldsTexts _ = ⊥
+abbrev pub IsTextLayout : Layout → Type 0
+IsTextLayout (layout.Texts cells) = Unit {0}
+IsTextLayout (layout.Indices cells) = Unit {0}
+IsTextLayout _ = ⊥
 
 -- a column that a dictionary may be made of holds texts, and any other is of its field's type
 abbrev pub IsDressable : DataType → ColumnAt → Type 0
-IsDressable (Dictionary encoding) column = HoldsTexts column.layout
+IsDressable (Dictionary encoding) column = IsTextLayout column.layout
 IsDressable data_type column = IsOfType data_type column.layout
 
 -- the same of one column for each field

@@ -3,7 +3,7 @@ use Rattle.std.specs.Prelude.{◌≡◌, ℕ, List, Option, Some, None, length, 
 use Rattle.std.specs.List.{AllZip}
 use Rattle.scan_base.specs.declared.value.Value.{Value}
 use Rattle.scan_base.specs.declared.value.Value.TheVariants.{Null, Text}
-use Rattle.arrays.specs.Written.{texts_joined}
+use Rattle.arrays.specs.WrittenSlots.{texts_joined}
 pub use Rattle.arrays.specs.Firsts.{text_in, with_text, firsts_behind, firsts}
 
 -- a place among texts leads to a value: none to null, and one to the text that stands there

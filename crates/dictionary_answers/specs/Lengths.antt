@@ -1,13 +1,13 @@
 -- How many bytes the bodies have of the messages of a batch and of its dictionaries.
 use Rattle.std.specs.Prelude.{ℕ, ◌+◌, ◌*◌, ◌-◌, ◌%◌, List, [], ◌∷◌, length}
-use Rattle.arrow_schema.specs.declared.data_type.DataType.{DataType}
-use Rattle.arrow_schema.specs.declared.data_type.DataType.TheVariants.{Dictionary}
-use Rattle.arrow_schema.specs.declared.schema.Field.{Field}
+use Rattle.arrow_types.specs.declared.data_type.DataType.{DataType}
+use Rattle.arrow_types.specs.declared.data_type.DataType.TheVariants.{Dictionary}
+use Rattle.arrow_types.specs.declared.schema.Field.{Field}
 use Rattle.arrays.specs.Column.{ColumnAt, values_of}
-use Rattle.array_buffers.specs.Written.{validity_written, buffers_written}
+use Rattle.array_buffers.specs.ColumnBuffers.{validity_written, buffers_written}
 use Rattle.dictionary_answers.specs.Firsts.{firsts, bytes_in}
-use Rattle.ipc_batch.specs.Said.{Sent}
-use Rattle.ipc_batch.specs.Written.{body_of}
+use Rattle.ipc_batch.specs.SaidRows.{Sent}
+use Rattle.ipc_batch.specs.WrittenMessages.{body_of}
 
 -- so many bytes, and zeros after them up to a multiple of 8
 abbrev pub with_zeros : ℕ → ℕ

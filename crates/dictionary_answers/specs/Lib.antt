@@ -1,5 +1,4 @@
 pub mod Firsts
-pub mod Coded
 pub mod Answer
 pub mod inside
 pub mod Dress

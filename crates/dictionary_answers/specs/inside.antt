@@ -1,6 +1,7 @@
 -- What contracts of this crate's private functions alone cite.
 pub mod Coding
 pub mod Table
-pub mod Packed
+pub mod PackedPlaces
 pub mod Blocks
-pub mod Written
+pub mod WrittenLengths
+pub mod CodedTexts

@@ -11,12 +11,12 @@ ghost use Rattle.dictionary_answers.specs.Answer.{AreAnswered, AreCodable, IsAns
 ghost use Rattle.dictionary_answers.specs.Answer.{coded_bytes, column_bytes, column_dictionary};
 ghost use Rattle.dictionary_answers.specs.Answer.{dictionaries_of, dictionary_seen};
 
-use crate::built::{column_over, column_validity};
 use crate::coding::Stop;
 use crate::columns::code_packed;
+use crate::index_columns::{column_over, column_validity};
 use arrays::{Batch, Cells, Column, Texts};
-use arrow_schema::{DataType, Field, Schema};
-use hash_seed::HashSeed;
+use arrow_types::{DataType, Field, Schema};
+use scan_base::HashSeed;
 use std::alloc::{AllocError, Global};
 
 /// The number of a column, counted from 0, and the texts over which it lies.

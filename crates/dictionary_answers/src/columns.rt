@@ -11,20 +11,20 @@ ghost use Rattle.arrays.specs.Number.{byte_width};
 ghost use Rattle.arrays.specs.declared.layout.Layout.TheVariants as layout;
 ghost use Rattle.dictionary_answers.specs.declared.coding.Stop.TheVariants.{OutOfRoom};
 ghost use Rattle.dictionary_answers.specs.Firsts.{bytes_in, firsts, firsts_behind};
-ghost use Rattle.dictionary_answers.specs.Coded.{AreCoded, coded_at};
+ghost use Rattle.dictionary_answers.specs.inside.CodedTexts.{AreCoded, coded_texts_at};
 ghost use Rattle.dictionary_answers.specs.inside.Coding.{Finds, room_of};
 ghost use Rattle.dictionary_answers.specs.inside.Blocks.{AreCodedTo, IsBlock};
-ghost use Rattle.dictionary_answers.specs.inside.Packed.{numbers_in};
+ghost use Rattle.dictionary_answers.specs.inside.PackedPlaces.{numbers_in};
 ghost use Rattle.dictionary_answers.specs.inside.Table.{AreMet, IsTable};
 
-use crate::coding::{Coded, NO_PLACE, Stop};
-use crate::found::Found;
-use crate::indices::{Block, IndexColumn, IndexElement, is_valid, valid_index};
-use crate::packed::{put_number, unpack_numbers, zeros};
-use arrays::{Cells, Column, Indices, Layout};
-use arrow_schema::IntegerType;
-use hash_seed::HashSeed;
+use crate::coding::{NO_PLACE, Stop};
+use crate::distinct_texts::DistinctTexts;
+use crate::indices::{Block, IndexColumn, valid_index};
+use crate::packed_numbers::{put_number, zeros};
+use arrays::{Cells, Code, Column, Indices, Layout};
+use arrow_types::IntegerType;
 use indexmap::IndexMap;
+use scan_base::HashSeed;
 use std::alloc::Global;
 
 // For each slot of a column, its dictionary may have so many values for a table of them to be made:
@@ -34,46 +34,30 @@ const VALUES_FOR_EACH_SLOT: usize = 16;
 // How many slots are copied before it is asked whether the table had met all their indices.
 const BLOCK_SLOTS: usize = 1_024;
 
-/// The texts of a column, each once, and which of them each slot holds. No text is copied. Where
-/// slots are indices, one text is looked up for each index that is met.
+/// The texts of a column, each once, and which of them each slot holds, as places of four bytes
+/// each. No text is copied. Where slots are indices, one text is looked up for each index that is
+/// met.
 ///
 /// # Errors
 ///
 /// - `Stop::OutOfRoom` where the texts have more than `room` bytes. It comes at the text with which
 ///   they have.
 /// - `Stop::OutOfMemory` where memory is refused.
-pub fn code_column<'t>(
-    alloc: Global,
-    seed: HashSeed,
-    column: &'t Column,
-    room: usize,
-) -> Result<Coded<'t>, Stop>
-    requires small { column.now.len < 2 ^ 31 }
-    requires texts { All IsTextOrNull (values_of column.now) }
-    ensures coded { IfOk result (AreCoded (values_of column.now) room) }
-    ensures full { IfErr result
-        (λ stop. stop ≡ OutOfRoom → room < bytes_in (firsts (values_of column.now))) }
-{
-    let (found, packed) = code_packed(alloc, seed, column, room)?;
-    let places = unpack_numbers(alloc, &packed)?;
-    Ok(Coded::new(found, places))
-}
-
-/// The same, where the places stand in four bytes each.
 pub(crate) fn code_packed<'t>(
     alloc: Global,
     seed: HashSeed,
     column: &'t Column,
     room: usize,
-) -> Result<(Found<'t>, Vec<u8>), Stop>
+) -> Result<(DistinctTexts<'t>, Vec<u8>), Stop>
     requires small { column.now.len < 2 ^ 31 }
     requires texts { All IsTextOrNull (values_of column.now) }
     ensures coded { IfOk result
-        (λ made. AreCoded (values_of column.now) room (coded_at made.0 (numbers_in made.1.items))) }
+        (λ made. AreCoded (values_of column.now) room
+        (coded_texts_at made.0 (numbers_in made.1.items))) }
     ensures full { IfErr result
         (λ stop. stop ≡ OutOfRoom → room < bytes_in (firsts (values_of column.now))) }
 {
-    let mut found = Found::new(alloc, seed, room);
+    let mut found = DistinctTexts::new(alloc, seed, room);
     let mut packed = zeros(alloc, column.len())?;
     code_slots(alloc, seed, &mut found, column, &mut packed)?;
     Ok((found, packed))
@@ -83,16 +67,16 @@ pub(crate) fn code_packed<'t>(
 fn code_slots<'t>(
     alloc: Global,
     seed: HashSeed,
-    found: &mut Found<'t>,
+    found: &mut DistinctTexts<'t>,
     column: &'t Column,
     packed: &mut [u8],
 ) -> Result<(), Stop>
     requires small { column.now.len < 2 ^ 31 }
     requires texts { All IsTextOrNull (values_of column.now) }
     requires long { length packed.old ≡ 4 * column.now.len }
-    requires none { AreCoded [] (found.old).left (coded_at found.old []) }
+    requires none { AreCoded [] (found.old).left (coded_texts_at found.old []) }
     ensures coded { OnOk result (AreCoded (values_of column.now) (found.old).left
-        (coded_at found.new (numbers_in packed.new))) }
+        (coded_texts_at found.new (numbers_in packed.new))) }
     ensures full { IfErr result
         (λ stop. stop ≡ OutOfRoom → (found.old).left < bytes_in (firsts (values_of column.now))) }
 {
@@ -106,13 +90,17 @@ fn code_slots<'t>(
 }
 
 // Codes each slot by its value.
-fn code_values<'t>(found: &mut Found<'t>, column: &'t Column, packed: &mut [u8]) -> Result<(), Stop>
+fn code_values<'t>(
+    found: &mut DistinctTexts<'t>,
+    column: &'t Column,
+    packed: &mut [u8],
+) -> Result<(), Stop>
     requires small { column.now.len < 2 ^ 31 }
     requires texts { All IsTextOrNull (values_of column.now) }
     requires long { length packed.old ≡ 4 * column.now.len }
-    requires none { AreCoded [] (found.old).left (coded_at found.old []) }
+    requires none { AreCoded [] (found.old).left (coded_texts_at found.old []) }
     ensures coded { OnOk result (AreCoded (values_of column.now) (found.old).left
-        (coded_at found.new (numbers_in packed.new))) }
+        (coded_texts_at found.new (numbers_in packed.new))) }
     ensures full { IfErr result
         (λ stop. stop ≡ OutOfRoom → (found.old).left < bytes_in (firsts (values_of column.now))) }
 {
@@ -128,16 +116,16 @@ fn code_values<'t>(found: &mut Found<'t>, column: &'t Column, packed: &mut [u8])
 fn code_indices<'t>(
     alloc: Global,
     seed: HashSeed,
-    found: &mut Found<'t>,
+    found: &mut DistinctTexts<'t>,
     of: &IndexColumn<'t>,
     packed: &mut [u8],
 ) -> Result<(), Stop>
     requires small { (of.now).column.now.len < 2 ^ 31 }
     requires cells { (of.now).column.now.layout ≡ layout.Indices (of.now).cells }
     requires long { length packed.old ≡ 4 * (of.now).column.now.len }
-    requires none { AreCoded [] (found.old).left (coded_at found.old []) }
+    requires none { AreCoded [] (found.old).left (coded_texts_at found.old []) }
     ensures coded { OnOk result (AreCoded (values_of (of.now).column.now) (found.old).left
-        (coded_at found.new (numbers_in packed.new))) }
+        (coded_texts_at found.new (numbers_in packed.new))) }
     ensures full { IfErr result (λ stop. stop ≡ OutOfRoom →
         (found.old).left < bytes_in (firsts (values_of (of.now).column.now))) }
 {
@@ -157,7 +145,7 @@ fn is_worth_a_table(cells: &Indices<'_>, slots: usize) -> bool {
 
 // Codes each slot with a map of the indices that are met.
 fn code_far<'t>(
-    found: &mut Found<'t>,
+    found: &mut DistinctTexts<'t>,
     met: &mut IndexMap<usize, u32, HashSeed>,
     of: &IndexColumn<'t>,
     packed: &mut [u8],
@@ -165,10 +153,10 @@ fn code_far<'t>(
     requires small { (of.now).column.now.len < 2 ^ 31 }
     requires cells { (of.now).column.now.layout ≡ layout.Indices (of.now).cells }
     requires long { length packed.old ≡ 4 * (of.now).column.now.len }
-    requires none { AreCoded [] (found.old).left (coded_at found.old []) }
+    requires none { AreCoded [] (found.old).left (coded_texts_at found.old []) }
     requires met { AreMet (of.now).cells.dictionary (found.old).texts (get nat_eq met.old) }
     ensures coded { OnOk result (AreCoded (values_of (of.now).column.now) (found.old).left
-        (coded_at found.new (numbers_in packed.new))) }
+        (coded_texts_at found.new (numbers_in packed.new))) }
     ensures full { IfErr result (λ stop. stop ≡ OutOfRoom →
         (found.old).left < bytes_in (firsts (values_of (of.now).column.now))) }
 {
@@ -182,7 +170,7 @@ fn code_far<'t>(
 
 // The place of a slot.
 fn far_place<'t>(
-    found: &mut Found<'t>,
+    found: &mut DistinctTexts<'t>,
     met: &mut IndexMap<usize, u32, HashSeed>,
     cells: &Indices<'t>,
     slot: usize,
@@ -206,7 +194,7 @@ fn far_place<'t>(
 
 // Codes each slot with a table, by the type of the indices.
 fn code_near<'t>(
-    found: &mut Found<'t>,
+    found: &mut DistinctTexts<'t>,
     table: &mut [u32],
     of: &IndexColumn<'t>,
     packed: &mut [u8],
@@ -214,10 +202,10 @@ fn code_near<'t>(
     requires small { (of.now).column.now.len < 2 ^ 31 }
     requires cells { (of.now).column.now.layout ≡ layout.Indices (of.now).cells }
     requires long { length packed.old ≡ 4 * (of.now).column.now.len }
-    requires none { AreCoded [] (found.old).left (coded_at found.old []) }
+    requires none { AreCoded [] (found.old).left (coded_texts_at found.old []) }
     requires table { IsTable (of.now).cells.dictionary (found.old).texts table.old }
     ensures coded { OnOk result (AreCoded (values_of (of.now).column.now) (found.old).left
-        (coded_at found.new (numbers_in packed.new))) }
+        (coded_texts_at found.new (numbers_in packed.new))) }
     ensures full { IfErr result (λ stop. stop ≡ OutOfRoom →
         (found.old).left < bytes_in (firsts (values_of (of.now).column.now))) }
 {
@@ -230,8 +218,8 @@ fn code_near<'t>(
 }
 
 // Codes each slot of indices of a type. Where no slot is null, validity bits are not looked at.
-fn code_elements<'t, E: IndexElement>(
-    found: &mut Found<'t>,
+fn code_elements<'t, E: Code>(
+    found: &mut DistinctTexts<'t>,
     table: &mut [u32],
     of: &IndexColumn<'t>,
     packed: &mut [u8],
@@ -240,10 +228,10 @@ fn code_elements<'t, E: IndexElement>(
     requires cells { (of.now).column.now.layout ≡ layout.Indices (of.now).cells }
     requires width { byte_width (of.now).cells.index ≡ E.WIDTH }
     requires long { length packed.old ≡ 4 * (of.now).column.now.len }
-    requires none { AreCoded [] (found.old).left (coded_at found.old []) }
+    requires none { AreCoded [] (found.old).left (coded_texts_at found.old []) }
     requires table { IsTable (of.now).cells.dictionary (found.old).texts table.old }
     ensures coded { OnOk result (AreCoded (values_of (of.now).column.now) (found.old).left
-        (coded_at found.new (numbers_in packed.new))) }
+        (coded_texts_at found.new (numbers_in packed.new))) }
     ensures full { IfErr result (λ stop. stop ≡ OutOfRoom →
         (found.old).left < bytes_in (firsts (values_of (of.now).column.now))) }
 {
@@ -256,8 +244,8 @@ fn code_elements<'t, E: IndexElement>(
 
 // Codes each slot, none of which is null, block by block. A block whose indices the table has all
 // met is copied through it, in a loop that asks nothing of its slots one by one.
-fn code_valid<'t, E: IndexElement>(
-    found: &mut Found<'t>,
+fn code_valid<'t, E: Code>(
+    found: &mut DistinctTexts<'t>,
     table: &mut [u32],
     of: &IndexColumn<'t>,
     packed: &mut [u8],
@@ -267,10 +255,10 @@ fn code_valid<'t, E: IndexElement>(
     requires width { byte_width (of.now).cells.index ≡ E.WIDTH }
     requires valid { null_count (of.now).column.now ≡ 0 }
     requires long { length packed.old ≡ 4 * (of.now).column.now.len }
-    requires none { AreCoded [] (found.old).left (coded_at found.old []) }
+    requires none { AreCoded [] (found.old).left (coded_texts_at found.old []) }
     requires table { IsTable (of.now).cells.dictionary (found.old).texts table.old }
     ensures coded { OnOk result (AreCoded (values_of (of.now).column.now) (found.old).left
-        (coded_at found.new (numbers_in packed.new))) }
+        (coded_texts_at found.new (numbers_in packed.new))) }
     ensures full { IfErr result (λ stop. stop ≡ OutOfRoom →
         (found.old).left < bytes_in (firsts (values_of (of.now).column.now))) }
 {
@@ -288,8 +276,8 @@ fn code_valid<'t, E: IndexElement>(
 }
 
 // Codes the slots of a block, none of which is null, after those before it.
-fn code_block<'t, E: IndexElement>(
-    found: &mut Found<'t>,
+fn code_block<'t, E: Code>(
+    found: &mut DistinctTexts<'t>,
     table: &mut [u32],
     block: &Block<'_, 't>,
     packed: &mut [u8],
@@ -312,7 +300,7 @@ fn code_block<'t, E: IndexElement>(
     let (first, _count, _slots) = (of.column.first(), of.column.len(), of.cells.len());
     let (values, dictionary) = (of.cells.values(), of.cells.dictionary());
     for place in block.from..block.to {
-        let index = E::index_at(values, first + place);
+        let index = E::code(values, first + place) as usize;
         let number = found.place_of_index(table, dictionary, index)?;
         put_number(packed, place, number);
     }
@@ -320,8 +308,8 @@ fn code_block<'t, E: IndexElement>(
 }
 
 // Codes each slot, some of which are null.
-fn code_some<'t, E: IndexElement>(
-    found: &mut Found<'t>,
+fn code_some<'t, E: Code>(
+    found: &mut DistinctTexts<'t>,
     table: &mut [u32],
     of: &IndexColumn<'t>,
     packed: &mut [u8],
@@ -330,10 +318,10 @@ fn code_some<'t, E: IndexElement>(
     requires cells { (of.now).column.now.layout ≡ layout.Indices (of.now).cells }
     requires width { byte_width (of.now).cells.index ≡ E.WIDTH }
     requires long { length packed.old ≡ 4 * (of.now).column.now.len }
-    requires none { AreCoded [] (found.old).left (coded_at found.old []) }
+    requires none { AreCoded [] (found.old).left (coded_texts_at found.old []) }
     requires table { IsTable (of.now).cells.dictionary (found.old).texts table.old }
     ensures coded { OnOk result (AreCoded (values_of (of.now).column.now) (found.old).left
-        (coded_at found.new (numbers_in packed.new))) }
+        (coded_texts_at found.new (numbers_in packed.new))) }
     ensures full { IfErr result (λ stop. stop ≡ OutOfRoom →
         (found.old).left < bytes_in (firsts (values_of (of.now).column.now))) }
 {
@@ -346,8 +334,8 @@ fn code_some<'t, E: IndexElement>(
 }
 
 // The place of a slot.
-fn near_place<'t, E: IndexElement>(
-    found: &mut Found<'t>,
+fn near_place<'t, E: Code>(
+    found: &mut DistinctTexts<'t>,
     table: &mut [u32],
     cells: &Indices<'t>,
     slot: usize,
@@ -364,9 +352,9 @@ fn near_place<'t, E: IndexElement>(
         (layout_slot (layout.Indices cells.now) slot ∷ []))) }
 {
     let _slots = cells.len();
-    if !is_valid(cells, slot) {
+    if !cells.validity().is_valid(slot) {
         return Ok(NO_PLACE);
     }
-    let index = E::index_at(cells.values(), slot);
+    let index = E::code(cells.values(), slot) as usize;
     found.place_of_index(table, cells.dictionary(), index)
 }

@@ -3,16 +3,13 @@
 #![tactic(auto)]
 
 pub mod batches;
-pub mod built;
-pub mod coding;
-pub mod columns;
-pub mod dressed;
-mod found;
+mod coding;
+mod columns;
+mod distinct_texts;
+pub mod dressed_batch;
+mod index_columns;
 mod indices;
-mod packed;
+mod packed_numbers;
 
 pub use crate::batches::{CodedBatch, ColumnDictionary, code_batch};
-pub use crate::built::column_of_indices;
-pub use crate::coding::{Coded, NO_PLACE, Stop};
-pub use crate::columns::code_column;
-pub use crate::dressed::{DressedBatch, dress};
+pub use crate::dressed_batch::{DressedBatch, dress};

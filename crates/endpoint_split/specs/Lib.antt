@@ -1,3 +1,3 @@
 pub mod Handle
-pub mod Seen
+pub mod HandleView
 pub mod Split

@@ -4,7 +4,7 @@ ghost use Rattle.std.specs.Prelude.{◌≡◌, IfOk};
 ghost use Rattle.scan_base.specs.Reading.{Gives};
 ghost use Rattle.endpoint_split.specs.Handle.{handle_bytes, handle_of, Query, tables_behind};
 ghost use Rattle.endpoint_split.specs.Handle.{query_behind};
-ghost use Rattle.endpoint_split.specs.Seen.{handle_seen};
+ghost use Rattle.endpoint_split.specs.HandleView.{handle_seen};
 
 use crate::ranges::Range;
 use byteorder::{BigEndian, ByteOrder};

@@ -13,7 +13,7 @@ use Rattle.fetch_stream.specs.Morsels.{behind_schema, morsel_stream, whole_strea
 use Rattle.fetch_stream.specs.declared.cutter.Cutter.{Cutter}
 use Rattle.fetch_stream.specs.declared.source.Source.{Source}
 use Rattle.fetch_stream.specs.declared.source.Source.TheVariants.{Scanned}
-use Rattle.fetch_stream.specs.inside.Ahead.{IsSource, left_behind, rows_cut, schema_behind, uncut}
+use Rattle.fetch_stream.specs.inside.RowsAhead.{IsSource, left_behind, rows_cut, schema_behind, uncut}
 use Rattle.fetch_stream.specs.inside.MadeAhead.{FallsInto, morsels_at}
 use Rattle.fetch_stream.proofs.MadeAhead.{short_part}
 

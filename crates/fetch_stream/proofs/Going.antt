@@ -2,7 +2,7 @@
 use Rattle.std.proofs.Common.{◌≡◌, ◌≤◌, ◌<◌, ◌+◌, ℕ, Bool, true, false, List, [], ◌∷◌, ◌++◌, length, Option, None, Result, Ok, refl, sym, ap, subst, ◌∙◌, append-nil, arith}
 use Rattle.scan_base.specs.declared.fault.Fault.{Fault}
 use Rattle.scan_base.specs.Limits.{most_answer_rows, most_message_bytes}
-use Rattle.arrow_schema.specs.declared.schema.Schema.{Schema}
+use Rattle.arrow_types.specs.declared.schema.Schema.{Schema}
 use Rattle.row_sources.specs.declared.turn.Patience.{Patience}
 use Rattle.row_sources.specs.declared.turn.Turn.{Turn}
 use Rattle.row_sources.specs.declared.turn.Turn.TheVariants.{Given, Working, End}
@@ -13,9 +13,9 @@ use Rattle.fetch_stream.specs.Fetches.{SayDressed}
 use Rattle.fetch_stream.specs.Streams.{StreamAt, Parcel, GivesParcel, GivesTurn, LooksFor, opened}
 use Rattle.fetch_stream.specs.declared.cutter.Cutter.{Cutter}
 use Rattle.fetch_stream.specs.declared.source.Source.{Source}
-use Rattle.fetch_stream.specs.inside.Ahead.{IsGoing, schema_behind, rows_cut, unseen_behind}
+use Rattle.fetch_stream.specs.inside.RowsAhead.{IsGoing, schema_behind, rows_cut, unseen_behind}
 use Rattle.fetch_stream.specs.inside.Steps.{GivesFirst, GivesRows, Waits, rows_left}
-use Rattle.fetch_stream.specs.inside.Written.{SaysRows, SaysSchema}
+use Rattle.fetch_stream.specs.inside.WrittenPayloads.{SaysRows, SaysSchema}
 use Rattle.fetch_stream.proofs.Streaming.{say_first, say_more, together_short}
 
 abbrev pub stream_of : Schema → Bool → List Row → ℕ → StreamAt

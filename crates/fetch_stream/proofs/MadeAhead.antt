@@ -3,14 +3,14 @@ use Rattle.std.proofs.Common.{◌≡◌, ◌+◌, ℕ, Bool, true, false, List, 
 use Rattle.std.specs.List.{list_any, filter}
 use Rattle.std.proofs.lemmas.List.{drop-drop, drop_at, length-drop}
 use Rattle.scan_base.specs.declared.fault.Fault.{Fault}
-use Rattle.arrow_schema.specs.declared.schema.Schema.{Schema}
+use Rattle.arrow_types.specs.declared.schema.Schema.{Schema}
 use Rattle.row_sources.specs.declared.turn.Patience.{Patience}
 use Rattle.row_sources.specs.declared.turn.Turn.{Turn}
 use Rattle.row_sources.specs.declared.turn.Turn.TheVariants.{Given, Working, End}
 use Rattle.table_versions.specs.Table.{Row}
 use Rattle.table_versions.proofs.Storable.{first_false, second_false}
 use Rattle.fetch_stream.specs.Streams.{StreamAt, RunningAt, Parcel, Gives, GivesParcel, MayRefuse}
-use Rattle.fetch_stream.specs.declared.made.Made.{Made}
+use Rattle.fetch_stream.specs.declared.ahead_parcel.AheadParcel.{AheadParcel}
 use Rattle.fetch_stream.specs.inside.MadeAhead.{AreAhead, GivesMade, MakesNext, behind}
 use Rattle.fetch_stream.proofs.Answering.{ended}
 
@@ -48,7 +48,7 @@ module _ (schema : Schema) (rows : List Row) (given : ℕ) (parcel : Parcel) (af
   pub next_whole : after.given + length after.left ≡ length rows
   next_whole = omega (arith, gives.counted, gives.some refl, ap length gives.left, length-append gives.rows after.left, length-drop given rows)
 
-pub one_ahead : (patience : Patience) (schema : Schema) (rows : List Row) (given : ℕ) (next : Made) (after : RunningAt) → MakesNext patience (behind schema rows given) (Ok (Given next)) after.stream → AreAhead schema rows given (next ∷ []) (Some after)
+pub one_ahead : (patience : Patience) (schema : Schema) (rows : List Row) (given : ℕ) (next : AheadParcel) (after : RunningAt) → MakesNext patience (behind schema rows given) (Ok (Given next)) after.stream → AreAhead schema rows given (next ∷ []) (Some after)
 one_ahead patience schema rows given next after makes =
     let gives : GivesParcel (behind schema rows given) next.parcel after.stream = makes.0 in
     let stands : after.stream ≡ behind schema rows next.given = next_stands schema rows given next.parcel after.stream gives ∙ ap (λ (k : ℕ). behind schema rows k) (sym makes.1) in (
@@ -58,7 +58,7 @@ one_ahead patience schema rows given next after makes =
       inl stands,
     )
 
-pub more_ahead : (patience : Patience) (schema : Schema) (rows : List Row) (given : ℕ) (made : List Made) (before after : RunningAt) (next : Made) → AreAhead schema rows given made (Some before)
+pub more_ahead : (patience : Patience) (schema : Schema) (rows : List Row) (given : ℕ) (made : List AheadParcel) (before after : RunningAt) (next : AheadParcel) → AreAhead schema rows given made (Some before)
     → MakesNext patience before.stream (Ok (Given next)) after.stream → AreAhead schema rows given (made ++ next ∷ []) (Some after)
 more_ahead patience schema rows given [] before after next (inl same) makes =
     one_ahead patience schema rows given next after (subst (λ (s : StreamAt). MakesNext patience s (Ok (Given next)) after.stream) same makes)
@@ -70,24 +70,24 @@ more_ahead patience schema rows given (made ∷ more) before after next all make
 -- ---- none more
 
 -- the rest is still to come
-same_ahead : (schema : Schema) (rows : List Row) (given : ℕ) (made : List Made) (before after : RunningAt) → AreAhead schema rows given made (Some before)
+same_ahead : (schema : Schema) (rows : List Row) (given : ℕ) (made : List AheadParcel) (before after : RunningAt) → AreAhead schema rows given made (Some before)
     → after.stream ≡ before.stream → AreAhead schema rows given made (Some after)
 same_ahead schema rows given [] before after (inl same) e = inl (e ∙ same)
 same_ahead schema rows given [] before after (inr refused) e = inr (refused.0, ap (λ (s : StreamAt). s.refused) e ∙ refused.1, refused.2)
 same_ahead schema rows given (made ∷ more) before after all e = (all.0, all.1, all.2, same_ahead schema rows made.given more before after all.3 e)
 
 -- the rest gave nothing yet
-pub working_ahead : (patience : Patience) (schema : Schema) (rows : List Row) (given : ℕ) (made : List Made) (before after : RunningAt) → AreAhead schema rows given made (Some before)
+pub working_ahead : (patience : Patience) (schema : Schema) (rows : List Row) (given : ℕ) (made : List AheadParcel) (before after : RunningAt) → AreAhead schema rows given made (Some before)
     → MakesNext patience before.stream (Ok Working) after.stream → AreAhead schema rows given made (Some after)
 working_ahead patience schema rows given made before after all makes = same_ahead schema rows given made before after all makes.1
 
 -- or nothing at all
-pub ended_ahead : (schema : Schema) (rows : List Row) (given : ℕ) (made : List Made) (before after : RunningAt) → AreAhead schema rows given made (Some before)
+pub ended_ahead : (schema : Schema) (rows : List Row) (given : ℕ) (made : List AheadParcel) (before after : RunningAt) → AreAhead schema rows given made (Some before)
     → Gives before.stream (Ok None) after.stream → AreAhead schema rows given made (Some after)
 ended_ahead schema rows given made before after all gives = same_ahead schema rows given made before after all (ended before.stream after.stream gives).2
 
 -- or was refused
-pub refused_ahead : (schema : Schema) (rows : List Row) (given : ℕ) (made : List Made) (before after : RunningAt) (fault : Fault) → AreAhead schema rows given made (Some before)
+pub refused_ahead : (schema : Schema) (rows : List Row) (given : ℕ) (made : List AheadParcel) (before after : RunningAt) (fault : Fault) → AreAhead schema rows given made (Some before)
     → Gives before.stream (Err fault) after.stream → AreAhead schema rows given made (Some after)
 refused_ahead schema rows given [] before after fault (inl same) gives =
     let refuses : MayRefuse (behind schema rows given) fault × (after.stream.refused ≡ Some fault) = subst (λ (s : StreamAt). Gives s (Err fault) after.stream) same gives in
@@ -100,13 +100,8 @@ refused_ahead schema rows given (made ∷ more) before after fault all gives =
 
 -- ---- what is given
 
--- the first parcel that was made
-pub gives_first_made : (patience : Patience) (schema : Schema) (rows : List Row) (given : ℕ) (first : Made) (more : List Made) (rest : Option RunningAt) → AreAhead schema rows given (first ∷ more) rest
-    → GivesMade patience schema rows given (Ok (Given first)) more rest
-gives_first_made patience schema rows given first more rest all = all
-
 -- or that of the rest
-pub gives_rest : (patience : Patience) (schema : Schema) (rows : List Row) (given : ℕ) (before after : RunningAt) (result : Result (Turn Made) Fault) → AreAhead schema rows given [] (Some before)
+pub gives_rest : (patience : Patience) (schema : Schema) (rows : List Row) (given : ℕ) (before after : RunningAt) (result : Result (Turn AheadParcel) Fault) → AreAhead schema rows given [] (Some before)
     → MakesNext patience before.stream result after.stream → GivesMade patience schema rows given result [] (Some after)
 gives_rest patience schema rows given before after (Ok (Given next)) (inl same) makes =
     one_ahead patience schema rows given next after (subst (λ (s : StreamAt). MakesNext patience s (Ok (Given next)) after.stream) same makes)
@@ -134,17 +129,13 @@ none_dropped [] same = refl
 none_dropped (x ∷ xs) same = absurd (let long : length (x ∷ xs) ≡ length xs = ap length same in omega (arith, long))
 
 -- none was made, and the rest gives the next one
-pub gives_behind : (patience : Patience) (schema : Schema) (rows : List Row) (given : ℕ) (made more : List Made) (rest : Option RunningAt) (before after : RunningAt) (result : Result (Turn Made) Fault)
+pub gives_behind : (patience : Patience) (schema : Schema) (rows : List Row) (given : ℕ) (made more : List AheadParcel) (rest : Option RunningAt) (before after : RunningAt) (result : Result (Turn AheadParcel) Fault)
     → made ≡ more → more ≡ drop 1 made → rest ≡ Some before → MakesNext patience before.stream result after.stream → AreAhead schema rows given made rest → GivesMade patience schema rows given result more (Some after)
 gives_behind patience schema rows given made more rest before after result same none is makes all =
-    let empty : more ≡ [] = none_dropped more (none ∙ ap (λ (l : List Made). drop 1 l) same) in
+    let empty : more ≡ [] = none_dropped more (none ∙ ap (λ (l : List AheadParcel). drop 1 l) same) in
     let there : AreAhead schema rows given made (Some before) = subst (λ (r : Option RunningAt). AreAhead schema rows given made r) is all in
-    let begins : AreAhead schema rows given [] (Some before) = subst (λ (m : List Made). AreAhead schema rows given m (Some before)) (same ∙ empty) there in
-    subst (λ (m : List Made). GivesMade patience schema rows given result m (Some after)) (sym empty) (gives_rest patience schema rows given before after result begins makes)
-
--- none is made at the beginning
-pub begins_ahead : (schema : Schema) (rows : List Row) (made : List Made) (rest : RunningAt) → made ≡ [] → rest.stream ≡ behind schema rows 0 → AreAhead schema rows 0 made (Some rest)
-begins_ahead schema rows made rest none same = subst (λ (m : List Made). AreAhead schema rows 0 m (Some rest)) (sym none) (inl same)
+    let begins : AreAhead schema rows given [] (Some before) = subst (λ (m : List AheadParcel). AreAhead schema rows given m (Some before)) (same ∙ empty) there in
+    subst (λ (m : List AheadParcel). GivesMade patience schema rows given result m (Some after)) (sym empty) (gives_rest patience schema rows given before after result begins makes)
 
 -- ---- morsels of a scan
 

@@ -2,7 +2,7 @@
 use Rattle.std.proofs.Common.{◌≡◌, ◌≢◌, ◌≤◌, ◌<◌, ◌-◌, ℕ, Bool, true, false, List, length, map, Ok, Err, refl, sym, ap, subst, ◌∙◌, arith, ◌⊎◌, inl, inr}
 use Rattle.scan_base.specs.declared.fault.Fault.{Fault}
 use Rattle.scan_base.specs.declared.fault.Fault.TheVariants.{OutOfMemory}
-use Rattle.arrow_schema.specs.declared.schema.Schema.{Schema}
+use Rattle.arrow_types.specs.declared.schema.Schema.{Schema}
 use Rattle.sql_text.specs.Standard.{Lexeme}
 use Rattle.sql_text.specs.Reading.{tokens_in}
 use Rattle.sql_query.specs.Sentence.{Sentence}
@@ -11,11 +11,11 @@ use Rattle.sql_parse.specs.Tokens.{mark_of}
 use Rattle.sql_parse.proofs.OneAnswer.{not_both}
 use Rattle.table_versions.specs.Table.{Row, Table}
 use Rattle.table_versions.specs.Database.{Database}
-use Rattle.query_binder.specs.Bound.{fault_of}
+use Rattle.query_binder.specs.NameRules.{fault_of}
 use Rattle.typed_plan.specs.Plan.{PlanAt, plan_rows}
-use Rattle.flight_proto.specs.Wanted.{rows_of}
-use Rattle.flight_info.specs.Meant.{IsRange, Meant, Misses, first_rows, result_over}
-use Rattle.flight_info.specs.Planned.{IsPlanned}
+use Rattle.flight_proto.specs.InfoCommand.{rows_of}
+use Rattle.flight_info.specs.QueryMeaning.{IsRange, Meant, Misses, first_rows, result_over}
+use Rattle.flight_info.specs.QueryPlan.{IsPlanned}
 use Rattle.flight_info.proofs.Meaning.{Says, same_ok, one_sentence}
 
 -- ---- what refuses a text

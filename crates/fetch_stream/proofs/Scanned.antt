@@ -4,19 +4,19 @@ use Rattle.std.specs.List.{list_any, AllZip}
 use Rattle.std.proofs.lemmas.List.{length-map}
 use Rattle.std.proofs.lemmas.List.Folds.{list_any-append}
 use Rattle.scan_base.specs.declared.fault.Fault.{Fault}
-use Rattle.arrow_schema.specs.declared.data_type.DictionaryEncoding.{DictionaryEncoding}
-use Rattle.arrow_schema.specs.declared.data_type.DataType.{DataType}
-use Rattle.arrow_schema.specs.declared.data_type.DataType.TheVariants.{Integer, Utf8, Bool as Flag, Decimal128, Date, Dictionary}
-use Rattle.arrow_schema.specs.declared.schema.Field.{Field}
-use Rattle.arrow_schema.specs.declared.schema.Schema.{Schema}
-use Rattle.arrow_schema.specs.Answer.{answered_at, answered_from, LieBehind, LiesAs}
-use Rattle.arrow_schema.specs.Schema.{IsSchema}
+use Rattle.arrow_types.specs.declared.data_type.DictionaryEncoding.{DictionaryEncoding}
+use Rattle.arrow_types.specs.declared.data_type.DataType.{DataType}
+use Rattle.arrow_types.specs.declared.data_type.DataType.TheVariants.{Integer, Utf8, Bool as Flag, Decimal128, Date, Dictionary}
+use Rattle.arrow_types.specs.declared.schema.Field.{Field}
+use Rattle.arrow_types.specs.declared.schema.Schema.{Schema}
+use Rattle.arrow_types.specs.Answer.{answered_at, answered_from, LieBehind, LiesAs}
+use Rattle.arrow_types.specs.Schema.{IsSchema}
 use Rattle.arrays.specs.Batch.{BatchAt, rows_of}
 use Rattle.arrays.specs.Column.{ColumnAt}
 use Rattle.arrays.specs.declared.layout.Layout.{Layout}
 use Rattle.arrays.specs.declared.layout.Layout.TheVariants as layout
-use Rattle.arrays.specs.Typed.{IsOfType, AreOf, AreOfTypes}
-use Rattle.dictionary_answers.specs.Dress.{IsNumbered, AreNumbered, HoldsTexts, IsDressable, AreDressable}
+use Rattle.arrays.specs.TypedLayouts.{IsOfType, AreOf, AreOfTypes}
+use Rattle.dictionary_answers.specs.Dress.{IsNumbered, AreNumbered, IsTextLayout, IsDressable, AreDressable}
 use Rattle.row_sources.specs.declared.turn.Patience.{Patience}
 use Rattle.row_sources.specs.declared.turn.Turn.{Turn}
 use Rattle.row_sources.specs.declared.turn.Turn.TheVariants.{Given, Working, End}
@@ -25,19 +25,19 @@ use Rattle.scan_exec.specs.Scan as of_scan
 use Rattle.table_versions.specs.Table.{Row, is_long_text}
 use Rattle.table_versions.proofs.Storable.{first_false, second_false}
 use Rattle.fetch_stream.specs.declared.source.Source.TheVariants.{Scanned, Listed}
-use Rattle.fetch_stream.specs.inside.Ahead.{IsSource, AnsweredAs}
-use Rattle.fetch_stream.specs.inside.Given.{GoesOn, GivesNext, GivesNoneYet, GivesBatch, TurnsBatch, MayRefuseSource}
+use Rattle.fetch_stream.specs.inside.RowsAhead.{IsSource, AnsweredAs}
+use Rattle.fetch_stream.specs.inside.GivenBatches.{GoesOn, GivesNext, GivesNoneYet, GivesBatch, TurnsBatch, MayRefuseSource}
 
 -- ---- columns that can be answered
 
-texts_as : (known : Layout) → IsOfType Utf8 known → HoldsTexts known
+texts_as : (known : Layout) → IsOfType Utf8 known → IsTextLayout known
 texts_as (layout.Texts cells) is = tt
 texts_as (layout.Indices cells) is = absurd is
 texts_as (layout.Integers cells) is = absurd is
 texts_as (layout.Decimals cells) is = absurd is
 texts_as (layout.Bools cells) is = absurd is
 
-texts_by : (encoding : DictionaryEncoding) (known : Layout) → IsOfType (Dictionary encoding) known → HoldsTexts known
+texts_by : (encoding : DictionaryEncoding) (known : Layout) → IsOfType (Dictionary encoding) known → IsTextLayout known
 texts_by encoding (layout.Indices cells) is = tt
 texts_by encoding (layout.Texts cells) is = absurd is
 texts_by encoding (layout.Integers cells) is = absurd is

@@ -6,12 +6,12 @@ use Rattle.std.proofs.lemmas.List.{length-take, length-map}
 use Rattle.std.proofs.lemmas.List.FromFn.{length-map-range_with_len}
 use Rattle.scan_base.specs.declared.value.Value.{Value}
 use Rattle.scan_base.specs.declared.value.Value.TheVariants as value
-use Rattle.arrow_schema.specs.declared.data_type.DataType.{DataType}
-use Rattle.arrow_schema.specs.declared.data_type.DataType.TheVariants.{Integer, Utf8, Bool as Flags, Decimal128, Date, Dictionary}
-use Rattle.arrow_schema.specs.declared.data_type.IntegerType.{IntegerType}
-use Rattle.arrow_schema.specs.declared.data_type.IntegerType.TheVariants.{Int8, Int16, Int32, Int64, UInt8, UInt16, UInt32, UInt64}
-use Rattle.arrow_schema.specs.declared.schema.Field.{Field}
-use Rattle.arrow_schema.specs.declared.schema.Schema.{Schema}
+use Rattle.arrow_types.specs.declared.data_type.DataType.{DataType}
+use Rattle.arrow_types.specs.declared.data_type.DataType.TheVariants.{Integer, Utf8, Bool as Flags, Decimal128, Date, Dictionary}
+use Rattle.arrow_types.specs.declared.data_type.IntegerType.{IntegerType}
+use Rattle.arrow_types.specs.declared.data_type.IntegerType.TheVariants.{Int8, Int16, Int32, Int64, UInt8, UInt16, UInt32, UInt64}
+use Rattle.arrow_types.specs.declared.schema.Field.{Field}
+use Rattle.arrow_types.specs.declared.schema.Schema.{Schema}
 use Rattle.scan_base.specs.Limits.{most_columns}
 use Rattle.arrays.specs.declared.layout.Layout.{Layout}
 use Rattle.arrays.specs.declared.layout.Layout.TheVariants as layout
@@ -20,15 +20,15 @@ use Rattle.arrays.specs.Column.{ColumnAt, slot_of, values_of, cut}
 use Rattle.arrays.specs.Firsts.{firsts}
 use Rattle.arrays.specs.Nulls.{null_count, valid_slots}
 use Rattle.arrays.specs.Number.{byte_width}
-use Rattle.array_buffers.specs.Written.{packed_bits, validity_written, values_written, written_by, buffers_written}
+use Rattle.array_buffers.specs.ColumnBuffers.{packed_bits, validity_written, values_written, written_by, buffers_written}
 use Rattle.dictionary_answers.specs.Lengths.{with_zeros, texts_length, column_length, dressed_length}
-use Rattle.arrays.specs.Written.{elements, text_bytes, texts_joined, offsets_from}
+use Rattle.arrays.specs.WrittenSlots.{elements, text_bytes, texts_joined, offsets_from}
 use Rattle.arrays.proofs.NullSlots.{length-valid_slots}
 use Rattle.flight_proto.specs.FlightData.{data_bytes, body_head, data_head}
 use Rattle.flight_proto.specs.Message.{set_fields, spelled}
 use Rattle.proto_wire.specs.Calls.{chunk_entry}
-use Rattle.proto_wire.specs.Writing.{varint, spelling, chunk_head}
-use Rattle.ipc_batch.specs.Written.{body_of, most_header_bytes}
+use Rattle.proto_wire.specs.Writing.{varint, field_spelling, chunk_head}
+use Rattle.ipc_batch.specs.WrittenMessages.{body_of, most_header_bytes}
 use Rattle.ipc_batch.proofs.WriterLoops.{buffer_more}
 use Rattle.scan_base.specs.Limits.{most_message_bytes, most_text_bytes}
 use Rattle.table_versions.specs.Table.{is_long_text}
@@ -198,8 +198,8 @@ schema_fits header payload is short =
       short,
       whole,
       short_set (first ∷ second ∷ []),
-      length-append (spelling first) (spelled (second ∷ [])),
-      length-append (spelling second) [],
+      length-append (field_spelling first) (spelled (second ∷ [])),
+      length-append (field_spelling second) [],
       short_chunk 2 header,
       short_chunk 1000 [],
     )
@@ -229,6 +229,6 @@ batch_fits header body payload is few short =
       length-append front (body_head (length body)),
       short_head (length body),
       short_set (first ∷ []),
-      length-append (spelling first) [],
+      length-append (field_spelling first) [],
       short_chunk 2 header,
     )

@@ -1,20 +1,19 @@
 -- A stream goes on: the next batch, and the next rows of it.
-use Rattle.std.proofs.Common.{◌≡◌, ◌≤◌, ◌<◌, ℕ, zero, suc, ◌+◌, ◌/◌, false, List, [], ◌++◌, length, None, Ok, refl, sym, ap, subst, ◌∙◌, append_assoc, arith, inl, inr}
+use Rattle.std.proofs.Common.{◌≡◌, ◌≤◌, ◌<◌, ℕ, zero, suc, ◌+◌, ◌/◌, false, List, [], ◌++◌, length, refl, sym, ap, subst, ◌∙◌, append_assoc, arith, inr}
 use Rattle.std.specs.List.{list_any}
-use Rattle.scan_base.specs.declared.fault.Fault.{Fault}
 use Rattle.scan_base.specs.Limits.{most_columns}
 use Rattle.arrays.specs.Batch.{BatchAt, BatchSlicesKeepRows, rows_of, cut_batch}
 use Rattle.table_versions.specs.Table.{Row, is_long_text}
-use Rattle.arrow_schema.specs.declared.schema.Schema.{Schema}
+use Rattle.arrow_types.specs.declared.schema.Schema.{Schema}
 use Rattle.dictionary_answers.specs.Lengths.{dressed_length}
 use Rattle.fetch_stream.specs.Streams.{Parcel, most_body_bytes}
 use Rattle.fetch_stream.specs.declared.cutter.Cutter.{Cutter}
 use Rattle.fetch_stream.specs.declared.source.Source.{Source}
-use Rattle.fetch_stream.specs.inside.Ahead.{IsCutter, IsGoing, AnsweredAs, schema_behind, left_behind, rows_taken, rows_cut, uncut}
-use Rattle.fetch_stream.specs.inside.Cut.{Cuts, ReachesFar}
-use Rattle.fetch_stream.specs.inside.Given.{GivesNext, GivesNoneYet, GivesBatch, MayRefuseSource}
-use Rattle.fetch_stream.specs.inside.Steps.{Ends, Fails, HasNext, SaysNext, Waits, rows_left}
-use Rattle.fetch_stream.specs.inside.Written.{SaysRows}
+use Rattle.fetch_stream.specs.inside.RowsAhead.{IsCutter, IsGoing, AnsweredAs, schema_behind, left_behind, rows_taken, rows_cut, uncut}
+use Rattle.fetch_stream.specs.inside.BatchCuts.{Cuts, ReachesFar}
+use Rattle.fetch_stream.specs.inside.GivenBatches.{GivesNext, GivesNoneYet}
+use Rattle.fetch_stream.specs.inside.Steps.{HasNext, SaysNext, Waits, rows_left}
+use Rattle.fetch_stream.specs.inside.WrittenPayloads.{SaysRows}
 use Rattle.fetch_stream.proofs.Parts.{slice_none, slice_whole, cuts_join, length_cut}
 use Rattle.fetch_stream.proofs.Sizes.{one_row_fits}
 
@@ -102,32 +101,9 @@ module _ (keep : BatchSlicesKeepRows) (cutter : Cutter) (source new : Source) (i
     more = gives.some;
   }
 
-  -- there is none
-  pub no_batch : GivesBatch source (Ok None) new → Ends cutter source cutter new
-  no_batch gives = (
-    record {
-      going = record {
-        placed = is.placed;
-        counted = omega (arith, is.counted, gives.3 cutter.batch);
-        within = omega (arith, is.within, gives.3 cutter.batch);
-        behind = gives.0.source;
-        columns = λ more. absurd (omega (arith, more, high));
-      };
-      schema = gives.0.schema;
-    },
-    behind ∙ gives.1,
-    ap (λ (rows : List Row). rows ++ left_behind new) (all_cut keep cutter is.placed high) ∙ gives.2,
-    omega (arith, gives.3 cutter.batch),
-  )
-
   -- or it is not there yet
   pub waits : GivesNoneYet source new → Waits cutter source cutter new
   waits none = keeps_still cutter source new is none
-
-  -- or it is refused
-  pub batch_refused : (fault : Fault) → MayRefuseSource source fault → Fails cutter source fault
-  batch_refused fault (inl memory) = inl memory
-  batch_refused fault (inr large) = inr (large.0, omega (arith, large.1 cutter.batch, ap length behind, high))
 
 -- ---- the next rows
 

@@ -8,18 +8,18 @@ use Rattle.scan_base.specs.declared.fault.Fault.{Fault}
 use Rattle.scan_base.specs.Limits.{most_columns}
 use Rattle.scan_base.specs.Reading.{◌>>=◌}
 use Rattle.scan_base.specs.Lists.{each}
-use Rattle.arrow_schema.specs.declared.data_type.DataType.{DataType}
-use Rattle.arrow_schema.specs.declared.data_type.DataType.TheVariants.{Integer, Utf8, Bool as Flags, Decimal128, Date, Dictionary}
+use Rattle.arrow_types.specs.declared.data_type.DataType.{DataType}
+use Rattle.arrow_types.specs.declared.data_type.DataType.TheVariants.{Integer, Utf8, Bool as Flags, Decimal128, Date, Dictionary}
+use Rattle.arrow_types.specs.declared.schema.Field.{Field}
+use Rattle.arrow_types.specs.declared.schema.Schema.{Schema}
+use Rattle.arrow_types.specs.Schema.{IsSchema}
 use Rattle.arrow_schema.specs.declared.header.HeaderKind.TheVariants as header
-use Rattle.arrow_schema.specs.declared.schema.Field.{Field}
-use Rattle.arrow_schema.specs.declared.schema.Schema.{Schema}
 use Rattle.arrow_schema.specs.Header.{schema_in, schema_message_of, schema_of}
-use Rattle.arrow_schema.specs.Schema.{IsSchema}
-use Rattle.arrow_schema.specs.Written.{schema_part, schema_bytes}
+use Rattle.arrow_schema.specs.WrittenHeader.{schema_part, schema_bytes}
 use Rattle.arrow_schema.proofs.Messages.{messages_read}
 use Rattle.arrow_schema.proofs.Again.{whole_schema, short_schema, schemas_read}
 use Rattle.arrays.specs.Column.{ColumnAt, cut}
-use Rattle.arrays.specs.Batch.{BatchAt, rows_of}
+use Rattle.arrays.specs.Batch.{BatchAt}
 use Rattle.proto_wire.specs.Calls.{chunk_entry}
 use Rattle.proto_wire.specs.Reading.{fields_of}
 use Rattle.proto_wire.specs.Standard.{Entry}
@@ -30,22 +30,20 @@ use Rattle.flight_proto.proofs.ReadsBack.{chunk_writable, data_back, fields_back
 use Rattle.flight_proto.proofs.Heads.{bodies_follow_heads}
 use Rattle.ipc_batch.specs.State.{Known}
 use Rattle.ipc_batch.specs.Parts.{body_claimed}
-use Rattle.ipc_batch.specs.Said.{Sent, News, Rows, schema_sent, news_of, Follows, Says}
-use Rattle.ipc_batch.specs.Seen.{written_seen}
-use Rattle.ipc_batch.specs.Written.{body_length, most_header_bytes, SaysBatch}
-use Rattle.ipc_batch.specs.Dressed.{Dressing, IsDressed, AreDressed}
+use Rattle.ipc_batch.specs.SaidRows.{Sent, News, Rows, schema_sent, news_of, Follows, Says}
+use Rattle.ipc_batch.specs.WrittenMessages.{body_length, most_header_bytes, SaysBatch}
+use Rattle.ipc_batch.specs.DressedBatches.{Dressing, IsDressed, AreDressed}
 use Rattle.ipc_batch.proofs.Dressing.{dressed_say}
 use Rattle.ipc_batch.proofs.Lengths.{both}
 use Rattle.ipc_batch.proofs.Messages.{joined}
-use Rattle.dictionary_answers.specs.declared.dressed.DressedBatch.{DressedBatch}
-use Rattle.dictionary_answers.specs.Dress.{IsDressable, AreDressable, IsDressedBatch}
+use Rattle.dictionary_answers.specs.Dress.{IsDressable, AreDressable}
 use Rattle.dictionary_answers.specs.Lengths.{bodies_length}
 use Rattle.flight_info.specs.Payloads.{Payload, message_in, PayloadsSay}
 use Rattle.flight_info.proofs.Forms.{schema_plain}
 use Rattle.fetch_stream.specs.Fetches.{HasRow, IsBare, SayDressed}
 use Rattle.fetch_stream.specs.Streams.{Parcel, HaveShortBodies, most_body_bytes}
-use Rattle.fetch_stream.specs.inside.Ahead.{AnsweredAs}
-use Rattle.fetch_stream.specs.inside.Written.{Carries, CarryDressed, IsShort, SaysRows, SaysSchema, SaysWritten}
+use Rattle.fetch_stream.specs.inside.RowsAhead.{AnsweredAs}
+use Rattle.fetch_stream.specs.inside.WrittenPayloads.{Carries, CarryDressed, IsShort, SaysRows, SaysSchema, SaysWritten}
 
 -- ---- one payload
 
@@ -280,17 +278,6 @@ pub few_answered : (schema : Schema) (columns : List ColumnAt) → IsSchema sche
 few_answered schema columns is ans = omega (arith, is.few, dressable_many schema.fields columns ans.dressable)
 
 -- ---- parcels that are written
-
--- the rows of a batch that was dressed
-pub dressed_rows : (parcel : Parcel) (schema : Schema) (batch : BatchAt) (made : DressedBatch) → IsDressedBatch schema batch made
-    → CarryDressed parcel (map written_seen made.dictionaries.items) made.batch → SaysRows parcel schema (rows_of batch)
-dressed_rows parcel schema batch made is carry = record {
-  dictionaries = map written_seen made.dictionaries.items;
-  batch = carry.message;
-  carry = carry.carry;
-  dressed = record { coded = is.coded; adds = is.adds carry.message carry.said };
-  short = carry.short;
-}
 
 -- the bodies of messages that together are short
 short_each : (messages : List Sent) (most : ℕ) → bodies_length messages ≤ most → (k : ℕ) (d : Sent) → k < length messages → length (get_or messages k d).body ≤ most

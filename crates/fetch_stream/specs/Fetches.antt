@@ -4,16 +4,16 @@ use Rattle.std.specs.Prelude.{length, map, take, Option, Some, None, Ok}
 use Rattle.scan_base.specs.declared.fault.Fault.{Fault}
 use Rattle.scan_base.specs.declared.fault.Fault.TheVariants.{BadTicket, ResultTooLarge, OutOfMemory}
 use Rattle.scan_base.specs.Limits.{most_query_bytes, most_answer_rows}
-use Rattle.arrow_schema.specs.declared.schema.Schema.{Schema}
+use Rattle.arrow_types.specs.declared.schema.Schema.{Schema}
 use Rattle.endpoint_split.specs.Handle.{HandleAt, Query, Tables}
 use Rattle.proto_wire.specs.Standard.{Entry}
 use Rattle.proto_wire.specs.Reading.{fields_of}
-use Rattle.ipc_batch.specs.Said.{Sent}
-use Rattle.ipc_batch.specs.Dressed.{Dressing, AreDressed}
+use Rattle.ipc_batch.specs.SaidRows.{Sent}
+use Rattle.ipc_batch.specs.DressedBatches.{Dressing, AreDressed}
 use Rattle.table_versions.specs.Table.{Row, Table}
 use Rattle.table_versions.specs.Database.{Database}
 use Rattle.flight_info.specs.Forms.{IsPlain}
-use Rattle.flight_info.specs.Meant.{Meant}
+use Rattle.flight_info.specs.QueryMeaning.{Meant}
 use Rattle.flight_info.specs.Payloads.{Payload, message_in, PayloadsSay}
 use Rattle.flight_info.specs.Tables.{tables_listed}
 

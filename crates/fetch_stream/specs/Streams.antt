@@ -7,7 +7,7 @@ use Rattle.scan_base.specs.declared.fault.Fault.{Fault}
 use Rattle.scan_base.specs.declared.fault.Fault.TheVariants.{BadTicket, ResultTooLarge, OutOfMemory}
 use Rattle.scan_base.specs.Limits.{most_answer_rows}
 use Rattle.scan_base.specs.Lists.{each}
-use Rattle.arrow_schema.specs.declared.schema.Schema.{Schema}
+use Rattle.arrow_types.specs.declared.schema.Schema.{Schema}
 use Rattle.row_sources.specs.declared.turn.Patience.{Patience}
 use Rattle.row_sources.specs.declared.turn.Patience.TheVariants.{Endless, Choice}
 use Rattle.row_sources.specs.declared.turn.Turn.{Turn}

@@ -5,18 +5,16 @@ ghost use Rattle.std.specs.List.{list_any};
 ghost use Rattle.scan_base.specs.Limits.{most_columns};
 ghost use Rattle.arrays.specs.Batch.{rows_of};
 ghost use Rattle.table_versions.specs.Table.{is_long_text};
-ghost use Rattle.fetch_stream.specs.inside.Ahead.{AnsweredAs, IsCutter};
-ghost use Rattle.fetch_stream.specs.inside.Cut.{Cuts};
+ghost use Rattle.fetch_stream.specs.inside.RowsAhead.{AnsweredAs, IsCutter};
+ghost use Rattle.fetch_stream.specs.inside.BatchCuts.{Cuts};
 
-use crate::message::{Writing, batch_parcel};
+use crate::message::{WriteContext, batch_parcel};
 use crate::parcel::Parcel;
+use array_select::MOST_BATCH_ROWS;
 use arrays::Batch;
 use arrays::laws::batch_slices_keep_rows;
-use arrow_schema::Schema;
+use arrow_types::Schema;
 use std::alloc::AllocError;
-
-// The most rows of a message.
-const MOST_ROWS: usize = 65_536;
 
 // A batch that is cut into messages.
 pub(crate) struct Cutter {
@@ -46,7 +44,7 @@ impl Cutter {
         Cutter {
             batch,
             at: 0,
-            most: MOST_ROWS,
+            most: MOST_BATCH_ROWS,
         }
     }
 
@@ -56,7 +54,11 @@ impl Cutter {
     /// # Errors
     ///
     /// `AllocError` where memory is refused. The same rows come next.
-    pub(crate) fn next(&mut self, writing: Writing, schema: &Schema) -> Result<Parcel, AllocError>
+    pub(crate) fn next(
+        &mut self,
+        writing: WriteContext,
+        schema: &Schema,
+    ) -> Result<Parcel, AllocError>
         requires placed { IsCutter self.old }
         requires more { self.old.at < self.old.batch.rows }
         requires few { length self.old.batch.columns ≤ most_columns }
@@ -71,7 +73,7 @@ impl Cutter {
             let slice = self.batch.slice(writing.alloc, self.at, end)?;
             if let Some(parcel) = batch_parcel(writing, schema, &slice)? {
                 self.at = end;
-                self.most = (rows * 2).min(MOST_ROWS);
+                self.most = (rows * 2).min(MOST_BATCH_ROWS);
                 return Ok(parcel);
             }
             rows /= 2;

@@ -2,7 +2,7 @@
 
 ghost use Rattle.std.specs.Prelude.{◌≡◌};
 ghost use Rattle.scan_base.specs.Reading.{Gives};
-ghost use Rattle.endpoint_split.specs.Seen.{handle_seen};
+ghost use Rattle.endpoint_split.specs.HandleView.{handle_seen};
 ghost use Rattle.flight_info.specs.Infos.{handle_asked};
 ghost use Rattle.fetch_stream.specs.Fetches.{version_of};
 

@@ -4,24 +4,24 @@
 //! what a stream gives of an answer, one payload at a time.
 #![tactic(auto)]
 
-pub mod ahead;
+mod ahead_parcel;
 mod cutter;
 pub mod executor;
 pub mod fetch;
 pub mod laws;
-mod made;
 mod message;
+pub mod morsel_parcels;
 pub mod morsels;
 pub mod opening;
 pub mod parcel;
 pub mod payload;
+mod payload_work;
 mod source;
 pub mod stream;
-mod work;
 
-pub use crate::ahead::Ahead;
 pub use crate::executor::{Execution, Executor, OneWorker, Payloads, ReadsPayloads};
 pub use crate::fetch::{read_ticket, version_of};
+pub use crate::morsel_parcels::MorselParcels;
 pub use crate::morsels::Morsels;
 pub use crate::opening::Opening;
 pub use crate::parcel::Parcel;

@@ -4,28 +4,29 @@ ghost use Rattle.std.specs.Prelude.{◌≡◌, ◌≤◌, ◌<◌, ◌+◌, ◌+
 ghost use Rattle.std.specs.Prelude.{IfOk, IfSome, MatchOption};
 ghost use Rattle.std.specs.List.{AllZip};
 ghost use Rattle.scan_base.specs.Limits.{most_columns, most_message_bytes, most_values};
-ghost use Rattle.arrow_schema.specs.Schema.{IsSchema};
+ghost use Rattle.arrow_types.specs.Schema.{IsSchema};
 ghost use Rattle.arrays.specs.Batch.{rows_of};
 ghost use Rattle.flight_info.specs.Payloads.{FitMessages};
-ghost use Rattle.ipc_batch.specs.Seen.{written_seen};
-ghost use Rattle.ipc_batch.specs.Written.{body_length, most_header_bytes};
+ghost use Rattle.ipc_batch.specs.MessageView.{written_seen};
+ghost use Rattle.ipc_batch.specs.WrittenMessages.{body_length, most_header_bytes};
 ghost use Rattle.dictionary_answers.specs.Lengths.{bodies_length, dressed_length};
 ghost use Rattle.fetch_stream.specs.Morsels.{GivesSchema};
 ghost use Rattle.fetch_stream.specs.Streams.{most_body_bytes};
-ghost use Rattle.fetch_stream.specs.inside.Ahead.{AnsweredAs};
-ghost use Rattle.fetch_stream.specs.inside.Written.{Carries, CarryDressed, IsShort, SaysRows};
-ghost use Rattle.fetch_stream.specs.inside.Written.{SaysSchema, SaysWritten};
+ghost use Rattle.fetch_stream.specs.inside.RowsAhead.{AnsweredAs};
+ghost use Rattle.fetch_stream.specs.inside.WrittenPayloads.{Carries, CarryDressed, IsShort};
+ghost use Rattle.fetch_stream.specs.inside.WrittenPayloads.{SaysRows};
+ghost use Rattle.fetch_stream.specs.inside.WrittenPayloads.{SaysSchema, SaysWritten};
 
 use crate::parcel::Parcel;
 use crate::payload::{Payload, body_parts};
 use arrays::Batch;
-use arrow_schema::{Schema, write_schema};
+use arrow_schema::write_schema;
+use arrow_types::Schema;
 use bytes::Bytes;
 use dictionary_answers::{DressedBatch, dress};
 use flight_proto::{put_flight_data, put_flight_data_head};
-use hash_seed::HashSeed;
 use ipc_batch::{SizedBatch, WrittenMessage};
-use scan_base::Fault;
+use scan_base::{Fault, HashSeed};
 use std::alloc::{AllocError, Global};
 
 // The most bytes of the bodies of a batch and of its dictionaries. Those of one row have fewer: at
@@ -34,7 +35,7 @@ const MOST_BODY_BYTES: usize = 8_388_608;
 
 /// Whence memory is taken, and what the hashes of texts begin with.
 #[derive(Clone, Copy)]
-pub(crate) struct Writing {
+pub(crate) struct WriteContext {
     pub(crate) alloc: Global,
     pub(crate) seed: HashSeed,
 }
@@ -159,7 +160,7 @@ fn dressed_parcel(alloc: Global, dressed: DressedBatch) -> Result<Option<Parcel>
 /// the batch holds, and after them that of its rows. Nothing where their bodies would have too many
 /// bytes.
 pub(crate) fn batch_parcel(
-    writing: Writing,
+    writing: WriteContext,
     schema: &Schema,
     batch: &Batch,
 ) -> Result<Option<Parcel>, AllocError>
@@ -172,7 +173,7 @@ pub(crate) fn batch_parcel(
     ensures long { IfOk result (λ found. found ≡ None →
         most_body_bytes < dressed_length schema.now.fields batch.now.columns) }
 {
-    let Writing { alloc, seed } = writing;
+    let WriteContext { alloc, seed } = writing;
     match dress(alloc, seed, schema, batch, MOST_BODY_BYTES)? {
         Some(dressed) => dressed_parcel(alloc, dressed),
         None => Ok(None),

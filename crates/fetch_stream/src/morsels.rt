@@ -5,14 +5,13 @@ ghost use Rattle.fetch_stream.specs.Morsels.{GivesSchema, behind_schema, morsel_
 ghost use Rattle.fetch_stream.specs.inside.MadeAhead.{FallsInto, morsels_at};
 ghost use Rattle.scan_exec.specs.Morsels.{morsel_rows};
 
-use crate::ahead::{Ahead, made_ahead};
-use crate::message::{Writing, schema_payload};
+use crate::message::{WriteContext, schema_payload};
+use crate::morsel_parcels::{MorselParcels, made_ahead};
 use crate::payload::Payload;
 use crate::source::Source;
 use crate::stream::FetchStream;
 use arrays::Batch;
-use hash_seed::HashSeed;
-use scan_base::Fault;
+use scan_base::{Fault, HashSeed};
 use scan_exec::Scan;
 use std::alloc::{AllocError, Global};
 use std::marker::Model;
@@ -93,8 +92,8 @@ impl<'s> Morsels<'s> {
         self.begun
     }
 
-    /// How many turns of a morsel's stream are one turn of making ahead (`Ahead::go_on`): fewer
-    /// where the filters compare much. Contracts say nothing of it.
+    /// How many turns of a morsel's stream are one turn of making ahead (`MorselParcels::go_on`):
+    /// fewer where the filters compare much. Contracts say nothing of it.
     pub fn turns_ahead(&self) -> usize {
         self.making.turns
     }
@@ -111,14 +110,14 @@ impl<'s> Morsels<'s> {
     }
 
     /// A morsel, counted from 0, as a stream of its own, after the payload of the schema. Its
-    /// payloads are made when they are asked for, or ahead (`Ahead::go_on`). What refuses it, as
-    /// memory that is refused here, is answered by it.
-    pub fn ahead(&self, alloc: Global, number: usize) -> Ahead<'s>
+    /// payloads are made when they are asked for, or ahead (`MorselParcels::go_on`). What refuses
+    /// it, as memory that is refused here, is answered by it.
+    pub fn ahead(&self, alloc: Global, number: usize) -> MorselParcels<'s>
         requires { number < length self.now.rows }
         ensures { result ≡ morsel_stream self.now number }
     {
         let scan = self.scan;
-        let writing = Writing {
+        let writing = WriteContext {
             alloc,
             seed: self.making.seed,
         };
@@ -128,12 +127,12 @@ impl<'s> Morsels<'s> {
 }
 
 // The stream of a morsel of a scan, before its first row.
-fn morsel_rest(writing: Writing, scan: &Scan, number: usize) -> Result<FetchStream, AllocError>
+fn morsel_rest(writing: WriteContext, scan: &Scan, number: usize) -> Result<FetchStream, AllocError>
     requires falls { (count : ℕ) × FallsInto scan.now count × (number < count) }
     ensures { IfOk result
         (λ stream. stream.stream ≡ behind_schema scan.now.schema (morsel_rows scan.now number)) }
 {
-    let Writing { alloc, seed } = writing;
+    let WriteContext { alloc, seed } = writing;
     let morsel = scan.morsel(alloc, number)?;
     let nothing = Batch::new(Vec::new(alloc), 0);
     let stream = FetchStream::of(seed, nothing, Source::Scanned(morsel));

@@ -6,11 +6,11 @@ ghost use Rattle.scan_base.specs.declared.fault.Fault.TheVariants.{BadTicket, Li
 ghost use Rattle.scan_base.specs.declared.fault.Fault.TheVariants.{OutOfMemory};
 ghost use Rattle.scan_base.specs.Limits.{most_query_bytes};
 ghost use Rattle.scan_base.specs.Reading.{RefusesFirst, demand};
-ghost use Rattle.endpoint_split.specs.Seen.{handle_seen};
-ghost use Rattle.arrow_schema.specs.Schema.{IsSchema};
+ghost use Rattle.endpoint_split.specs.HandleView.{handle_seen};
+ghost use Rattle.arrow_types.specs.Schema.{IsSchema};
 ghost use Rattle.table_versions.specs.Table.{Table};
-ghost use Rattle.table_versions.specs.Stored.{tables_of};
-ghost use Rattle.flight_info.specs.Meant.{Meant};
+ghost use Rattle.table_versions.specs.StoredTables.{tables_of};
+ghost use Rattle.flight_info.specs.QueryMeaning.{Meant};
 ghost use Rattle.flight_info.specs.Tables.{tables_listed};
 ghost use Rattle.fetch_stream.specs.Fetches.{may_mean};
 ghost use Rattle.fetch_stream.specs.Morsels.{GivesSchema, before_schema};
@@ -19,29 +19,23 @@ ghost use Rattle.fetch_stream.specs.inside.Opening.{IsMeaning, rows_meant, strea
 
 use crate::message::said_schema;
 use crate::payload::Payload;
+use crate::payload_work::Work;
 use crate::source::Source;
 use crate::stream::FetchStream;
-use crate::work::Work;
 use arrays::Batch;
-use arrow_schema::Schema;
+use arrow_types::Schema;
 use batch_skipping::judging_rows;
 use endpoint_split::{Handle, Range};
-use flight_info::{Planned, plan_text, tables_batch, tables_schema};
-use hash_seed::HashSeed;
-use row_sources::Reading;
-use scan_base::Fault;
+use flight_info::{QueryPlan, plan_text, tables_batch, tables_schema};
+use row_sources::ReadRange;
+use scan_base::{Fault, HashSeed};
 use scan_exec::Scan;
 use std::alloc::{AllocError, Global};
 use std::marker::Model;
 use table_versions::{CatalogVersion, Snapshot};
 use typed_plan::{Output, Plan, TypedPlan};
+use work_watch::pace::{FEW_ROWS, TURN_ROWS};
 use work_watch::{Watches, comparisons_in};
-
-// How many rows of a place are joined or grouped in no time that shows.
-const FEW_ROWS: usize = 64;
-
-// After how many rows who watches long work looks at the client.
-const LOOKED_ROWS: usize = 1_048_576;
 
 // A query that is planned, the range of its first place that is scanned, and what the hashes of its
 // keys begin with.
@@ -243,7 +237,7 @@ impl PlannedScan {
             from,
             to,
         } = self;
-        let scan = Scan::watched(alloc, plan, Reading { seed, from, to }, watch)?;
+        let scan = Scan::watched(alloc, plan, ReadRange { seed, from, to }, watch)?;
         let nothing = Batch::new(Vec::new(alloc), 0);
         Ok(FetchStream::of(seed, nothing, Source::Scanned(scan)))
     }
@@ -251,7 +245,7 @@ impl PlannedScan {
     // Whether its batches are judged for long, or it joins or makes groups, and a place has more
     // than a few rows.
     fn takes_long(&self) -> bool {
-        judging_rows(&self.plan) > LOOKED_ROWS || self.makes_much()
+        judging_rows(&self.plan) > TURN_ROWS || self.makes_much()
     }
 
     // Whether it joins or makes groups, and a place has more than a few rows.
@@ -304,7 +298,7 @@ fn rows_asked(handle: &Handle<'_>) -> usize {
 
 // How many rows a range of a query has at least: all of the first place, where the query makes
 // groups.
-fn least_rows(planned: &Planned) -> usize
+fn least_rows(planned: &QueryPlan) -> usize
     ensures whole { planned.now.grouped ≡ true → result ≡ planned.now.rows }
     ensures part { planned.now.grouped ≡ false → result ≡ 0 }
 {

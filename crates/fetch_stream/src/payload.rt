@@ -4,7 +4,7 @@ ghost use Rattle.std.specs.Prelude.{◌≡◌, ◌++◌, ◌≤◌, [], length, 
 ghost use Rattle.std.specs.List.{flat_map};
 ghost use Rattle.flatbuf.specs.Block.{padded};
 ghost use Rattle.scan_base.specs.Limits.{most_message_bytes};
-ghost use Rattle.ipc_batch.specs.Written.{body_of};
+ghost use Rattle.ipc_batch.specs.WrittenMessages.{body_of};
 
 use bytes::Bytes;
 use flight_info::payload_of;

@@ -2,11 +2,11 @@
 
 ghost use Rattle.std.specs.Prelude.{◌≡◌, IfOk, OnOk};
 ghost use Rattle.arrays.specs.Batch.{BatchAt};
-ghost use Rattle.fetch_stream.specs.inside.Ahead.{schema_behind, rows_taken, IsSource};
-ghost use Rattle.fetch_stream.specs.inside.Given.{GivesNoneYet, TurnsBatch};
+ghost use Rattle.fetch_stream.specs.inside.RowsAhead.{schema_behind, rows_taken, IsSource};
+ghost use Rattle.fetch_stream.specs.inside.GivenBatches.{GivesNoneYet, TurnsBatch};
 
 use arrays::Batch;
-use arrow_schema::Schema;
+use arrow_types::Schema;
 use row_sources::{Patience, Turn};
 use scan_base::Fault;
 use scan_exec::{GroupsBatches, Scan};

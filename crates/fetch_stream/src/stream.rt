@@ -4,27 +4,26 @@ ghost use Rattle.std.specs.Prelude.{◌≡◌, ◌≤◌, ◌<◌, ◌+◌, ◌+
 ghost use Rattle.std.specs.Prelude.{IfSome, OnOk};
 ghost use Rattle.std.specs.List.{list_any};
 ghost use Rattle.scan_base.specs.Limits.{most_answer_rows};
-ghost use Rattle.arrow_schema.specs.Schema.{IsSchema};
+ghost use Rattle.arrow_types.specs.Schema.{IsSchema};
 ghost use Rattle.arrays.specs.Batch.{rows_of};
 ghost use Rattle.table_versions.specs.Table.{is_long_text};
-ghost use Rattle.fetch_stream.specs.Streams.{Gives, GivesTurn, LooksFor};
+ghost use Rattle.fetch_stream.specs.Streams.{GivesTurn, LooksFor};
 ghost use Rattle.fetch_stream.specs.Morsels.{whole_stream};
-ghost use Rattle.fetch_stream.specs.inside.Ahead.{IsGoing, IsSource, AnsweredAs, schema_behind};
-ghost use Rattle.fetch_stream.specs.inside.Ahead.{left_behind, rows_taken};
+ghost use Rattle.fetch_stream.specs.inside.RowsAhead.{IsGoing, IsSource, AnsweredAs, schema_behind};
+ghost use Rattle.fetch_stream.specs.inside.RowsAhead.{left_behind, rows_taken};
 ghost use Rattle.fetch_stream.specs.inside.Steps.{GivesFirst, Refills, GivesRows};
 
 use crate::cutter::Cutter;
-use crate::message::{Writing, schema_payload};
+use crate::message::{WriteContext, schema_payload};
 use crate::morsels::{MakingMorsels, Morsels};
 use crate::parcel::Parcel;
+use crate::payload_work::Work;
 use crate::source::Source;
-use crate::work::Work;
 use arrays::Batch;
 use arrays::laws::batch_slices_keep_rows;
-use arrow_schema::Schema;
-use hash_seed::HashSeed;
+use arrow_types::Schema;
 use row_sources::{Patience, Turn};
-use scan_base::Fault;
+use scan_base::{Fault, HashSeed};
 use scan_exec::GroupsBatches;
 use std::alloc::{AllocError, Global};
 use std::marker::Model;
@@ -48,8 +47,8 @@ pub struct FetchStream {
 impl Model for FetchStream {
     ghost use Rattle.std.specs.Prelude.{◌≡◌, ◌++◌, None};
     ghost use Rattle.fetch_stream.specs.Streams.{RunningAt};
-    ghost use Rattle.fetch_stream.specs.inside.Ahead.{IsGoing, schema_behind, left_behind};
-    ghost use Rattle.fetch_stream.specs.inside.Ahead.{rows_cut, uncut, unseen_behind};
+    ghost use Rattle.fetch_stream.specs.inside.RowsAhead.{IsGoing, schema_behind, left_behind};
+    ghost use Rattle.fetch_stream.specs.inside.RowsAhead.{rows_cut, uncut, unseen_behind};
 
     ghost Value = { RunningAt };
 
@@ -112,22 +111,9 @@ impl FetchStream {
     pub(crate) fn with_work(self, work: Work) -> FetchStream
         ensures { result ≡ self }
     {
-        let FetchStream {
-            begun,
-            cutter,
-            source,
-            refused,
-            seed,
-            work: _,
-        } = self;
-        FetchStream {
-            begun,
-            cutter,
-            source,
-            refused,
-            seed,
-            work,
-        }
+        let mut stream = self;
+        stream.work = work;
+        stream
     }
 
     /// The same stream, after the payload of its schema, for who gives that payload otherwise
@@ -135,22 +121,9 @@ impl FetchStream {
     pub fn behind_schema(self) -> FetchStream
         ensures { result.stream ≡ record self.stream { begun = true } }
     {
-        let FetchStream {
-            begun: _,
-            cutter,
-            source,
-            refused,
-            seed,
-            work,
-        } = self;
-        FetchStream {
-            begun: true,
-            cutter,
-            source,
-            refused,
-            seed,
-            work,
-        }
+        let mut stream = self;
+        stream.begun = true;
+        stream
     }
 
     /// How many workers may make its payloads at most.
@@ -258,32 +231,17 @@ impl FetchStream {
         })
     }
 
-    /// The next parcel, and `None` after the last one: first the message of the schema, and then
-    /// record batches of at most 65,536 rows, each after a dictionary for each column that is
-    /// answered as one. The bodies of a parcel have at most 8,388,608 bytes together. What refuses
-    /// a stream is answered from then on.
+    /// A turn to the next parcel: first the message of the schema, and then record batches of at
+    /// most 65,536 rows, each after a dictionary for each column that is answered as one. The
+    /// bodies of a parcel have at most 8,388,608 bytes together. `Turn::Working` where none of the
+    /// rows is given that the turn looked at: then the same is still to come, and the next turn
+    /// goes on after them. Groups that were not made before are made in one turn. What refuses a
+    /// stream is answered from then on.
     ///
     /// # Errors
     ///
     /// F20 (`Fault::ResultTooLarge`) where the answer has more than 67,108,864 rows, after a
     /// beginning of it; F21 (`Fault::OutOfMemory`) where memory is refused.
-    pub fn next(&mut self, alloc: Global) -> Result<Option<Parcel>, Fault>
-        ensures { Gives self.old.stream result self.new.stream }
-    {
-        match self.turn(alloc, Patience::Endless)? {
-            Turn::Given(parcel) => Ok(Some(parcel)),
-            Turn::Working => Ok(None),
-            Turn::End => Ok(None),
-        }
-    }
-
-    /// A turn to the next parcel. `Turn::Working` where none of the rows is given that the turn
-    /// looked at: then the same is still to come, and the next turn goes on after them. Groups that
-    /// were not made before are made in one turn.
-    ///
-    /// # Errors
-    ///
-    /// Those of `next`.
     pub fn turn(&mut self, alloc: Global, patience: Patience) -> Result<Turn<Parcel>, Fault>
         ensures turns { GivesTurn patience self.old.stream result self.new.stream }
         ensures looks { LooksFor patience result self.old.unseen self.new.unseen }
@@ -292,7 +250,7 @@ impl FetchStream {
             return Err(fault);
         }
         let given = if self.begun {
-            let writing = Writing {
+            let writing = WriteContext {
                 alloc,
                 seed: self.seed,
             };
@@ -343,7 +301,7 @@ fn refill(
 
 // A turn to the parcel of the next rows.
 fn turn_of_rows(
-    writing: Writing,
+    writing: WriteContext,
     patience: Patience,
     cutter: &mut Cutter,
     source: &mut Source,
@@ -353,7 +311,7 @@ fn turn_of_rows(
 {
     batch_slices_keep_rows();
     match refill(writing.alloc, patience, cutter, source)? {
-        Turn::Given(_) => Ok(Turn::Given(cutter.next(writing, source.schema())?)),
+        Turn::Given(()) => Ok(Turn::Given(cutter.next(writing, source.schema())?)),
         Turn::Working => Ok(Turn::Working),
         Turn::End => Ok(Turn::End),
     }

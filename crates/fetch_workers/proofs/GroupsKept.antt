@@ -2,8 +2,8 @@
 use Rattle.std.proofs.Common.{◌≡◌, ℕ, max, min, List, length, Result, Ok, Err, arith}
 use Rattle.std.specs.Coded.{Coded-set, coded_ℕ, coded_list}
 use Rattle.std.proofs.Math.Logic.{∥∥₁_elim}
-use Rattle.arrow_schema.specs.declared.data_type.DataType.{DataType}
-use Rattle.arrow_schema.specs.contracts.data_type.DataType as data_type
+use Rattle.arrow_types.specs.declared.data_type.DataType.{DataType}
+use Rattle.arrow_types.specs.contracts.data_type.DataType as data_type
 use Rattle.arrays.specs.Batch.{BatchAt}
 use Rattle.arrays.specs.contracts.batch.Batch as batch
 use Rattle.scan_base.specs.declared.fault.Fault.{Fault}

@@ -2,15 +2,15 @@
 use Rattle.std.proofs.Common.{◌≡◌, ℕ, Bool, List, length, Option, refl}
 use Rattle.std.specs.Coded.{Coded-set, coded_ℕ, coded_bool, coded_list, coded_option}
 use Rattle.std.proofs.Math.Logic.{∥∥₁_elim}
-use Rattle.arrow_schema.specs.declared.schema.Schema.{Schema}
-use Rattle.arrow_schema.specs.contracts.schema.Schema as schema
+use Rattle.arrow_types.specs.declared.schema.Schema.{Schema}
+use Rattle.arrow_types.specs.contracts.schema.Schema as schema
 use Rattle.scan_base.specs.declared.fault.Fault.{Fault}
 use Rattle.scan_base.specs.contracts.fault.Fault as fault
 use Rattle.scan_base.specs.contracts.value.Value as value
 use Rattle.table_versions.specs.Table.{Row}
 use Rattle.fetch_stream.specs.Streams.{StreamAt}
 use Rattle.fetch_stream.specs.Morsels.{MorselsAt, morsel_stream}
-use Rattle.fetch_workers.specs.inside.Joined.{AnswersMorsels}
+use Rattle.fetch_workers.specs.inside.JoinedMorsels.{AnswersMorsels}
 
 numbers_equal : (n m : ℕ) → IsProp (n ≡ m)
 numbers_equal = Coded-set coded_ℕ

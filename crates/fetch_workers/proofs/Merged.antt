@@ -10,12 +10,12 @@ use Rattle.arrays.specs.Batch.{BatchAt, rows_of}
 use Rattle.scan_base.specs.Limits.{most_rows}
 use Rattle.scan_base.specs.declared.fault.Fault.{Fault}
 use Rattle.table_versions.specs.Table.{Row}
-use Rattle.grouping.specs.Fed.{GroupsAt, HasMerged, Holds, IsAlike, IsNew}
+use Rattle.grouping.specs.FedRows.{GroupsAt, HasMerged, Holds, IsAlike, IsNew}
 use Rattle.row_sources.specs.Picking.{PickAt, holds}
 use Rattle.fetch_workers.specs.Merging.{IsPartAt}
 use Rattle.fetch_workers.specs.Parts.{batches_before}
 use Rattle.fetch_workers.proofs.Parting.{before_next, none_before}
-use Rattle.scan_exec.specs.GroupWork.{AreGroupsOf, GroupWorkAt, IsPartOf, PartAt, batches_between, part_at, passing, rows_between}
+use Rattle.scan_exec.specs.GroupWork.{AreGroupsOf, GroupWorkAt, IsPartOf, PartAt, batches_between, part_at, passing, row_count_between}
 use Rattle.scan_exec.proofs.Feeding.{begun_part, between_few, from_first, passing_few}
 
 -- groups of the same batches, by the same, are alike
@@ -113,8 +113,8 @@ new_are work parts groups none all new = record {
 
 -- a part that is begun is that of its number
 pub begun_at : (work : GroupWorkAt) (parts number from to : ℕ) (result : Result PartAt Fault) → from ≡ batches_before (length work.batches) parts number →
-    to ≡ batches_before (length work.batches) parts (number + 1) → IfOk result (λ part. part ≡ part_at work from to (rows_between from to work.batches)) → IsPartAt work parts number result
+    to ≡ batches_before (length work.batches) parts (number + 1) → IfOk result (λ part. part ≡ part_at work from to (row_count_between from to work.batches)) → IsPartAt work parts number result
 begun_at work parts number from to (Err fault) first last is = tt
 begun_at work parts number from to (Ok part) first last is =
     subst (λ (n : ℕ). IsPartOf work n (batches_before (length work.batches) parts (number + 1)) part) first
-    (subst (λ (n : ℕ). IsPartOf work from n part) last (begun_part work from to (rows_between from to work.batches) part is))
+    (subst (λ (n : ℕ). IsPartOf work from n part) last (begun_part work from to (row_count_between from to work.batches) part is))

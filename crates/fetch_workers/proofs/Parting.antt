@@ -21,10 +21,3 @@ all_before (suc batches) zero some = omega (arith, some (omega arith))
 all_before batches (suc parts) some =
     let rest = mod_below batches (suc parts) (omega arith) in
     omega (arith, div-add-mod batches (suc parts), rest)
-
--- and before each part no more than all
-pub before_few : (batches parts number : ℕ) → 0 < parts → number ≤ parts → batches_before batches parts number ≤ batches
-before_few batches parts number some there =
-    let wide = mul-le number (batches / parts) parts (batches / parts) there (omega arith) in
-    let rest = mod_below batches parts some in
-    omega (arith, wide, div-add-mod batches parts, rest)

@@ -1,4 +1,4 @@
 pub mod inside
 pub mod Merging
 pub mod Parts
-pub mod Shared
+pub mod SharedValues

@@ -1,7 +1,7 @@
 -- Inside: groups of each part of the batches, which can be merged.
 use Rattle.std.specs.Prelude.{◌≡◌, ◌≤◌, ◌<◌, ℕ, ◌+◌, length, Option, Some, None, Result, Ok, IfOk}
 use Rattle.scan_base.specs.declared.fault.Fault.{Fault}
-use Rattle.grouping.specs.Fed.{GroupsAt}
+use Rattle.grouping.specs.FedRows.{GroupsAt}
 use Rattle.fetch_workers.specs.Parts.{batches_before}
 use Rattle.scan_exec.specs.GroupWork.{CanBeGrouped, GroupWorkAt, GroupsOfPart, IsPartOf, PartAt}
 

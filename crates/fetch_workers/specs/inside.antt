@@ -1,3 +1,3 @@
 -- What contracts of this crate's private functions alone cite.
 pub mod Coming
-pub mod Joined
+pub mod JoinedMorsels

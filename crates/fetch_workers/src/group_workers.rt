@@ -3,8 +3,8 @@
 ghost use Rattle.std.specs.Prelude.{◌≡◌, OnOk};
 ghost use Rattle.scan_exec.specs.GroupWork.{CanBeGrouped, GroupsOfAll, work_at};
 
-use crate::merging::{Merging, PartGroups};
-use crate::parts::part_count;
+use crate::batch_parts::part_count;
+use crate::group_merger::{GroupMerger, PartGroups};
 use grouping::Groups;
 use scan_base::Fault;
 use scan_exec::{GroupWork, GroupsBatches, InOneWalk};
@@ -46,7 +46,7 @@ pub trait StartsGroupWorkers {
 }
 
 impl<R: Threads + Wait + Sync> StartsGroupWorkers for R {
-    ghost use Rattle.fetch_workers.specs.Shared.{MayBeShared};
+    ghost use Rattle.fetch_workers.specs.SharedValues.{MayBeShared};
 
     ghost shared = { λ _. MayBeShared R.row };
 
@@ -123,9 +123,9 @@ fn groups_beside<'t, R: Threads + Wait + Sync, L: Watches>(
 {
     let parts = part_count(work.shape.batches.len(), workers);
     let morsels = PartGroups { work, parts };
-    let mut merging = Merging { alloc, work, watch };
+    let mut merging = GroupMerger { alloc, work, watch };
     let merged = in_order(rt, alloc, &morsels, workers, &NoGate, &mut merging);
-    let Merging {
+    let GroupMerger {
         alloc: _,
         work: _,
         watch,

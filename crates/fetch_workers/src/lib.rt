@@ -4,13 +4,13 @@
 //! `Workers` is an executor: what is read over it is what is read over one worker.
 #![tactic(auto)]
 
+mod batch_parts;
+mod group_merger;
 pub mod group_workers;
-pub mod grouped;
-mod joined;
-mod merging;
-mod part;
-mod parts;
-mod work;
+pub mod grouped_work;
+mod joined_morsels;
+mod morsel_part;
+mod morsel_work;
 mod workers;
 
 pub use crate::group_workers::{GroupWorkers, StartsGroupWorkers};

@@ -2,10 +2,10 @@
 
 ghost use Rattle.std.specs.Prelude.{◌≡◌, IfOk, IfSome, None, OnOk};
 
-use crate::grouped::{GroupedWork, ready_grouped};
-use crate::joined::Joined;
-use crate::work::MorselWork;
-use fetch_stream::{Ahead, Executor, FetchStream, Morsels, OneWorker, ReadsPayloads};
+use crate::grouped_work::{GroupedWork, ready_grouped};
+use crate::joined_morsels::JoinedMorsels;
+use crate::morsel_work::MorselWork;
+use fetch_stream::{Executor, FetchStream, MorselParcels, Morsels, OneWorker, ReadsPayloads};
 use scan_base::Fault;
 use scan_workers::{Answers, NoGate, Reads, in_order};
 use std::alloc::{AllocError, Global};
@@ -65,7 +65,7 @@ pub trait StartsWorkers {
 }
 
 impl<R: Threads + Wait + Sync> StartsWorkers for R {
-    ghost use Rattle.fetch_workers.specs.Shared.{MayBeShared};
+    ghost use Rattle.fetch_workers.specs.SharedValues.{MayBeShared};
 
     ghost shared = { λ _. MayBeShared R.row };
 
@@ -188,13 +188,13 @@ fn read_beside<R: Threads + Wait + Sync, S: ReadsPayloads>(
     }
     let alloc = work.alloc;
     let work = MorselWork { morsels };
-    let mut reading = Reading {
+    let mut reading = PayloadReader {
         alloc,
         morsels: &work.morsels,
         reader,
     };
     let read = in_order(rt, alloc, &work, workers, &NoGate, &mut reading).ok();
-    let Reading {
+    let PayloadReader {
         alloc: _,
         morsels: _,
         reader,
@@ -209,19 +209,19 @@ fn take_back<T>(lent: &mut T)
 {}
 
 // Who reads the payloads of all morsels.
-struct Reading<'x, 'r, S> {
+struct PayloadReader<'x, 'r, S> {
     alloc: Global,
     morsels: &'x Morsels<'x>,
     reader: &'r mut S,
 }
 
-impl<'x, 'r, S: ReadsPayloads> Reads<Ahead<'x>> for Reading<'x, 'r, S> {
+impl<'x, 'r, S: ReadsPayloads> Reads<MorselParcels<'x>> for PayloadReader<'x, 'r, S> {
     type Out = Result<(), Fault>;
 
     ghost use Rattle.std.specs.Prelude.{◌≡◌};
     ghost use Rattle.fetch_stream.specs.Morsels.{whole_stream};
     ghost use Rattle.fetch_stream.specs.Streams.{StreamAt};
-    ghost use Rattle.fetch_workers.specs.inside.Joined.{AnswersMorsels};
+    ghost use Rattle.fetch_workers.specs.inside.JoinedMorsels.{AnswersMorsels};
 
     ghost takes = { λ r right count. S.takes r.reader.now
         × AnswersMorsels (λ (answer : StreamAt). answer) r.morsels.now right count };
@@ -229,8 +229,8 @@ impl<'x, 'r, S: ReadsPayloads> Reads<Ahead<'x>> for Reading<'x, 'r, S> {
     ghost reads = { λ old right count out new. (new.reader.ghost_name ≡ old.reader.ghost_name)
         × S.reads old.reader.now (whole_stream old.morsels.now) out new.reader.now };
 
-    fn read<P: Answers<Ahead<'x>>>(&mut self, answers: &mut P) -> Result<(), Fault> {
-        let mut joined = Joined {
+    fn read<P: Answers<MorselParcels<'x>>>(&mut self, answers: &mut P) -> Result<(), Fault> {
+        let mut joined = JoinedMorsels {
             morsels: self.morsels,
             answers,
             begun: self.morsels.begun(),

@@ -8,8 +8,8 @@ use Rattle.scan_base.specs.Predicate.{cell_in}
 use Rattle.arrays.specs.Batch.{row_of}
 use Rattle.scan_base.specs.declared.value.Value.{Value}
 use Rattle.scan_base.specs.declared.value.Value.TheVariants.{Null}
-use Rattle.first_rows.specs.declared.numbered.NumberedKey.{NumberedKey}
-use Rattle.first_rows.specs.Numbered.{coded, first_of, rest, rest_of}
+use Rattle.first_rows.specs.declared.numbered_keys.NumberedKey.{NumberedKey}
+use Rattle.first_rows.specs.NumberedKeys.{coded, first_of, rest, rest_of}
 use Rattle.first_rows.specs.Parts.{parts_self, parts_sound, same_part, same_parts}
 use Rattle.first_rows.specs.RowKeys.{key_of}
 use Rattle.first_rows.proofs.KeyCells.{decide, same_all, same_not}

@@ -11,9 +11,9 @@ use Rattle.scan_base.specs.declared.value.Value.{Value}
 use Rattle.scan_base.specs.declared.value.Value.TheVariants.{Null, Bool as Flag, Int, Text}
 use Rattle.arrays.specs.Batch.{BatchAt}
 use Rattle.coded_keys.specs.declared.numbers.SeenNumber.{SeenNumber}
-use Rattle.coded_keys.specs.Numbers.{AreNumbers, IsNumber as IsSeenNumber}
+use Rattle.coded_keys.specs.Numbers.{AreNumbers, IsSeenNumber}
 use Rattle.first_rows.specs.declared.texts.TextNumbers.{TextNumbers}
-use Rattle.first_rows.specs.Numbered.{blanked, without}
+use Rattle.first_rows.specs.NumberedKeys.{blanked, without}
 use Rattle.first_rows.specs.Numbers.{IsBehind, IsNumber, IsPairNumber, IsStep, IsWith, Stay, long_text, pair_place, text_number}
 use Rattle.first_rows.proofs.Places.{inserted, pair_one, stays, text_one}
 

@@ -7,14 +7,15 @@ use Rattle.std.specs.List.{position_or_len}
 use Rattle.indexmap.specs.IndexSet.{insert_key}
 use Rattle.scan_base.specs.declared.value.Value.{Value}
 use Rattle.scan_base.specs.declared.value.Value.TheVariants.{Int}
-use Rattle.typed_plan.specs.Grouped.{same_key}
+use Rattle.typed_plan.specs.GroupedRows.{same_key}
 use Rattle.first_rows.specs.declared.key.RowKey.{RowKey}
-use Rattle.first_rows.specs.declared.numbered.NumberedKey.{NumberedKey}
+use Rattle.first_rows.specs.declared.numbered_keys.NumberedKey.{NumberedKey}
 use Rattle.first_rows.specs.declared.texts.TextNumbers.{TextNumbers}
 use Rattle.first_rows.specs.Firsts.{AreNumbered, HasNumber, IsNumbered}
-use Rattle.first_rows.specs.Keys.{either_way, key_self, key_sound}
+use Rattle.first_rows.specs.Keys.{either_way}
+use Rattle.first_rows.proofs.Keys.{key_self, key_sound}
 use Rattle.first_rows.specs.Parts.{parts_self, parts_sound, same_parts}
-use Rattle.first_rows.specs.Numbered.{Puts, blanked, coded, first_of, rest, rest_of}
+use Rattle.first_rows.specs.NumberedKeys.{Puts, blanked, coded, first_of, rest, rest_of}
 use Rattle.first_rows.specs.Numbers.{IsNumber, Stay}
 use Rattle.first_rows.specs.RowKeys.{key_of, same_first}
 use Rattle.first_rows.proofs.Numbering.{number_one, number_only, number_stays}

@@ -4,9 +4,9 @@ use Rattle.std.specs.Borrow.{Bor}
 use Rattle.coded_keys.specs.declared.numbers.SeenNumbers.{SeenNumbers}
 use Rattle.coded_keys.specs.Numbers.{AreNumbers}
 use Rattle.first_rows.specs.declared.key.RowKey.{RowKey}
-use Rattle.first_rows.specs.declared.numbered.NumberedKey.{NumberedKey}
+use Rattle.first_rows.specs.declared.numbered_keys.NumberedKey.{NumberedKey}
 use Rattle.first_rows.specs.declared.texts.TextNumbers.{TextNumbers}
-use Rattle.first_rows.specs.Numbered.{first_of}
+use Rattle.first_rows.specs.NumberedKeys.{first_of}
 use Rattle.first_rows.specs.Numbers.{IsNumber, text_number}
 use Rattle.first_rows.specs.RowKeys.{key_of}
 

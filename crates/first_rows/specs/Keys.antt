@@ -1,16 +1,13 @@
--- Inside: keys, when two are the same, and what a hash takes of them.
-use Rattle.std.specs.Prelude.{◌≡◌, ℕ, Bool, true, false, List, [], ◌∷◌, ◌++◌, IsTrue}
-use Rattle.std.specs.Cmp.{IsEquivalence}
-use Rattle.std.specs.List.{flat_map}
+-- Inside: what a hash takes of the values of keys, and when two are the same.
+use Rattle.std.specs.Prelude.{◌≡◌, ℕ, Bool, true, false, List, ◌++◌}
 use Rattle.std.specs.Hash as fed
-use Rattle.std.proofs.Common.{refl, sym, ap, ◌∙◌}
-use Rattle.std.proofs.lemmas.Bool.{and_parts}
+use Rattle.std.proofs.Common.{refl, sym, ap}
 use Rattle.std.proofs.lemmas.Bool.Decides.{Decides-int_eq}
 use Rattle.std.proofs.lemmas.Slice.Eq.{bytes_eq-Decides}
 use Rattle.scan_base.specs.declared.value.Value.{Value}
 use Rattle.scan_base.specs.declared.value.Value.TheVariants.{Null, Bool as Flag, Int, Text}
 use Rattle.scan_base.specs.Value.{same_flag}
-use Rattle.typed_plan.specs.Grouped.{same_value, same_key}
+use Rattle.typed_plan.specs.GroupedRows.{same_value}
 
 -- what a hash takes of a value: first a byte that tells its kind
 abbrev pub value_input : Value → List (List ℕ)
@@ -41,36 +38,7 @@ value_self (Flag a) = flag_self a
 value_self (Int a) = (Decides-int_eq a a).1 refl
 value_self (Text a) = (bytes_eq-Decides a a).1 refl
 
--- keys that are the same are equal
-pub key_sound : (a b : List Value) → same_key a b ≡ true → a ≡ b
-key_sound [] [] h = refl
-key_sound (x ∷ xs) (y ∷ ys) h =
-    let parts = and_parts (same_value x y) (same_key xs ys) h in
-    ap (λ z. z ∷ xs) (value_sound x y parts.0) ∙ ap (λ zs. y ∷ zs) (key_sound xs ys parts.1)
-key_sound _ _ h = cc
-
--- a key is the same as itself
-pub key_self : (a : List Value) → same_key a a ≡ true
-key_self [] = refl
-key_self (x ∷ xs) = rw (value_self x, key_self xs) refl
-
 pub either_way : (a b : Bool) → (a ≡ true → b ≡ true) → (b ≡ true → a ≡ true) → a ≡ b
 either_way true b f g = sym (f refl)
 either_way false true f g = g refl
 either_way false false f g = refl
-
-key_turned : (a b : List Value) → same_key a b ≡ true → same_key b a ≡ true
-key_turned a b h = rw (key_sound a b h) (key_self b)
-
--- to be the same is an equivalence
-pub same_key_laws : IsEquivalence same_key
-same_key_laws = record {
-  refl = key_self;
-  symm = λ a b. either_way (same_key a b) (same_key b a) (key_turned a b) (key_turned b a);
-  congr = λ a b c h. ap (λ k. same_key k c) (key_sound a b h);
-}
-
--- a hash takes the same of keys that are the same
-pub same_input : (a b : List Value) → IsTrue (same_key a b) →
-    flat_map value_input a ≡ flat_map value_input b
-same_input a b h = ap (flat_map value_input) (key_sound a b h)

@@ -1,6 +1,6 @@
 pub mod Firsts
 pub mod Keys
-pub mod Numbered
+pub mod NumberedKeys
 pub mod Numbers
 pub mod Parts
 pub mod RowKeys

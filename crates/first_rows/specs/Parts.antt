@@ -6,7 +6,7 @@ use Rattle.std.specs.Hash as fed
 use Rattle.std.proofs.Common.{refl, ap, ◌∙◌}
 use Rattle.std.proofs.lemmas.Bool.{and_parts}
 use Rattle.scan_base.specs.declared.value.Value.{Value}
-use Rattle.typed_plan.specs.Grouped.{same_value}
+use Rattle.typed_plan.specs.GroupedRows.{same_value}
 use Rattle.first_rows.specs.Keys.{either_way, value_input, value_self, value_sound}
 
 -- what a hash takes of a part: a value, or of a long text that has a number only that it is one

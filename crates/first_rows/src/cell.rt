@@ -4,9 +4,9 @@
 ghost use Rattle.std.specs.Prelude.{◌≡◌, option_map};
 ghost use Rattle.std.specs.List.{fold};
 ghost use Rattle.scan_base.specs.Value.{value_of};
-ghost use Rattle.typed_plan.specs.Grouped.{same_value};
+ghost use Rattle.typed_plan.specs.GroupedRows.{same_value};
 ghost use Rattle.first_rows.specs.Keys.{value_input};
-ghost use Rattle.first_rows.specs.Numbered.{rest, texts_input};
+ghost use Rattle.first_rows.specs.NumberedKeys.{rest, texts_input};
 ghost use Rattle.first_rows.specs.Numbers.{long_text};
 ghost use Rattle.first_rows.specs.Parts.{part_input, same_part};
 

@@ -4,16 +4,16 @@ ghost use Rattle.std.specs.Prelude.{◌≡◌, ◌<◌, [], IfOk, OnOk, get_or, 
 ghost use Rattle.std.specs.List.{position_or_len};
 ghost use Rattle.indexmap.specs.IndexSet.{insert_key};
 ghost use Rattle.first_rows.specs.Firsts.{HasNumber, FitSeen};
-ghost use Rattle.first_rows.specs.Numbered.{Puts};
+ghost use Rattle.first_rows.specs.NumberedKeys.{Puts};
 ghost use Rattle.first_rows.specs.Numbers.{AreSeen, Stay};
 ghost use Rattle.first_rows.specs.RowKeys.{same_first};
 
 use crate::key::RowKey;
-use crate::numbered::NumberedKey;
+use crate::numbered_keys::NumberedKey;
 use crate::texts::TextNumbers;
 use coded_keys::SeenNumbers;
-use hash_seed::HashSeed;
 use indexmap::IndexSet;
+use scan_base::HashSeed;
 use std::alloc::{AllocError, Global};
 use std::marker::Model;
 
@@ -61,7 +61,7 @@ fn put<'t>(
 impl<'t> Model for FirstRows<'t> {
     ghost use Rattle.std.specs.Prelude.{map};
     ghost use Rattle.first_rows.specs.Firsts.{AreNumbered, FirstRowsAt};
-    ghost use Rattle.first_rows.specs.Numbered.{first_of};
+    ghost use Rattle.first_rows.specs.NumberedKeys.{first_of};
 
     ghost Value = { FirstRowsAt };
 

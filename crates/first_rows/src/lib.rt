@@ -5,7 +5,7 @@
 mod cell;
 pub mod firsts;
 pub mod key;
-mod numbered;
+mod numbered_keys;
 mod texts;
 
 pub use crate::firsts::FirstRows;

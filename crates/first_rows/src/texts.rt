@@ -9,8 +9,8 @@ ghost use Rattle.coded_keys.specs.Numbers.{value_in};
 use crate::cell::long_text;
 use crate::key::RowKey;
 use coded_keys::{KeyPart, SeenNumbers};
-use hash_seed::HashSeed;
 use indexmap::IndexSet;
+use scan_base::HashSeed;
 use std::alloc::{AllocError, Global};
 
 /// Texts, the place of each is its number; and pairs of the number of earlier texts of a key, and

@@ -8,7 +8,7 @@ use Rattle.flatbuf.specs.Place.{TableAt, VectorAt, number_at, target_of, field_o
 use Rattle.flatbuf.specs.Layout.{Stands}
 use Rattle.flatbuf.specs.Block.{Part, Offset, AreWhole, little, numbers, padding, fields, children, items_part, tables_from, tables_part, buffer_of}
 use Rattle.flatbuf.specs.Fits.{FitsTables}
-use Rattle.flatbuf.specs.Written.{table_at, LeadsToBlock, ElementIs, ChildReadsBack, TextReadsBack, StructsReadBack, TablesReadBack, BufferReadsBack}
+use Rattle.flatbuf.specs.WrittenTables.{table_at, LeadsToBlock, ElementIs, ChildReadsBack, TextReadsBack, StructsReadBack, TablesReadBack, BufferReadsBack}
 use Rattle.flatbuf.proofs.Standing.{stands_first, stands_then, stands_at, stands_whole, stands_number, stands_low, stands_bytes, length-little, tables_from_whole}
 use Rattle.flatbuf.proofs.Written.{FieldsHold, fields_hold, length-numbers, length-fields, stands_head, stands_tail}
 use Rattle.flatbuf.proofs.Lengths.{length-tables}
@@ -27,21 +27,6 @@ absent_scalar t slot width default e = rw e refl
 pub absent_table : (t : TableAt) (slot : ℕ) → field_of t slot ≡ Ok None → table_of t slot ≡ Ok None
 unfolding table_of
 absent_table t slot e = rw e refl
-
--- and to no vector of tables
-pub absent_vector : (t : TableAt) (slot : ℕ) → field_of t slot ≡ Ok None → vector_of t slot ≡ Ok None
-unfolding vector_of
-absent_vector t slot e = rw e refl
-
--- and to no text
-pub absent_text : (t : TableAt) (slot : ℕ) → field_of t slot ≡ Ok None → text_of t slot ≡ Ok None
-unfolding text_of
-absent_text t slot e = rw e refl
-
--- and to no structs
-pub absent_structs : (t : TableAt) (slot width : ℕ) → field_of t slot ≡ Ok None → structs_of width t slot ≡ Ok None
-unfolding structs_of
-absent_structs t slot width e = rw e refl
 
 -- the count and the items of a block stand 4 and 8 bytes after its first
 items_stand : (count : ℕ) (items bytes : List ℕ) (at : ℕ) → Stands (items_part count items).bytes bytes at →

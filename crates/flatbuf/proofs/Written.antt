@@ -7,7 +7,7 @@ use Rattle.flatbuf.specs.Place.{TableAt, number_at, target_of, vtable_of, field_
 use Rattle.flatbuf.specs.Layout.{Stands}
 use Rattle.flatbuf.specs.Block.{Given, Absent, Number, Offset, given_at, AreWhole, little, numbers, padding, entries, fields, children, vtable, table_part}
 use Rattle.flatbuf.specs.Fits.{FitsTable}
-use Rattle.flatbuf.specs.Written.{table_at, LeadsToBlock, SlotReads, TableReadsBack, VtableReadsBack, TableIsAligned}
+use Rattle.flatbuf.specs.WrittenTables.{table_at, LeadsToBlock, SlotReads, TableReadsBack, VtableReadsBack, TableIsAligned}
 use Rattle.flatbuf.proofs.Standing.{stands_first, stands_then, stands_at, stands_number, stands_low, stands_target, length-little, length_padded}
 
 pub length-numbers : (width : ℕ) (ns : List ℕ) → length (numbers width ns) ≡ width * length ns

@@ -1,5 +1,4 @@
--- The FlatBuffers binary format in its own words: what lies where in a buffer, with no reading in
--- it. Every place is counted from the buffer's first byte.
+-- The FlatBuffers binary format: what lies where in a buffer, counted from its first byte.
 use Rattle.std.specs.Prelude.{◌≡◌, ◌≢◌, ◌≤◌, ◌<◌, ◌⊎◌, ℕ, ◌+◌, ◌*◌, pos, ◌-ℤ◌, ◌++◌, List, length}
 use Rattle.std.specs.Prelude.{Option, Some, None}
 use Rattle.std.specs.Int.{w32, cast_signed}
@@ -7,7 +6,7 @@ use Rattle.std.specs.List.{All}
 use Rattle.std.specs.Str.{IsUtf8}
 use Rattle.byteorder.specs.Endian.{little_number}
 
--- this part of the buffer lies at this place, counted from the buffer's first byte
+-- this part of the buffer lies at this place
 pub record Stands (part bytes : List ℕ) (at : ℕ) : Type 0 where
   pub before : List ℕ
   pub after : List ℕ
@@ -47,16 +46,14 @@ pub record HasRoot (bytes : List ℕ) (table : TableAt) : Type 0 where
   pub same : table.bytes ≡ bytes
   pub offset : HasOffset bytes 0 table.at
 
--- a table begins with a signed number of four bytes, and its vtable lies at the table's place minus
--- that
+-- a table begins with a signed number of four bytes: its vtable lies that far before the table
 pub record HasVtable (table : TableAt) (vtable : ℕ) : Type 0 where
   pub back : ℕ
   pub stored : HasNumber 4 table.bytes table.at back
   pub place : pos vtable ≡ pos table.at -ℤ cast_signed w32 back
 
--- A vtable begins with its own size and its table's size, and an entry for each slot follows, each
--- a number of two bytes. A slot whose entry does not lie within the vtable's size counts as an
--- entry of 0.
+-- A vtable begins with its own size and its table's size. An entry of two bytes for each slot
+-- follows. A slot whose entry does not lie within the vtable's size counts as an entry of 0.
 pub record HasEntry (bytes : List ℕ) (vtable slot entry : ℕ) : Type 0 where
   pub size : ℕ
   pub sized : HasNumber 2 bytes vtable size

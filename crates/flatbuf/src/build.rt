@@ -11,7 +11,7 @@ ghost use Rattle.std.specs.Prelude.{length, map, OnOk, IfOk, Ok};
 ghost use Rattle.flatbuf.specs.Block.{Offset, little, numbers, padding, padded, entries, fields};
 ghost use Rattle.flatbuf.specs.Block.{children, table_part, items_part, text_part, structs_part};
 ghost use Rattle.flatbuf.specs.Block.{tables_part, tables_from, buffer_of};
-ghost use Rattle.flatbuf.specs.Given.{given_of};
+ghost use Rattle.flatbuf.specs.GivenSlots.{given_of};
 ghost use Rattle.flatbuf.specs.Fits.{FitsTable, FitsTables, FitsStructs};
 
 use std::alloc::{AllocError, Global};

@@ -2,9 +2,9 @@
 //! contract is a law, of every block that a [`Builder`](crate::Builder) writes, wherever it stands
 //! in a buffer.
 
-ghost use Rattle.flatbuf.specs.Written.{TableReadsBack, VtableReadsBack, TableIsAligned};
-ghost use Rattle.flatbuf.specs.Written.{ChildReadsBack, TextReadsBack, StructsReadBack};
-ghost use Rattle.flatbuf.specs.Written.{TablesReadBack, BufferReadsBack};
+ghost use Rattle.flatbuf.specs.WrittenTables.{TableReadsBack, VtableReadsBack, TableIsAligned};
+ghost use Rattle.flatbuf.specs.WrittenTables.{ChildReadsBack, TextReadsBack, StructsReadBack};
+ghost use Rattle.flatbuf.specs.WrittenTables.{TablesReadBack, BufferReadsBack};
 ghost use Rattle.flatbuf.specs.Lengths.{TableIsWhole, TableIsShort, TextIsWhole, TextIsShort};
 ghost use Rattle.flatbuf.specs.Lengths.{StructsAreWhole, StructsAreShort};
 ghost use Rattle.flatbuf.specs.Lengths.{TablesAreWhole, TablesAreShort};

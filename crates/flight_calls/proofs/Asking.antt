@@ -7,7 +7,7 @@ use Rattle.scan_base.specs.declared.fault.Fault.TheVariants.{BadProto, LimitReac
 use Rattle.scan_base.specs.Limits.{most_request_bytes}
 use Rattle.scan_base.specs.Reading.{◌>>=◌}
 use Rattle.flight_proto.specs.Expiry.{expiry_of}
-use Rattle.flight_proto.specs.Wanted.{Wanted, wanted_in}
+use Rattle.flight_proto.specs.InfoCommand.{InfoCommand, wanted_in}
 use Rattle.flight_core.specs.Asked.{put, info, schema}
 use Rattle.flight_core.proofs.Expiring.{number_unread, unread_expiry}
 use Rattle.flight_info.specs.Replies.{refusal}
@@ -48,13 +48,13 @@ too_long message long = rw (lt-leb (length message) most_request_bytes long) ref
 info_too_long : (log : Log) (message : Payload) (parts : ℕ) → most_request_bytes < length message → StepOn log (info message parts) (refusal LimitReached) log
 info_too_long log message parts long = (
   refl,
-  subst (λ (w : Result Wanted Fault). InfoAt (database_of log) (puts_in log) message parts (w >>= only_rows >>= short_enough) [] (Some LimitReached)) (sym (too_long message long)) (refl, refl),
+  subst (λ (w : Result InfoCommand Fault). InfoAt (database_of log) (puts_in log) message parts (w >>= only_rows >>= short_enough) [] (Some LimitReached)) (sym (too_long message long)) (refl, refl),
 )
 
 schema_too_long : (log : Log) (message : Payload) → most_request_bytes < length message → StepOn log (schema message) (refusal LimitReached) log
 schema_too_long log message long = (
   refl,
-  subst (λ (w : Result Wanted Fault). SchemaAt (database_of log) (w >>= short_enough) [] (Some LimitReached)) (sym (too_long message long)) (refl, refl),
+  subst (λ (w : Result InfoCommand Fault). SchemaAt (database_of log) (w >>= short_enough) [] (Some LimitReached)) (sym (too_long message long)) (refl, refl),
 )
 
 -- so nothing looks for it

@@ -3,7 +3,7 @@ use Rattle.std.proofs.Common.{◌≡◌, ℕ, zero, suc, List, [], ◌∷◌, So
 use Rattle.std.specs.List.{slice_get}
 use Rattle.scan_base.specs.declared.fault.Fault.{Fault}
 use Rattle.endpoint_split.specs.Handle.{HandleAt}
-use Rattle.ipc_batch.specs.Said.{Rows}
+use Rattle.ipc_batch.specs.SaidRows.{Rows}
 use Rattle.flight_info.proofs.Results.{same_some}
 use Rattle.flight_info.specs.Replies.{ReplyAt, whole}
 use Rattle.flight_core.specs.Asked.{Asked, put, info, tables, schema, fetch, expire}

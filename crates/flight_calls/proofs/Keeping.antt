@@ -9,7 +9,7 @@ use Rattle.scan_base.specs.declared.fault.Fault.{Fault}
 use Rattle.flight_proto.specs.Action.{ActionSaid, action_of, action_bytes}
 use Rattle.flight_proto.specs.Expiry.{expire_name, expiry_of, expiry_bytes, floor_bytes}
 use Rattle.flight_proto.specs.Laws.{IsAction, IsText}
-use Rattle.flight_proto.specs.Wanted.{Wanted, wanted_in, rows_of, tables as list}
+use Rattle.flight_proto.specs.InfoCommand.{InfoCommand, wanted_in, rows_of, tables as list}
 use Rattle.flight_proto.proofs.ReadsBack.{action_back}
 use Rattle.flight_info.specs.Payloads.{Payload}
 use Rattle.flight_info.specs.Replies.{ReplyAt, refusal, whole}
@@ -25,7 +25,7 @@ use Rattle.flight_calls.specs.Calls.{asked_with, info_asked}
 use Rattle.flight_core.specs.Seats.{Seat, Moves, Expires}
 use Rattle.flight_core.specs.Reacts.{Reacts}
 use Rattle.flight_calls.specs.Responds.{Responds, RespondsBy, oldest_kept, expired_behind, AsksItself}
-use Rattle.flight_core.specs.Answered.{AnsweredBy, HasVersion, IsReplyOf, fault_in, ReactsBy}
+use Rattle.flight_core.specs.StepAnswer.{AnsweredBy, HasVersion, IsReplyOf, fault_in, ReactsBy}
 use Rattle.flight_core.proofs.Reacting.{reacted, expiry_made, expiry_refused}
 use Rattle.flight_core.proofs.Running.{begins_itself}
 
@@ -98,7 +98,7 @@ pub all_kept : (moves : Moves) (keep : ℕ) (asked : Result Asked Fault) (old ne
 all_kept moves keep asked old new answer r none = record { middle = new; reacts = r; keeps = rw none refl }
 
 -- a call of one message is no put
-info_no_put : (keep parts : ℕ) (wanted : Result Wanted Fault) (payload : Payload) (fault : Option Fault) (after : Log) → expired_behind keep (Ok (info_asked wanted payload parts)) fault after ≡ 0
+info_no_put : (keep parts : ℕ) (wanted : Result InfoCommand Fault) (payload : Payload) (fault : Option Fault) (after : Log) → expired_behind keep (Ok (info_asked wanted payload parts)) fault after ≡ 0
 info_no_put keep parts (Ok (rows_of text)) payload fault after = refl
 info_no_put keep parts (Ok list) payload fault after = refl
 info_no_put keep parts (Err cause) payload fault after = refl

@@ -5,7 +5,6 @@ pub mod Pieces
 pub mod Streaming
 pub mod Fetching
 pub mod Reacting
-pub mod Flushing
 pub mod Serving
 pub mod Telling
 pub mod New

@@ -8,7 +8,7 @@ use Rattle.flight_core.specs.Asked.{Asked, put, info, tables, schema, fetch, exp
 use Rattle.version_log.specs.Log.{Log}
 use Rattle.flight_core.specs.Machine.{PutStep, ExpireStep}
 use Rattle.flight_proto.specs.Expiry.{expiry_of}
-use Rattle.flight_core.specs.Placed.{log_in}
+use Rattle.flight_core.specs.PlacedEntries.{log_in}
 use Rattle.flight_core.specs.Puts.{put_said}
 use Rattle.flight_core.specs.Machine.{ReplyTo}
 use Rattle.flight_calls.specs.Exchanges.{Exchange}

@@ -6,7 +6,7 @@ use Rattle.grpc_frame.specs.Ends.{AppendsBeginning}
 use Rattle.flight_calls.specs.declared.setting.Options.{Options}
 use Rattle.flight_calls.specs.Laws.{IsNew, IsWhole}
 use Rattle.flight_core.specs.Seats.{Moves}
-use Rattle.flight_calls.specs.Owed.{Connection, Serves, Why, Wrote, calls_bytes, items_owed}
+use Rattle.flight_calls.specs.OwedAnswers.{Connection, Serves, Why, Wrote, calls_bytes, items_owed}
 use Rattle.flight_calls.proofs.Serving.{joined, joined_more}
 
 -- all that an output holds is a beginning of these items

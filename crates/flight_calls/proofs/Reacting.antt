@@ -4,7 +4,7 @@ use Rattle.scan_base.specs.declared.fault.Fault.{Fault}
 use Rattle.flight_info.specs.Payloads.{Payload}
 use Rattle.flight_info.specs.Replies.{refusal}
 use Rattle.flight_core.specs.declared.answer.Answer.TheVariants.{Whole}
-use Rattle.flight_core.specs.Answered.{ReactsBy}
+use Rattle.flight_core.specs.StepAnswer.{ReactsBy}
 use Rattle.flight_core.specs.Seats.{Seat, Moves}
 use Rattle.flight_core.proofs.Reacting.{reacts_unseen}
 use Rattle.flight_calls.specs.declared.request.Single.{Single}

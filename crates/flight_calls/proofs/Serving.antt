@@ -12,7 +12,8 @@ use Rattle.grpc_frame.specs.declared.place.Place.{Place}
 use Rattle.grpc_frame.specs.declared.place.Place.TheVariants.{BetweenCalls}
 use Rattle.grpc_frame.specs.Records.{spelling, IsRecord, Received, with_more, broken, Flaw, fault_of, wrong_kind, long_path, wrong_flag, long_message, bad_text}
 use Rattle.grpc_frame.specs.Arrivals.{IsSound}
-use Rattle.grpc_frame.specs.Ends.{Advances, AppendsBeginning}
+use Rattle.grpc_frame.specs.Ends.{Advances, AppendsBeginning, Tape}
+use Rattle.grpc_frame.specs.Outgoing.{Outgoing}
 use Rattle.grpc_frame.proofs.Coming.{none_sound}
 use Rattle.grpc_frame.proofs.Tapes.{Advances-nil, Advances-trans}
 use Rattle.flight_info.specs.Replies.{ReplyAt}
@@ -23,7 +24,7 @@ use Rattle.flight_calls.specs.declared.request.Request.{Request}
 use Rattle.flight_calls.specs.Calls.{Call, call_records, asked_by}
 use Rattle.flight_core.specs.Seats.{Seat, Moves}
 use Rattle.flight_calls.specs.Responds.{Responds, Answers}
-use Rattle.flight_calls.specs.Owed.{calls_bytes, answer_bytes, EndsIn, EndsInside, behind_calls, IsCause, last_status, Connection, items_owed, Wrote, Why, Serves, Fails}
+use Rattle.flight_calls.specs.OwedAnswers.{calls_bytes, answer_bytes, EndsIn, EndsInside, behind_calls, connection_of, IsCause, last_status, Connection, items_owed, Wrote, Why, Serves, Fails}
 use Rattle.flight_calls.specs.Ending.{RefusesBy}
 use Rattle.flight_calls.specs.Reading.{IsSoundAt, Stops, CallArrives}
 use Rattle.flight_calls.proofs.Taking.{passed_none}
@@ -255,3 +256,10 @@ pub refused_first : (moves : Moves) (options : Options) (old new : Connection) (
 refused_first moves options old new fault result reads writes writes' same input memory refuses before before' after after' =
     ended_by moves options old old (behind_calls []) (started moves options old (behind_calls []) refl) new (behind_calls []) fault result reads writes reads writes'
     ([], rw input (Advances-nil old.input), inr (inl (memory, (none_sound (behind_calls []) refl, ([], passed_none (behind_calls []), none_sound (behind_calls []) refl))))) ((λ e. let both : OutOfMemory ≡ Transport = sym memory ∙ e in absurd cc), λ _. refl) refuses same before before' after after'
+
+-- the same over a sender, whose writer's output and failures these are
+pub serves_by : (moves : Moves) (options : Options) (result : Result (Unit {0}) Fault) (input input' : Tape) (reads reads' : ℕ) (seat seat' : Seat) (a b : Outgoing)
+    (output output' : Option (List ℕ)) (writes writes' : ℕ) → Serves moves options result (connection_of input a.held reads a.failures seat) (connection_of input' b.held reads' b.failures seat')
+    → a.held ≡ output → b.held ≡ output' → a.failures ≡ writes → b.failures ≡ writes'
+    → Serves moves options result (connection_of input output reads writes seat) (connection_of input' output' reads' writes' seat')
+serves_by moves options result input input' reads reads' seat seat' a b output output' writes writes' serves begins ends before after = rw (← begins, ← ends, ← before, ← after) serves

@@ -17,7 +17,7 @@ use Rattle.grpc_frame.proofs.Coming.{led_sound}
 use Rattle.grpc_frame.proofs.Splitting.{place_after_all-append}
 use Rattle.grpc_frame.proofs.Tapes.{Advances-nil, Advances-trans}
 use Rattle.flight_info.specs.Payloads.{Payload}
-use Rattle.flight_calls.specs.Owed.{EndsIn, EndsInside}
+use Rattle.flight_calls.specs.OwedAnswers.{EndsIn, EndsInside}
 use Rattle.flight_calls.specs.Requests.{Holds}
 use Rattle.flight_calls.specs.Reading.{Fronts, Passed, IsSoundAt, Stops, RequestArrives, CallArrives}
 use Rattle.flight_calls.specs.declared.call.Arrival.TheVariants as arrival
@@ -227,12 +227,6 @@ first_cut a b old new between some q = (
         received bytes place = record { bytes = bytes; place = place }
 
 module _ (a b c : Tape) (old mid new : Received) (path : List ℕ) (between : old.place ≡ BetweenCalls) (p : Since a b old mid (Ok (Some (Open path)))) where
-  pub call_is_open : mid.place ≡ InsideCall
-  call_is_open = by mid.place (rw between at p.arrives.moves)
-    where
-      by : (next : Place) → place_after BetweenCalls (Open path) ≡ Some next → next ≡ InsideCall
-      by next e = cc
-
   abbrev together : List ℕ → List ℕ
   together more = p.came ++ more
 

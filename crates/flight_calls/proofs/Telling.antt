@@ -5,7 +5,7 @@ use Rattle.scan_base.specs.declared.fault.Fault.TheVariants.{Transport}
 use Rattle.flight_info.specs.Replies.{ReplyAt}
 use Rattle.flight_calls.specs.declared.setting.Options.{Options}
 use Rattle.flight_core.specs.Seats.{Moves}
-use Rattle.flight_calls.specs.Owed.{Connection, Serves, Why, Wrote, items_owed, answer_bytes}
+use Rattle.flight_calls.specs.OwedAnswers.{Connection, Serves, Why, Wrote, items_owed, answer_bytes}
 use Rattle.flight_calls.specs.Laws.{ReadFailed}
 
 -- it is counted, so nothing that counts none tells it

@@ -1,15 +1,16 @@
 -- An answer as it is written.
-use Rattle.std.proofs.Common.{◌≡◌, ℕ, ◌+◌, ◌<◌, ◌≤◌, List, [], ◌∷◌, ◌++◌, length, map, take, drop, get_or, Option, sym, ap, subst, ◌∙◌, append_assoc, append-nil}
+use Rattle.std.proofs.Common.{◌≡◌, ℕ, ◌+◌, ◌<◌, ◌≤◌, List, [], ◌∷◌, ◌++◌, length, map, take, drop, get_or, sym, ap, subst, ◌∙◌, append_assoc, append-nil}
 use Rattle.std.specs.List.{flat_map}
 use Rattle.std.specs.Prelude.{Result}
 use Rattle.std.proofs.lemmas.Grind.{flat_map-append}
 use Rattle.std.proofs.lemmas.List.{map-append, take-append-drop, take_more, drop_more}
 use Rattle.std.proofs.lemmas.List.Elements.{All-get_or}
+use Rattle.scan_base.specs.declared.fault.Fault.{Fault}
 use Rattle.grpc_frame.specs.declared.record.Record.{Record}
 use Rattle.grpc_frame.specs.declared.record.Record.TheVariants.{Message}
 use Rattle.grpc_frame.specs.Records.{spelling}
-use Rattle.grpc_frame.specs.Sending.{Sent, NotSent, Sends}
-use Rattle.grpc_frame.proofs.Sending.{gathered, head_not_sent, both_sent, second_not_sent, sent_behind}
+use Rattle.grpc_frame.specs.Outgoing.{IsBroken, IsSent, Outgoing, SendsAll}
+use Rattle.grpc_frame.proofs.Outgoing.{head_broken, sent_then, broken_then, sends_then}
 use Rattle.flight_info.specs.Payloads.{Payload, FitMessages}
 
 -- the bytes of messages, and of an answer
@@ -51,31 +52,27 @@ cut_at payloads status i payload inside is =
           ∙ flat_map-append spelling front (back ++ status ∷ []);
     }
 
--- nothing was sent yet
-pub none_sent : (a : Option (List ℕ)) (before : List ℕ) → Sent a a before before []
-none_sent a before = gathered a before before [] (sym (append-nil before))
-
 -- one message more was sent
-pub message_sent : (a b c : Option (List ℕ)) (before mid after : List ℕ) (payloads : List Payload) (i : ℕ) (payload : Payload) → i < length payloads → payload ≡ get_or payloads i payload
-    → Sent a b before mid (messages_bytes (take i payloads)) → Sent b c mid after (spelling (Message payload)) → Sent a c before after (messages_bytes (take (i + 1) payloads))
-message_sent a b c before mid after payloads i payload inside is sent more =
-    subst (Sent a c before after) (sym bytes) (both_sent a b c before mid after (messages_bytes (take i payloads)) (spelling (Message payload)) sent more)
+pub message_sent : (a b c : Outgoing) (payloads : List Payload) (i : ℕ) (payload : Payload) → i < length payloads → payload ≡ get_or payloads i payload
+    → IsSent a b (messages_bytes (take i payloads)) → IsSent b c (spelling (Message payload)) → IsSent a c (messages_bytes (take (i + 1) payloads))
+message_sent a b c payloads i payload inside is sent more =
+    subst (IsSent a c) (sym bytes) (sent_then a b c (messages_bytes (take i payloads)) (spelling (Message payload)) sent more)
   where
     bytes : messages_bytes (take (i + 1) payloads) ≡ messages_bytes (take i payloads) ++ spelling (Message payload)
     bytes = ap messages_bytes (take_more payloads i payload inside ∙ ap (λ (p : Payload). take i payloads ++ p ∷ []) (sym is)) ∙ bytes_more (take i payloads) payload
 
 -- or not
-pub message_not_sent : (a b c : Option (List ℕ)) (before mid after : List ℕ) (payloads : List Payload) (status : Record) (i : ℕ) (payload : Payload) → i < length payloads → payload ≡ get_or payloads i payload
-    → Sent a b before mid (messages_bytes (take i payloads)) → NotSent b c mid after (spelling (Message payload)) → NotSent a c before after (answer_bytes payloads status)
-message_not_sent a b c before mid after payloads status i payload inside is sent failed =
+pub message_not_sent : (a b c : Outgoing) (payloads : List Payload) (status : Record) (i : ℕ) (payload : Payload) → i < length payloads → payload ≡ get_or payloads i payload
+    → IsSent a b (messages_bytes (take i payloads)) → IsBroken b c (spelling (Message payload)) → IsBroken a c (answer_bytes payloads status)
+message_not_sent a b c payloads status i payload inside is sent failed =
     let at = cut_at payloads status i payload inside is in
-    rw at.whole (second_not_sent a b c before mid after (messages_bytes (take i payloads)) (spelling (Message payload) ++ at.rest) sent (head_not_sent b c mid after (spelling (Message payload)) at.rest failed))
+    rw at.whole (broken_then a b c (messages_bytes (take i payloads)) (spelling (Message payload) ++ at.rest) sent (head_broken b c (spelling (Message payload)) at.rest failed))
 
 -- the status was sent, or not
-pub status_sent : {A E : Type 0} (r : Result A E) (a b c : Option (List ℕ)) (before mid after : List ℕ) (payloads : List Payload) (status : Record)
-    → Sent a b before mid (messages_bytes payloads) → Sends r b c mid after (spelling status) → Sends r a c before after (answer_bytes payloads status)
-status_sent r a b c before mid after payloads status sent last =
-    rw (status_last payloads status) (sent_behind r a b c before mid after (messages_bytes payloads) (spelling status) sent last)
+pub status_sent : {A : Type 0} (r : Result A Fault) (a b c : Outgoing) (payloads : List Payload) (status : Record)
+    → IsSent a b (messages_bytes payloads) → SendsAll r b c (spelling status) → SendsAll r a c (answer_bytes payloads status)
+status_sent r a b c payloads status sent last =
+    rw (status_last payloads status) (sends_then r a b c (messages_bytes payloads) (spelling status) sent last)
 
 -- each payload fits
 pub each_fits : (payloads : List Payload) (i : ℕ) (payload : Payload) → i < length payloads → payload ≡ get_or payloads i payload → FitMessages payloads → length payload ≤ 16777216
@@ -85,14 +82,14 @@ each_fits payloads i payload inside is fits =
 
 -- ---- one message, and the status
 
-pub one_sent : {A E : Type 0} (r : Result A E) (a b c : Option (List ℕ)) (before mid after : List ℕ) (payload : Payload) (status : Record)
-    → Sent a b before mid (spelling (Message payload)) → Sends r b c mid after (spelling status) → Sends r a c before after (answer_bytes (payload ∷ []) status)
-one_sent r a b c before mid after payload status sent last =
-    status_sent r a b c before mid after (payload ∷ []) status (subst (Sent a b before mid) (sym (append-nil (spelling (Message payload)))) sent) last
+pub one_sent : {A : Type 0} (r : Result A Fault) (a b c : Outgoing) (payload : Payload) (status : Record)
+    → IsSent a b (spelling (Message payload)) → SendsAll r b c (spelling status) → SendsAll r a c (answer_bytes (payload ∷ []) status)
+one_sent r a b c payload status sent last =
+    status_sent r a b c (payload ∷ []) status (subst (IsSent a b) (sym (append-nil (spelling (Message payload)))) sent) last
 
-pub one_not_sent : (a b : Option (List ℕ)) (before after : List ℕ) (payload : Payload) (status : Record)
-    → NotSent a b before after (spelling (Message payload)) → NotSent a b before after (answer_bytes (payload ∷ []) status)
-one_not_sent a b before after payload status failed = head_not_sent a b before after (spelling (Message payload)) (spelling status ++ []) failed
+pub one_not_sent : (a b : Outgoing) (payload : Payload) (status : Record)
+    → IsBroken a b (spelling (Message payload)) → IsBroken a b (answer_bytes (payload ∷ []) status)
+one_not_sent a b payload status failed = head_broken a b (spelling (Message payload)) (spelling status ++ []) failed
 
 -- ---- parcels
 
@@ -112,41 +109,41 @@ cut_parcel parcel i payload inside is =
     }
 
 -- one of them was not sent
-pub parcel_stopped : (a b c : Option (List ℕ)) (before mid after : List ℕ) (parcel : List Payload) (i : ℕ) (payload : Payload) → i < length parcel → payload ≡ get_or parcel i payload
-    → Sent a b before mid (messages_bytes (take i parcel)) → NotSent b c mid after (spelling (Message payload)) → NotSent a c before after (messages_bytes parcel)
-parcel_stopped a b c before mid after parcel i payload inside is sent failed =
+pub parcel_stopped : (a b c : Outgoing) (parcel : List Payload) (i : ℕ) (payload : Payload) → i < length parcel → payload ≡ get_or parcel i payload
+    → IsSent a b (messages_bytes (take i parcel)) → IsBroken b c (spelling (Message payload)) → IsBroken a c (messages_bytes parcel)
+parcel_stopped a b c parcel i payload inside is sent failed =
     let at = cut_parcel parcel i payload inside is in
-    rw at.whole (second_not_sent a b c before mid after (messages_bytes (take i parcel)) (spelling (Message payload) ++ at.rest) sent (head_not_sent b c mid after (spelling (Message payload)) at.rest failed))
+    rw at.whole (broken_then a b c (messages_bytes (take i parcel)) (spelling (Message payload) ++ at.rest) sent (head_broken b c (spelling (Message payload)) at.rest failed))
 
 bytes_all : (payloads parcel : List Payload) → messages_bytes (payloads ++ parcel) ≡ messages_bytes payloads ++ messages_bytes parcel
 bytes_all payloads parcel = ap (flat_map spelling) (map-append Message payloads parcel) ∙ flat_map-append spelling (map Message payloads) (map Message parcel)
 
 -- one parcel more was sent
-pub parcel_sent : (a b c : Option (List ℕ)) (before mid after : List ℕ) (payloads parcel : List Payload)
-    → Sent a b before mid (messages_bytes payloads) → Sent b c mid after (messages_bytes parcel) → Sent a c before after (messages_bytes (payloads ++ parcel))
-parcel_sent a b c before mid after payloads parcel sent more =
-    subst (Sent a c before after) (sym (bytes_all payloads parcel)) (both_sent a b c before mid after (messages_bytes payloads) (messages_bytes parcel) sent more)
+pub parcel_sent : (a b c : Outgoing) (payloads parcel : List Payload)
+    → IsSent a b (messages_bytes payloads) → IsSent b c (messages_bytes parcel) → IsSent a c (messages_bytes (payloads ++ parcel))
+parcel_sent a b c payloads parcel sent more =
+    subst (IsSent a c) (sym (bytes_all payloads parcel)) (sent_then a b c (messages_bytes payloads) (messages_bytes parcel) sent more)
 
 -- or not
-pub parcel_not_sent : (a b c : Option (List ℕ)) (before mid after : List ℕ) (payloads parcel : List Payload) (status : Record)
-    → Sent a b before mid (messages_bytes payloads) → NotSent b c mid after (messages_bytes parcel) → NotSent a c before after (answer_bytes (payloads ++ parcel) status)
-parcel_not_sent a b c before mid after payloads parcel status sent failed =
+pub parcel_not_sent : (a b c : Outgoing) (payloads parcel : List Payload) (status : Record)
+    → IsSent a b (messages_bytes payloads) → IsBroken b c (messages_bytes parcel) → IsBroken a c (answer_bytes (payloads ++ parcel) status)
+parcel_not_sent a b c payloads parcel status sent failed =
     rw (status_last (payloads ++ parcel) status, bytes_all payloads parcel, append_assoc (messages_bytes payloads) (messages_bytes parcel) (spelling status))
-    (second_not_sent a b c before mid after (messages_bytes payloads) (messages_bytes parcel ++ spelling status) sent (head_not_sent b c mid after (messages_bytes parcel) (spelling status) failed))
+    (broken_then a b c (messages_bytes payloads) (messages_bytes parcel ++ spelling status) sent (head_broken b c (messages_bytes parcel) (spelling status) failed))
 
 -- ---- a stream
 
 -- nothing more was sent
-pub nothing_sent : (a b c : Option (List ℕ)) (before mid after : List ℕ) (payloads : List Payload)
-    → Sent a b before mid (messages_bytes payloads) → Sent b c mid after [] → Sent a c before after (messages_bytes payloads)
-nothing_sent a b c before mid after payloads sent none =
-    subst (Sent a c before after) (append-nil (messages_bytes payloads)) (both_sent a b c before mid after (messages_bytes payloads) [] sent none)
+pub nothing_sent : (a b c : Outgoing) (payloads : List Payload)
+    → IsSent a b (messages_bytes payloads) → IsSent b c [] → IsSent a c (messages_bytes payloads)
+nothing_sent a b c payloads sent none =
+    subst (IsSent a c) (append-nil (messages_bytes payloads)) (sent_then a b c (messages_bytes payloads) [] sent none)
 
 -- or it could not be
-pub nothing_not_sent : (a b c : Option (List ℕ)) (before mid after : List ℕ) (payloads : List Payload) (status : Record)
-    → Sent a b before mid (messages_bytes payloads) → NotSent b c mid after [] → NotSent a c before after (answer_bytes payloads status)
-nothing_not_sent a b c before mid after payloads status sent failed =
-    rw (status_last payloads status) (second_not_sent a b c before mid after (messages_bytes payloads) (spelling status) sent (head_not_sent b c mid after [] (spelling status) failed))
+pub nothing_not_sent : (a b c : Outgoing) (payloads : List Payload) (status : Record)
+    → IsSent a b (messages_bytes payloads) → IsBroken b c [] → IsBroken a c (answer_bytes payloads status)
+nothing_not_sent a b c payloads status sent failed =
+    rw (status_last payloads status) (broken_then a b c (messages_bytes payloads) (spelling status) sent (head_broken b c [] (spelling status) failed))
 
 -- the rest of an answer after these payloads
 rest_behind : (payloads more : List Payload) (status : Record) → answer_bytes (payloads ++ more) status ≡ messages_bytes payloads ++ answer_bytes more status
@@ -156,7 +153,7 @@ rest_behind payloads more status =
     ∙ flat_map-append spelling (map Message payloads) (map Message more ++ status ∷ [])
 
 -- it was sent, or not
-pub rest_sent : {A E : Type 0} (r : Result A E) (a b c : Option (List ℕ)) (before mid after : List ℕ) (payloads more : List Payload) (status : Record)
-    → Sent a b before mid (messages_bytes payloads) → Sends r b c mid after (answer_bytes more status) → Sends r a c before after (answer_bytes (payloads ++ more) status)
-rest_sent r a b c before mid after payloads more status sent last =
-    rw (rest_behind payloads more status) (sent_behind r a b c before mid after (messages_bytes payloads) (answer_bytes more status) sent last)
+pub rest_sent : {A : Type 0} (r : Result A Fault) (a b c : Outgoing) (payloads more : List Payload) (status : Record)
+    → IsSent a b (messages_bytes payloads) → SendsAll r b c (answer_bytes more status) → SendsAll r a c (answer_bytes (payloads ++ more) status)
+rest_sent r a b c payloads more status sent last =
+    rw (rest_behind payloads more status) (sends_then r a b c (messages_bytes payloads) (answer_bytes more status) sent last)

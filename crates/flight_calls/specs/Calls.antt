@@ -7,7 +7,7 @@ use Rattle.scan_base.specs.declared.fault.Fault.TheVariants.{UnknownMethod, BadP
 use Rattle.scan_base.specs.Reading.{◌>>=◌, wanted}
 use Rattle.grpc_frame.specs.declared.record.Record.{Record}
 use Rattle.grpc_frame.specs.declared.record.Record.TheVariants.{Open, Message, End}
-use Rattle.flight_proto.specs.Wanted as wants
+use Rattle.flight_proto.specs.InfoCommand as wants
 use Rattle.flight_info.specs.Payloads.{Payload}
 use Rattle.flight_core.specs.Asked.{Asked, put, info, tables, schema, fetch, expire}
 use Rattle.flight_calls.specs.declared.setting.Options.{Options}
@@ -41,7 +41,7 @@ method_at path =
     else None))))
 
 -- an info is of the list of tables where its command wants that, and else of a query
-abbrev pub info_asked : Result wants.Wanted Fault → Payload → ℕ → Asked
+abbrev pub info_asked : Result wants.InfoCommand Fault → Payload → ℕ → Asked
 info_asked (Ok wants.tables) payload parts = tables payload parts
 info_asked _ payload parts = info payload parts
 

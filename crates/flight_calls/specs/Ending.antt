@@ -4,7 +4,7 @@ use Rattle.std.specs.Io.KnownBytes.{Appends}
 use Rattle.scan_base.specs.declared.fault.Fault.{Fault}
 use Rattle.scan_base.specs.declared.fault.Fault.TheVariants.{Transport}
 use Rattle.grpc_frame.specs.Ends.{AppendsBeginning}
-use Rattle.flight_calls.specs.Owed.{last_status}
+use Rattle.flight_calls.specs.OwedAnswers.{last_status}
 
 -- the transport had failed before, and nothing is done
 pub record StaysFailed (fault : Fault) (result : Result (Unit {0}) Fault)

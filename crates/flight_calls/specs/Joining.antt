@@ -2,14 +2,14 @@
 use Rattle.std.specs.Prelude.{◌≡◌, ◌⊎◌, ◌≤◌, ℕ, List, [], ◌∷◌, Some, Result, Ok, slice_get}
 use Rattle.std.specs.List.{flat_map}
 use Rattle.scan_base.specs.declared.fault.Fault.{Fault}
-use Rattle.arrow_schema.specs.declared.schema.Schema.{Schema}
+use Rattle.arrow_types.specs.declared.schema.Schema.{Schema}
 use Rattle.endpoint_split.specs.Handle.{HandleAt}
-use Rattle.ipc_batch.specs.Said.{Rows}
+use Rattle.ipc_batch.specs.SaidRows.{Rows}
 use Rattle.table_versions.specs.Table.{Table}
 use Rattle.flight_proto.specs.FlightInfo.{InfoSaid, info_of}
-use Rattle.flight_proto.specs.Wanted.{Wanted, wanted_in}
+use Rattle.flight_proto.specs.InfoCommand.{InfoCommand, wanted_in}
 use Rattle.flight_info.specs.Infos.{handle_asked, handles_in}
-use Rattle.flight_info.specs.Meant as meant
+use Rattle.flight_info.specs.QueryMeaning as meant
 use Rattle.flight_info.specs.Payloads.{Payload, PayloadsSay}
 use Rattle.flight_info.specs.Replies.{ReplyAt, whole}
 use Rattle.flight_core.specs.Asked.{Asked, info, tables, fetch}
@@ -20,7 +20,7 @@ use Rattle.flight_calls.specs.Calls.{Call, asked_by}
 use Rattle.flight_core.specs.Seats.{Seat, Moves}
 use Rattle.flight_core.specs.Reacts.{StartsAt}
 use Rattle.flight_calls.specs.Responds.{Responds, Answers}
-use Rattle.flight_calls.specs.Owed.{Connection, Serves}
+use Rattle.flight_calls.specs.OwedAnswers.{Connection, Serves}
 
 -- What a call leaves is where every later call of the connection starts, but for a put or an expiry
 -- that was read, which goes by the log that it meets. So an info or a schema sees each put that was
@@ -76,7 +76,7 @@ pub record FetchServed (moves : Moves) (told : Log) (handle : HandleAt) (rows : 
   pub says : PayloadsSay payloads schema rows
 
 -- a connection answered an info for what was wanted, at this log, by these handles
-pub record InfoServed (moves : Moves) (told log : Log) (wanted : Wanted)
+pub record InfoServed (moves : Moves) (told log : Log) (wanted : InfoCommand)
     (handles : List HandleAt) : Type 0 where
   pub payload : Payload
   pub parts : ℕ
@@ -95,7 +95,7 @@ pub record InfoServed (moves : Moves) (told log : Log) (wanted : Wanted)
 -- info was given.
 abbrev pub SeatsMeetJoined : Moves → Type 0
 SeatsMeetJoined moves =
-    (told log : Log) (wanted : Wanted) (handles : List HandleAt) (streams : List Rows)
+    (told log : Log) (wanted : InfoCommand) (handles : List HandleAt) (streams : List Rows)
     (answer : Table) → InfoServed moves told log wanted handles → puts_in log ≤ puts_in told
     → meant.Answers (database_of log) wanted answer
     → Pairwise (FetchServed moves told) handles streams

@@ -9,7 +9,7 @@ use Rattle.table_versions.specs.Database.{Put}
 use Rattle.flight_proto.specs.Expiry.{expiry_of}
 use Rattle.version_log.specs.Log.{Log, added, expired}
 use Rattle.flight_core.specs.Asked.{Asked, put, info, tables, schema, fetch, expire}
-use Rattle.flight_core.specs.Placed.{log_in}
+use Rattle.flight_core.specs.PlacedEntries.{log_in}
 use Rattle.flight_core.specs.Puts.{put_said}
 use Rattle.flight_core.specs.Machine.{Run}
 use Rattle.flight_core.specs.Headline.{Headline}
@@ -18,8 +18,9 @@ use Rattle.flight_calls.specs.Calls.{Call}
 use Rattle.flight_calls.specs.Exchanges.{Exchange, exchanges_of, WithOwn, asked_in, replies_in}
 use Rattle.flight_core.specs.Seats.{Seat, Moves, alone}
 use Rattle.flight_calls.specs.Responds.{Answers}
-use Rattle.flight_calls.specs.Owed.{Connection, Serves, EndsInside, behind_calls, answer_bytes}
-use Rattle.flight_calls.specs.Owed.{calls_bytes, items_owed, Wrote, Fails}
+use Rattle.flight_calls.specs.OwedAnswers.{Connection, Serves, EndsInside, behind_calls}
+use Rattle.flight_calls.specs.OwedAnswers.{answer_bytes}
+use Rattle.flight_calls.specs.OwedAnswers.{calls_bytes, items_owed, Wrote, Fails}
 
 -- A read failed: each of these answers was written whole, and after the calls stand no more than a
 -- beginning of one.

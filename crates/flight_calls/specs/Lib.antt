@@ -1,6 +1,6 @@
 pub mod Calls
 pub mod Responds
-pub mod Owed
+pub mod OwedAnswers
 pub mod Ending
 pub mod Requests
 pub mod Reading
@@ -8,4 +8,4 @@ pub mod Exchanges
 pub mod Laws
 pub mod Joining
 pub mod Sends
-pub mod Watched
+pub mod WatchedOutbox

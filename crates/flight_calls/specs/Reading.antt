@@ -15,7 +15,7 @@ use Rattle.flight_calls.specs.declared.call.Arrival.{Arrival}
 use Rattle.flight_calls.specs.declared.call.Arrival.TheVariants as arrival
 use Rattle.flight_calls.specs.declared.request.Request.{Request}
 use Rattle.flight_calls.specs.Calls.{Call, call_records}
-use Rattle.flight_calls.specs.Owed.{EndsIn, EndsInside}
+use Rattle.flight_calls.specs.OwedAnswers.{EndsIn, EndsInside}
 use Rattle.flight_calls.specs.Requests.{Holds}
 
 -- the records stand in front, and the rest, which begins after a call, follows them

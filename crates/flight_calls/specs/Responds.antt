@@ -5,7 +5,7 @@ use Rattle.flight_proto.specs.Expiry.{expiry_bytes}
 use Rattle.flight_info.specs.Replies.{ReplyAt}
 use Rattle.version_log.specs.Log.{Log, puts_in}
 use Rattle.flight_core.specs.declared.answer.Answer.{Answer}
-use Rattle.flight_core.specs.Answered.{ReactsBy, fault_in}
+use Rattle.flight_core.specs.StepAnswer.{ReactsBy, fault_in}
 use Rattle.flight_core.specs.Asked.{Asked, put, expire}
 use Rattle.flight_core.specs.Reacts.{Reacts}
 use Rattle.flight_core.specs.Seats.{Seat, Moves}

@@ -1,12 +1,12 @@
 //! The calls of a connection, answered one after another.
 //!
-//! `specs/Calls.antt` says what a call asks and what answers it, and `specs/Owed.antt` what a
-//! server owes for the bytes that it reads.
+//! `specs/Calls.antt` says what a call asks and what answers it, and `specs/OwedAnswers.antt` what
+//! a server owes for the bytes that it reads.
 #![tactic(auto)]
 
 mod answer;
 mod call;
-mod keep;
+mod kept_versions;
 pub mod laws;
 mod request;
 mod server;

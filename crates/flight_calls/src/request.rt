@@ -3,19 +3,19 @@
 ghost use Rattle.std.specs.Prelude.{◌≡◌, ◌++◌, ◌∷◌, [], ℕ, List, Some, Ok, IfSome};
 ghost use Rattle.flight_info.specs.Payloads.{Payload};
 ghost use Rattle.flight_calls.specs.declared.request.Method.TheVariants as variant;
-ghost use Rattle.flight_proto.specs.Wanted.{wanted_in};
-ghost use Rattle.flight_core.specs.Answered.{FitsMessages};
+ghost use Rattle.flight_proto.specs.InfoCommand.{wanted_in};
+ghost use Rattle.flight_core.specs.StepAnswer.{FitsMessages};
 ghost use Rattle.flight_core.specs.Operation.{StandsFor};
 ghost use Rattle.flight_calls.specs.Calls.{Call, method_at, info_asked, asked_with, asked_by};
 ghost use Rattle.flight_calls.specs.Responds.{RespondsBy};
 ghost use Rattle.flight_calls.specs.Requests.{IsRefused, Holds};
 
-use crate::keep::answer_put;
+use crate::kept_versions::answer_put;
 use crate::setting::Options;
 use bytes::Bytes;
 use flight_core::{Answer, Backend, Operation, PutReader, Reply, step};
-use flight_proto::wanted::MAX_REQUEST_LEN;
-use flight_proto::{Wanted, read_expiry, read_wanted};
+use flight_proto::info_command::MAX_REQUEST_LEN;
+use flight_proto::{InfoCommand, read_expiry, read_wanted};
 use scan_base::Fault;
 use std::alloc::Global;
 
@@ -189,8 +189,8 @@ fn info_of(payload: &[u8], parts: u32) -> Operation<'_>
     ensures { StandsFor result (info_asked (wanted_in payload.now) payload.now parts) }
 {
     match read_wanted(payload) {
-        Ok(Wanted::Tables) => Operation::Tables { payload, parts },
-        Ok(Wanted::Rows(_)) => Operation::Info { payload, parts },
+        Ok(InfoCommand::Tables) => Operation::Tables { payload, parts },
+        Ok(InfoCommand::Rows(_)) => Operation::Info { payload, parts },
         Err(_) => Operation::Info { payload, parts },
     }
 }

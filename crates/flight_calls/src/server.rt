@@ -3,17 +3,16 @@
 ghost use Rattle.std.specs.Prelude.{◌≡◌, []};
 ghost use Rattle.grpc_frame.specs.Ends.{CanFail};
 ghost use Rattle.flight_core.specs.Seats.{Seat, seat_of, alone};
-ghost use Rattle.flight_calls.specs.Owed.{Serves, connection_of};
+ghost use Rattle.flight_calls.specs.OwedAnswers.{Serves, connection_of};
 ghost use Rattle.flight_calls.specs.Ending.{RefusesBy};
 
 use crate::answer::{write_answer, write_last_status};
 use crate::call::{Arrival, read_call};
 use crate::setting::Setting;
 use fetch_stream::Executor;
-use flight_core::{Alone, Backend, Plain};
-use grpc_frame::{Inbox, Input, Outbox, Output};
-use hash_seed::HashSeed;
-use scan_base::Fault;
+use flight_core::{Backend, Plain, PlainBackend};
+use grpc_frame::{Inbox, Input, Output, Sender};
+use scan_base::{Fault, HashSeed};
 
 /// Serves a connection over a backend: answers its calls one after another, up to the end of its
 /// input.
@@ -46,18 +45,40 @@ pub fn serve<R: Input, W: Output, B: Backend, X: Executor>(
         (connection_of (R.tape reader.new) (W.contents writer.new)
         (R.failures reader.new) (W.failures writer.new) (B.seat backend.new)) }
 {
+    let mut sender = Sender::new(setting.alloc, writer);
+    let ended = serve_calls(setting, reader, &mut sender, backend);
+    sender.end();
+    ended
+}
+
+// Serves the calls of a connection.
+fn serve_calls<R: Input, W: Output, B: Backend, X: Executor>(
+    setting: &Setting<'_, X>,
+    reader: &mut R,
+    sender: &mut Sender<'_, W>,
+    backend: &mut B,
+) -> Result<(), Fault>
+    requires reads { CanFail (R.failures reader.old) }
+    requires writes { CanFail sender.old.failures }
+    requires empty { sender.old.waiting ≡ [] }
+    ensures serves { Serves B.moves setting.now.options result
+        (connection_of (R.tape reader.old) sender.old.held
+        (R.failures reader.old) sender.old.failures (B.seat backend.old))
+        (connection_of (R.tape reader.new) sender.new.held
+        (R.failures reader.new) sender.new.failures (B.seat backend.new)) }
+    ensures writer { sender.new.writer ≡ sender.old.writer }
+{
     let alloc = setting.alloc;
     let mut inbox = Inbox::of_server(alloc);
-    let mut outbox = Outbox::new(alloc);
     loop {
         let request = match read_call(alloc, &mut inbox, reader) {
             Ok(Arrival::Whole(request)) => request,
             Ok(Arrival::Nothing) => return Ok(()),
             Ok(Arrival::CutShort) => return Err(Fault::Transport),
-            Err(fault) => return refuse(writer, &mut outbox, fault),
+            Err(fault) => return refuse(sender, fault),
         };
         let answer = request.answer(alloc, backend, setting.options);
-        let Ok(()) = write_answer(setting, writer, &mut outbox, answer) else {
+        let Ok(()) = write_answer(setting, sender, answer) else {
             return Err(Fault::Transport);
         };
     }
@@ -84,20 +105,27 @@ pub fn serve_alone<R: Input, W: Output, X: Executor>(
         (R.failures reader.new) (W.failures writer.new) seat) }
 {
     match Plain::new(setting.alloc, seed) {
-        Ok(plain) => serve(setting, reader, writer, &mut Alone::new(plain)),
-        Err(fault) => refuse(writer, &mut Outbox::new(setting.alloc), fault),
+        Ok(plain) => serve(setting, reader, writer, &mut PlainBackend::new(plain)),
+        Err(fault) => {
+            let mut sender = Sender::new(setting.alloc, writer);
+            let ended = refuse(&mut sender, fault);
+            sender.end();
+            ended
+        }
     }
 }
 
 // Says why the connection ends, where its transport has not failed.
-fn refuse<W: Output>(writer: &mut W, outbox: &mut Outbox, fault: Fault) -> Result<(), Fault>
-    requires failures { CanFail (W.failures writer.old) }
-    requires empty { outbox.old ≡ [] }
-    ensures { RefusesBy fault result (W.contents writer.old) (W.contents writer.new)
-        (W.failures writer.old) (W.failures writer.new) }
+fn refuse<W: Output>(sender: &mut Sender<'_, W>, fault: Fault) -> Result<(), Fault>
+    requires writes { CanFail sender.old.failures }
+    requires empty { sender.old.waiting ≡ [] }
+    ensures refuses { RefusesBy fault result sender.old.held sender.new.held
+        sender.old.failures sender.new.failures }
+    ensures writer { sender.new.writer ≡ sender.old.writer }
 {
-    if fault == Fault::Transport || write_last_status(writer, outbox, fault).is_err() {
-        return Err(Fault::Transport);
+    if fault == Fault::Transport {
+        return Err(fault);
     }
+    write_last_status(sender, fault)?;
     Err(fault)
 }

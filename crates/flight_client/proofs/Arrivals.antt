@@ -4,16 +4,16 @@ use Rattle.std.specs.List.{flat_map}
 use Rattle.std.proofs.lemmas.List.{map-append}
 use Rattle.scan_base.specs.declared.fault.Fault.{Fault}
 use Rattle.scan_base.specs.declared.fault.Fault.TheVariants.{BadBatch}
-use Rattle.scan_base.specs.Reading.{◌>>=◌, wanted, RefusesFirst}
+use Rattle.scan_base.specs.Reading.{◌>>=◌, wanted}
 use Rattle.scan_base.specs.Lists.{each}
+use Rattle.arrow_types.specs.declared.schema.Schema.{Schema}
 use Rattle.arrow_schema.specs.declared.header.HeaderKind.{HeaderKind}
 use Rattle.arrow_schema.specs.declared.header.HeaderKind.TheVariants as header
-use Rattle.arrow_schema.specs.declared.schema.Schema.{Schema}
 use Rattle.arrow_schema.specs.Header.{MessageAt, message_of}
 use Rattle.arrays.specs.Batch.{BatchAt, rows_of}
 use Rattle.flight_proto.specs.FlightData.{DataSaid, data_of}
 use Rattle.ipc_batch.specs.State.{Known, State}
-use Rattle.ipc_batch.specs.Said.{Sent, News, Rows, rows_in, next_news, news_in, news_of, glance_of as message_glance, batch_sent, known_after, Follows}
+use Rattle.ipc_batch.specs.SaidRows.{Sent, News, Rows, rows_in, next_news, news_in, news_of, glance_of as message_glance, batch_sent, known_after, Follows}
 use Rattle.ipc_batch.proofs.Glances.{glances_come_first}
 use Rattle.ipc_batch.proofs.Lengths.{fine, both}
 use Rattle.ipc_batch.proofs.Messages.{first, joined, keeps, once}
@@ -76,11 +76,6 @@ glance_stops state payload fault e = by (data_of payload) refl e
         → (read >>= λ carried. news_of state (message_in carried)) ≡ Err fault
     by (Ok carried) is e = glances_come_first state (message_in carried) fault e
     by (Err one) is e = let same : one ≡ fault = cc in ap (λ (x : Fault). Err x) same
-
--- what was read is not refused at a glance, whatever is answered after that
-pub glance_passed : {A X : Type 0} (read : Result A Fault) (x : A) (result : Result X Fault) (glance : Result (Unit {0}) Fault) → read ≡ Ok x → RefusesFirst read glance → RefusesFirst result glance
-glance_passed read x result (Ok done) is first = tt
-glance_passed read x result (Err fault) is first = absurd cc
 
 -- what a stream of these batches is
 abbrev pub stream_of : State → List BatchAt → Option (Result (Unit {0}) Fault) → StreamAt

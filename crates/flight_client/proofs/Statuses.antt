@@ -9,15 +9,15 @@ use Rattle.std.proofs.lemmas.Fmt.{decimal_is_IsNumeral}
 use Rattle.scan_base.specs.declared.fault.Fault.{Fault}
 use Rattle.scan_base.specs.declared.fault.Fault.TheVariants.{BadFrame, MessageTooLarge, UnknownMethod, BadProto, UnknownCommand, BadFlatbuffer, UnsupportedArrow, BadBatch, TableMissing, TableExists, SchemaMismatch, LimitReached, BadSql, UnknownName, TypeClash, NotInSubset, BadTicket, VersionUnknown, VersionExpired, ResultTooLarge, OutOfMemory, Transport}
 use Rattle.scan_base.specs.declared.status_code.StatusCode.{StatusCode}
-use Rattle.scan_base.specs.Fault.{grpc_number, code_of, number_of, position_of, text_of}
+use Rattle.scan_base.specs.Fault.{grpc_number, code_of, number_of, position_of, fault_text}
 use Rattle.flight_client.specs.Status.{HasStatus, StatusSays}
 use Rattle.flight_client.specs.Laws.{StatusesTellFaults}
-use Rattle.flight_client.specs.inside.Numbered.{fault_numbered}
+use Rattle.flight_client.specs.inside.NumberedFaults.{fault_numbered}
 
 -- ---- a text tells a fault
 
 -- the text of F13 is its words, and then the position
-pub sql_text : (position : ℕ) → text_of (BadSql position) ≡ codes "F13 BadSql at byte " ++ decimal position
+pub sql_text : (position : ℕ) → fault_text (BadSql position) ≡ codes "F13 BadSql at byte " ++ decimal position
 unfolding digits
 sql_text position = refl
 
@@ -29,7 +29,7 @@ number_in text = cond (get_or text 2 0 == 32) (get_or text 1 0 - 48) ((get_or te
 abbrev place_in : List ℕ → ℕ
 place_in text = digits_value 10 (drop 19 text)
 
-sql_place : (position : ℕ) → position < 2 ^ 32 → place_in (text_of (BadSql position)) ≡ position
+sql_place : (position : ℕ) → position < 2 ^ 32 → place_in (fault_text (BadSql position)) ≡ position
 sql_place position fits = rw sql_text (decimal_is_IsNumeral position (omega arith)).1
 
 -- the fault of its number, and what its text says of it
@@ -37,8 +37,8 @@ record IsTold (fault : Fault) : Type 0 where
   some : 1 ≤ number_of fault
   small : number_of fault < 23
   numbered : (position : ℕ) → IfSome (position_of fault) (λ p. position ≡ p) → fault_numbered (number_of fault) position ≡ fault
-  number : number_in (text_of fault) ≡ number_of fault
-  place : IfSome (position_of fault) (λ p. place_in (text_of fault) ≡ p)
+  number : number_in (fault_text fault) ≡ number_of fault
+  place : IfSome (position_of fault) (λ p. place_in (fault_text fault) ≡ p)
 
 told : (fault : Fault) → IfSome (position_of fault) (λ p. p < 2 ^ 32) → IsTold fault
 unfolding digits
@@ -69,7 +69,7 @@ told Transport fits = record { some = lit≤ tt; small = lit< tt; numbered = λ 
 by_text : (fault : Fault) (code : ℕ) (text : List ℕ) → HasStatus fault code text → fault_numbered (number_in text) (place_in text) ≡ fault
 by_text fault code text has =
     let is = told fault has.fits in
-    subst (λ (t : List ℕ). fault_numbered (number_in t) (place_in t) ≡ fault) has.text_is (rw is.number (is.numbered (place_in (text_of fault)) is.place))
+    subst (λ (t : List ℕ). fault_numbered (number_in t) (place_in t) ≡ fault) has.text_is (rw is.number (is.numbered (place_in (fault_text fault)) is.place))
 
 tell : (one other : Fault) (code : ℕ) (text : List ℕ) → HasStatus one code text → HasStatus other code text → one ≡ other
 tell one other code text a b = sym (by_text one code text a) ∙ by_text other code text b
@@ -102,19 +102,19 @@ pub other_code : (fault made : Fault) (number code : ℕ) (text : List ℕ) (cod
 other_code fault made number code text coded same codes_it numbers_it differs has =
     differs (numbers_it ∙ ap grpc_number codes_it ∙ ap (λ (f : Fault). grpc_number (code_of f)) same ∙ has.code_is)
 
-pub other_text : (fault made : Fault) (code : ℕ) (text shown : List ℕ) → made ≡ fault → shown ≡ text_of made → bytes_eq shown text ≡ false → ¬ HasStatus fault code text
+pub other_text : (fault made : Fault) (code : ℕ) (text shown : List ℕ) → made ≡ fault → shown ≡ fault_text made → bytes_eq shown text ≡ false → ¬ HasStatus fault code text
 other_text fault made code text shown same shows differs has =
-    let is : shown ≡ text = shows ∙ ap text_of same ∙ has.text_is in
+    let is : shown ≡ text = shows ∙ ap fault_text same ∙ has.text_is in
     let yes : bytes_eq shown text ≡ true = (bytes_eq-Decides shown text).1 is in cc
 
 -- where no fault of a number has a status, none has
-pub none_has : (code : ℕ) (text : List ℕ) (position : ℕ) → ((p : ℕ) → p < 2 ^ 32 → text_of (BadSql p) ≡ text → position ≡ p)
+pub none_has : (code : ℕ) (text : List ℕ) (position : ℕ) → ((p : ℕ) → p < 2 ^ 32 → fault_text (BadSql p) ≡ text → position ≡ p)
     → ((k : ℕ) → k < 23 → 1 ≤ k → ¬ HasStatus (fault_numbered k position) code text) → (fault : Fault) → ¬ HasStatus fault code text
 none_has code text position placed none fault has =
     let is = told fault has.fits in
     none (number_of fault) is.small is.some (rw (is.numbered position (at fault has.fits has.text_is)) has)
   where
-    at : (fault : Fault) → IfSome (position_of fault) (λ p. p < 2 ^ 32) → text_of fault ≡ text → IfSome (position_of fault) (λ p. position ≡ p)
+    at : (fault : Fault) → IfSome (position_of fault) (λ p. p < 2 ^ 32) → fault_text fault ≡ text → IfSome (position_of fault) (λ p. position ≡ p)
     at (BadSql p) fits is = placed p fits is
     at BadFrame fits is = tt
     at MessageTooLarge fits is = tt

@@ -9,21 +9,21 @@ use Rattle.std.proofs.lemmas.List.Elements.{All-head, All-tail}
 use Rattle.scan_base.specs.declared.fault.Fault.{Fault}
 use Rattle.scan_base.specs.declared.fault.Fault.TheVariants.{BadBatch, SchemaMismatch}
 use Rattle.scan_base.specs.Reading.{◌>>=◌, wanted}
-use Rattle.scan_base.specs.Lists.{each, behind}
+use Rattle.scan_base.specs.Lists.{each}
+use Rattle.scan_base.proofs.ReadingLaws.{behind, behind_more}
 use Rattle.scan_base.specs.Value.{same_flag}
-use Rattle.scan_base.proofs.ReadingLaws.{behind_more}
-use Rattle.arrow_schema.specs.declared.data_type.DataType.{DataType}
-use Rattle.arrow_schema.specs.declared.data_type.DataType.TheVariants.{Integer, Utf8, Bool, Decimal128, Date, Dictionary}
-use Rattle.arrow_schema.specs.declared.schema.Field.{Field}
-use Rattle.arrow_schema.specs.declared.schema.Schema.{Schema}
-use Rattle.arrow_schema.specs.DataType.{bit_width, is_signed}
+use Rattle.arrow_types.specs.declared.data_type.DataType.{DataType}
+use Rattle.arrow_types.specs.declared.data_type.DataType.TheVariants.{Integer, Utf8, Bool, Decimal128, Date, Dictionary}
+use Rattle.arrow_types.specs.declared.schema.Field.{Field}
+use Rattle.arrow_types.specs.declared.schema.Schema.{Schema}
+use Rattle.arrow_types.specs.DataType.{bit_width, is_signed}
 use Rattle.ipc_batch.specs.State.{Known}
-use Rattle.ipc_batch.specs.Said.{Rows}
+use Rattle.ipc_batch.specs.SaidRows.{Rows}
 use Rattle.ipc_batch.proofs.Lengths.{fine, both}
 use Rattle.table_versions.specs.Table.{Table, same_type, same_field, same_fields}
 use Rattle.flight_client.specs.Stream.{StreamAt, ending, schema_said}
 use Rattle.flight_client.specs.Join.{Answer, SaysRows, AreOf, joined, one_schema, schema_of_all, rows_together}
-use Rattle.flight_client.specs.inside.Gathered.{gathered}
+use Rattle.flight_client.specs.inside.GatheredStreams.{gathered}
 use Rattle.flight_client.proofs.Arrivals.{held, schema_there, wanted_there}
 
 -- ---- a schema has its own columns

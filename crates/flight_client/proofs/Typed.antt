@@ -1,17 +1,17 @@
 -- The columns of the batches that a stream and rows hold.
 use Rattle.std.proofs.Common.{◌≡◌, ◌&&◌, ◌++◌, Bool, true, false, List, [], ◌∷◌, All, Option, Some, None, Ok, Err, refl, sym, subst, ◌∙◌}
 use Rattle.std.specs.Prelude.{IfSome, option_map}
-use Rattle.arrow_schema.specs.Schema.{IsSchema}
+use Rattle.arrow_types.specs.Schema.{IsSchema}
 use Rattle.std.specs.List.{list_all, AllByRecursion}
 use Rattle.std.proofs.lemmas.List.Elements.{All-head, All-tail, All-push, All-append, All-weaker, All-from_recursion}
 use Rattle.scan_base.specs.declared.fault.Fault.TheVariants.{BadBatch, SchemaMismatch}
 use Rattle.scan_base.specs.Reading.{◌>>=◌, wanted}
 use Rattle.scan_base.specs.Lists.{each}
-use Rattle.arrow_schema.specs.declared.schema.Schema.{Schema}
+use Rattle.arrow_types.specs.declared.schema.Schema.{Schema}
 use Rattle.arrays.specs.Batch.{BatchAt}
-use Rattle.arrays.specs.Typed.{AreOfTypes}
+use Rattle.arrays.specs.TypedLayouts.{AreOfTypes}
 use Rattle.ipc_batch.specs.State.{Known, State}
-use Rattle.ipc_batch.specs.Said.{Sent, News, news_of, HasColumns}
+use Rattle.ipc_batch.specs.SaidRows.{Sent, News, news_of, HasColumns}
 use Rattle.ipc_batch.proofs.Lengths.{fine, both}
 use Rattle.ipc_batch.proofs.Messages.{keeps}
 use Rattle.table_versions.specs.Table.{Table, same_fields}
@@ -19,9 +19,9 @@ use Rattle.flight_info.specs.Payloads.{Payload, message_in}
 use Rattle.flight_client.specs.Stream.{StreamAt, payload_news, schema_said}
 use Rattle.flight_client.proofs.Arrivals.{carried_by}
 use Rattle.flight_client.specs.Join.{one_schema, schema_of_all}
-use Rattle.flight_client.specs.inside.Gathered.{gathered_with}
+use Rattle.flight_client.specs.inside.GatheredStreams.{gathered_with}
 use Rattle.table_versions.proofs.Alike.{typed_alike}
-use Rattle.flight_client.specs.inside.Typed.{AreTyped, HaveColumns, HasSchema, FitsRows, FitRows}
+use Rattle.flight_client.specs.inside.TypedColumns.{AreTyped, HaveColumns, HasSchema, FitsRows, FitRows}
 use Rattle.flight_client.proofs.Together.{has_columns, knows}
 
 -- ---- a stream

@@ -3,10 +3,10 @@ use Rattle.std.proofs.Common.{◌≡◌, pos, true, [], ◌∷◌, Some, None, O
 use Rattle.std.specs.Fmt.{digits}
 use Rattle.scan_base.specs.declared.fault.Fault.TheVariants.{BadBatch, SchemaMismatch, BadSql, ResultTooLarge, Transport}
 use Rattle.scan_base.specs.declared.value.Value.TheVariants.{Int}
-use Rattle.arrow_schema.specs.declared.data_type.DataType.TheVariants.{Utf8, Decimal128}
-use Rattle.arrow_schema.specs.declared.schema.Schema.{Schema}
+use Rattle.arrow_types.specs.declared.data_type.DataType.TheVariants.{Utf8, Decimal128}
+use Rattle.arrow_types.specs.declared.schema.Schema.{Schema}
 use Rattle.ipc_batch.specs.State.{State}
-use Rattle.ipc_batch.specs.Said.{Rows}
+use Rattle.ipc_batch.specs.SaidRows.{Rows}
 use Rattle.flight_client.specs.Status.{HasStatus, StatusSays}
 use Rattle.flight_client.specs.Stream.{StreamAt, begun}
 use Rattle.flight_client.specs.Join.{joined}

@@ -6,8 +6,8 @@ use Rattle.scan_base.specs.declared.fault.Fault.{Fault}
 use Rattle.scan_base.specs.declared.fault.Fault.TheVariants.{BadBatch, SchemaMismatch}
 use Rattle.scan_base.specs.Reading.{◌>>=◌}
 use Rattle.scan_base.specs.Lists.{each}
-use Rattle.arrow_schema.specs.declared.schema.Schema.{Schema}
-use Rattle.ipc_batch.specs.Said.{Rows}
+use Rattle.arrow_types.specs.declared.schema.Schema.{Schema}
+use Rattle.ipc_batch.specs.SaidRows.{Rows}
 use Rattle.table_versions.specs.Table.{Table, same_fields}
 use Rattle.flight_info.specs.Payloads.{Payload, PayloadsSay}
 use Rattle.flight_client.specs.Stream.{StreamAt, Came, schema_said}

@@ -1,8 +1,8 @@
 -- What holds of all statuses, and of all streams.
 use Rattle.std.specs.Prelude.{◌≡◌, ◌↔◌, ℕ, List, Some, Result, Ok}
 use Rattle.scan_base.specs.declared.fault.Fault.{Fault}
-use Rattle.ipc_batch.specs.Said.{Rows}
-use Rattle.arrow_schema.specs.declared.schema.Schema.{Schema}
+use Rattle.ipc_batch.specs.SaidRows.{Rows}
+use Rattle.arrow_types.specs.declared.schema.Schema.{Schema}
 use Rattle.flight_info.specs.Payloads.{Payload, PayloadsSay}
 use Rattle.flight_client.specs.Status.{HasStatus, StatusSays}
 use Rattle.flight_client.specs.Stream.{StreamAt, Came, schema_said}

@@ -4,10 +4,11 @@ use Rattle.scan_base.specs.declared.fault.Fault.{Fault}
 use Rattle.scan_base.specs.declared.fault.Fault.TheVariants.{BadBatch, Transport}
 use Rattle.scan_base.specs.Reading.{◌>>=◌, wanted}
 use Rattle.scan_base.specs.Lists.{each}
-use Rattle.arrow_schema.specs.declared.schema.Schema.{Schema}
+use Rattle.arrow_types.specs.declared.schema.Schema.{Schema}
 use Rattle.flight_proto.specs.FlightData.{DataSaid, data_of}
 use Rattle.ipc_batch.specs.State.{State}
-use Rattle.ipc_batch.specs.Said.{News, Rows, rows_in, news_of, glance_of as message_glance, Follows}
+use Rattle.ipc_batch.specs.SaidRows.{News, Rows, rows_in, news_of, glance_of as message_glance}
+use Rattle.ipc_batch.specs.SaidRows.{Follows}
 use Rattle.flight_info.specs.Payloads.{Payload, message_in}
 use Rattle.flight_client.specs.Status.{StatusSays}
 

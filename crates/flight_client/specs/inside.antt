@@ -1,4 +1,4 @@
 -- What only the contracts of private functions cite.
-pub mod Numbered
-pub mod Gathered
-pub mod Typed
+pub mod NumberedFaults
+pub mod GatheredStreams
+pub mod TypedColumns

@@ -2,14 +2,14 @@
 
 ghost use Rattle.std.specs.Prelude.{Ok, None, List};
 ghost use Rattle.scan_base.specs.Reading.{Gives, GivesUnlessMemory, RefusesFirst};
-ghost use Rattle.arrow_schema.specs.declared.schema.Schema.{Schema};
+ghost use Rattle.arrow_types.specs.declared.schema.Schema.{Schema};
 ghost use Rattle.flight_client.specs.Join.{Answer, AreOf, joined, schema_of_all, rows_together};
-ghost use Rattle.flight_client.specs.inside.Gathered.{gathered};
-ghost use Rattle.flight_client.specs.inside.Typed.{FitRows};
+ghost use Rattle.flight_client.specs.inside.GatheredStreams.{gathered};
+ghost use Rattle.flight_client.specs.inside.TypedColumns.{FitRows};
 
 use crate::rows::Rows;
 use crate::stream::Stream;
-use arrow_schema::Schema;
+use arrow_types::Schema;
 use scan_base::Fault;
 use table_versions::same_fields;
 

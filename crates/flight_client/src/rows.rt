@@ -4,14 +4,14 @@ ghost use Rattle.std.specs.Prelude.{◌≡◌, All};
 ghost use Rattle.std.specs.List.{flat_map};
 ghost use Rattle.scan_base.specs.Reading.{GivesUnlessMemory};
 ghost use Rattle.arrays.specs.Batch.{rows_of};
-ghost use Rattle.arrays.specs.Typed.{AreOfTypes};
-ghost use Rattle.arrow_schema.specs.Schema.{IsSchema};
-ghost use Rattle.flight_client.specs.inside.Gathered.{gathered_with};
-ghost use Rattle.flight_client.specs.inside.Typed.{FitsRows};
+ghost use Rattle.arrays.specs.TypedLayouts.{AreOfTypes};
+ghost use Rattle.arrow_types.specs.Schema.{IsSchema};
+ghost use Rattle.flight_client.specs.inside.GatheredStreams.{gathered_with};
+ghost use Rattle.flight_client.specs.inside.TypedColumns.{FitsRows};
 
 use crate::stream::Stream;
 use arrays::Batch;
-use arrow_schema::Schema;
+use arrow_types::Schema;
 use scan_base::Fault;
 use std::marker::Model;
 
@@ -26,9 +26,9 @@ pub struct Rows {
 impl Model for Rows {
     ghost use Rattle.std.specs.List.{flat_map};
     ghost use Rattle.arrays.specs.Batch.{rows_of};
-    ghost use Rattle.arrow_schema.specs.Schema.{IsSchema};
+    ghost use Rattle.arrow_types.specs.Schema.{IsSchema};
     ghost use Rattle.table_versions.specs.Table.{Table};
-    ghost use Rattle.flight_client.specs.inside.Typed.{HaveColumns};
+    ghost use Rattle.flight_client.specs.inside.TypedColumns.{HaveColumns};
 
     ghost Value = { Table };
 

@@ -3,9 +3,9 @@
 ghost use Rattle.std.specs.Prelude.{◌≡◌, ◌<◌, ◌^◌, ℕ, MatchOption};
 ghost use Rattle.scan_base.specs.declared.fault.Fault.{Fault};
 ghost use Rattle.scan_base.specs.declared.fault.Fault.TheVariants.{BadSql};
-ghost use Rattle.scan_base.specs.Fault.{text_of};
+ghost use Rattle.scan_base.specs.Fault.{fault_text};
 ghost use Rattle.flight_client.specs.Status.{HasStatus, StatusSays};
-ghost use Rattle.flight_client.specs.inside.Numbered.{fault_numbered};
+ghost use Rattle.flight_client.specs.inside.NumberedFaults.{fault_numbered};
 
 use scan_base::Fault;
 
@@ -41,7 +41,7 @@ fn fault_numbered(number: u8, position: u32) -> Fault
 
 // The position that a fault's text ends with.
 fn position_in(text: &str) -> Option<u32>
-    ensures { (position : ℕ) → position < 2 ^ 32 → text_of (BadSql position) ≡ text.now →
+    ensures { (position : ℕ) → position < 2 ^ 32 → fault_text (BadSql position) ≡ text.now →
         result ≡ Some position }
 {
     let digits = text.strip_prefix("F13 BadSql at byte ")?;

@@ -9,7 +9,7 @@ ghost use Rattle.flight_client.specs.Stream.{schema_said};
 use crate::status::status_end;
 use crate::stream_reader::StreamReader;
 use arrays::Batch;
-use arrow_schema::Schema;
+use arrow_types::Schema;
 use bytes::Bytes;
 use scan_base::Fault;
 use std::alloc::Global;
@@ -28,7 +28,7 @@ impl Model for Stream {
     ghost use Rattle.std.specs.List.{flat_map};
     ghost use Rattle.arrays.specs.Batch.{rows_of};
     ghost use Rattle.flight_client.specs.Stream.{StreamAt};
-    ghost use Rattle.flight_client.specs.inside.Typed.{AreTyped};
+    ghost use Rattle.flight_client.specs.inside.TypedColumns.{AreTyped};
 
     ghost Value = { StreamAt };
 

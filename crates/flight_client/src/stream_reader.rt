@@ -1,13 +1,13 @@
 //! The payloads of a stream, read one after the other.
 
 ghost use Rattle.std.specs.Prelude.{◌≡◌, None, IfOk, IfSome, option_map};
-ghost use Rattle.arrow_schema.specs.Schema.{IsSchema};
+ghost use Rattle.arrow_types.specs.Schema.{IsSchema};
 ghost use Rattle.scan_base.specs.Reading.{Gives, RefusesFirst};
-ghost use Rattle.ipc_batch.specs.Said.{Answers, HasColumns};
+ghost use Rattle.ipc_batch.specs.SaidRows.{Answers, HasColumns};
 ghost use Rattle.flight_client.specs.Stream.{payload_glance, payload_news};
 
 use arrays::Batch;
-use arrow_schema::Schema;
+use arrow_types::Schema;
 use bytes::Bytes;
 use flight_proto::{BorrowedData, FlightData};
 use ipc_batch::Reader;

@@ -3,17 +3,17 @@ use Rattle.std.proofs.Common.{◌≡◌, ◌≢◌, ◌==◌, length, if◌then�
 use Rattle.scan_base.specs.declared.fault.Fault.{Fault}
 use Rattle.scan_base.specs.declared.fault.Fault.TheVariants.{UnknownCommand, BadBatch, OutOfMemory}
 use Rattle.std.specs.Prelude.{IfErr}
-use Rattle.scan_base.specs.Reading.{◌>>=◌, wanted, Gives, RefusesFirst}
+use Rattle.scan_base.specs.Reading.{◌>>=◌, wanted, Gives}
 use Rattle.flight_proto.specs.FlightData.{DataSaid, data_of}
 use Rattle.flight_proto.specs.Ingest.{IngestSaid, ingest_of}
 use Rattle.ipc_batch.specs.State.{State}
-use Rattle.ipc_batch.specs.Said.{News, rows_in, news_of, glance_of}
+use Rattle.ipc_batch.specs.SaidRows.{News, rows_in, news_of, glance_of}
 use Rattle.ipc_batch.proofs.Glances.{glances_come_first}
 use Rattle.table_versions.specs.Database.{Put}
 use Rattle.flight_info.specs.Payloads.{Payload, message_in}
 use Rattle.flight_core.specs.Refusals.{RefusedFor, GivesBehind}
 use Rattle.flight_core.specs.Puts.{Told, news_in_payload, message_glance, told_by, first_glance, put_glance, put_said, put_made}
-use Rattle.flight_core.specs.Arriving.{BegunAt, said_so_far, HasRead, after_payload, glance_next, said_next, whole_put}
+use Rattle.flight_core.specs.Arriving.{StartedPutAt, said_so_far, HasRead, after_payload, glance_next, said_next, whole_put}
 
 -- what is told after one payload more
 abbrev told_after : Payload → Told → Result Told Fault
@@ -46,7 +46,7 @@ told_by-append state (first ∷ payloads) payload = by (news_in_payload state fi
     by (Ok news) rest = rw (rest news.state) (swap news (told_by news.state payloads))
 
 -- a put that was begun, as a result
-abbrev begun_good : IngestSaid → Told → Result (Option BegunAt) Fault
+abbrev begun_good : IngestSaid → Told → Result (Option StartedPutAt) Fault
 begun_good ingest told = Ok (Some (record { ingest = ingest; told = told }))
 
 begun_more : (ingest : IngestSaid) (told : Told) (payload : Payload) → (told_after payload told >>= begun_good ingest) ≡ after_payload (record { ingest = ingest; told = told }) payload
@@ -122,7 +122,7 @@ message_stops state payload fault e = by (data_of payload) e
     by (Ok carried) e = skipped carried (length carried.data_header == 0) e
     by (Err one) e = let same : one ≡ fault = cc in ap Err same
 
-after_stops : (begun : BegunAt) (payload : Payload) (fault : Fault) → message_glance begun.told.state payload ≡ Err fault → after_payload begun payload ≡ Err fault
+after_stops : (begun : StartedPutAt) (payload : Payload) (fault : Fault) → message_glance begun.told.state payload ≡ Err fault → after_payload begun payload ≡ Err fault
 after_stops begun payload fault e = rw (message_stops begun.told.state payload fault e) refl
 
 first_stops : (payload : Payload) (fault : Fault) → first_glance payload ≡ Err fault → said_next None payload ≡ Err fault
@@ -133,7 +133,7 @@ first_stops payload fault e = by (ingest_of payload) e
     by (Ok ingest) e = after_stops (record { ingest = ingest; told = record { state = None; rows = [] } }) payload fault e
     by (Err one) e = let same : one ≡ fault = cc in ap Err same
 
-next_stops : (begun : Option BegunAt) (payload : Payload) (fault : Fault) → glance_next begun payload ≡ Err fault → said_next begun payload ≡ Err fault
+next_stops : (begun : Option StartedPutAt) (payload : Payload) (fault : Fault) → glance_next begun payload ≡ Err fault → said_next begun payload ≡ Err fault
 next_stops None payload fault e = first_stops payload fault e
 next_stops (Some begun) payload fault e = after_stops begun payload fault e
 
@@ -154,7 +154,7 @@ passed : {X Y : Type 0} (glance : Result X Fault) (read : Result Y Fault) (y : Y
 passed glance read y stops good cause e = let bad = stops cause e in let no : ⊥ = cc in no
 
 -- the first payload of those that were read
-command_read : (first : Payload) (rest : List Payload) (begun : Option BegunAt) → said_so_far (first ∷ rest) ≡ Ok begun → (cause : Fault) → first_glance first ≡ Err cause → ⊥
+command_read : (first : Payload) (rest : List Payload) (begun : Option StartedPutAt) → said_so_far (first ∷ rest) ≡ Ok begun → (cause : Fault) → first_glance first ≡ Err cause → ⊥
 command_read first rest begun said = passed (first_glance first) (said_so_far (first ∷ rest)) begun (so_far_stops first rest) said
 
 none_said : (fault : Fault) → put_glance [] ≡ Err fault → put_said [] ≡ Err fault
@@ -170,13 +170,13 @@ glance_good payloads put said = passed (put_glance payloads) (put_said payloads)
     by (first ∷ rest) fault e = put_said-is (first ∷ rest) ∙ rw (so_far_stops first rest fault e) refl
 
 -- a reader without a fault holds what is said so far
-said_ok : (payloads : List Payload) (begun : Option BegunAt) → HasRead payloads (Ok begun) → said_so_far payloads ≡ Ok begun
+said_ok : (payloads : List Payload) (begun : Option StartedPutAt) → HasRead payloads (Ok begun) → said_so_far payloads ≡ Ok begun
 unfolding said_so_far
 said_ok [] begun has = sym has
 said_ok (first ∷ rest) begun has = has
 
 -- of no payloads there is nothing
-begun_none : (begun : Option BegunAt) → HasRead [] (Ok begun) → begun ≡ None
+begun_none : (begun : Option StartedPutAt) → HasRead [] (Ok begun) → begun ≡ None
 begun_none begun has = cc
 
 -- ---- the next payload
@@ -186,27 +186,16 @@ refused_is : {X Y : Type 0} (glance : Result X Fault) (read : Result Y Fault) (f
 refused_is (Ok seen) read fault stops is other = is other
 refused_is (Err cause) read fault stops is other = stops cause refl ∙ ap Err (sym is)
 
-next_refused : (begun : Option BegunAt) (payload : Payload) (fault : Fault) → RefusedFor (glance_next begun payload) (said_next begun payload) fault
+next_refused : (begun : Option StartedPutAt) (payload : Payload) (fault : Fault) → RefusedFor (glance_next begun payload) (said_next begun payload) fault
     → fault ≢ OutOfMemory → said_next begun payload ≡ Err fault
 next_refused begun payload fault is other = refused_is (glance_next begun payload) (said_next begun payload) fault (next_stops begun payload) is other
 
--- a refusal that comes first, for the fault of what is read or because memory was refused
-pub refused_first : {X Y Z : Type 0} (result : Result X Fault) (glance : Result Y Fault) (read : Result Z Fault) (fault : Fault) → result ≡ Err fault → RefusesFirst result glance → (fault ≢ OutOfMemory → read ≡ Err fault) → RefusedFor glance read fault
-refused_first result (Ok seen) read fault short first is = is
-refused_first result (Err cause) read fault short first is = let same : fault ≡ cause = cc in same
-
--- a payload whose message was read is not refused, want of memory apart
-pub refused_behind : (begun : BegunAt) (payload : Payload) (news : News) (fault : Fault) → news_in_payload begun.told.state payload ≡ Ok news → fault ≡ OutOfMemory → RefusedFor (message_glance begun.told.state payload) (after_payload begun payload) fault
-refused_behind begun payload news fault read short =
-    behind (message_glance begun.told.state payload) (after_payload begun payload) fault
-    (passed (message_glance begun.told.state payload) (news_in_payload begun.told.state payload) news (message_stops begun.told.state payload) read) (λ other. absurd (other short))
-
 -- a reader with a fault
-abbrev refusal : Fault → Result (Option BegunAt) Fault
+abbrev refusal : Fault → Result (Option StartedPutAt) Fault
 refusal fault = Err fault
 
 -- what refuses a payload at a glance is kept
-pub kept_first : (begun held : Option BegunAt) (payload : Payload) (fault : Fault) (old : Result (Option BegunAt) Fault) → old ≡ Ok begun → old ≡ Ok held → RefusedFor (glance_next held payload) (said_next held payload) fault
+pub kept_first : (begun held : Option StartedPutAt) (payload : Payload) (fault : Fault) (old : Result (Option StartedPutAt) Fault) → old ≡ Ok begun → old ≡ Ok held → RefusedFor (glance_next held payload) (said_next held payload) fault
     → IfErr (glance_next begun payload) (λ cause. refusal fault ≡ Err cause)
 kept_first begun held payload fault old is holds refused = let same : begun ≡ held = cc in rw same (by (glance_next held payload) refused)
   where
@@ -215,7 +204,7 @@ kept_first begun held payload fault old is holds refused = let same : begun ≡ 
     by (Err cause) refused = ap refusal refused
 
 -- a payload that was read was not refused at a glance
-pub passed_first : (begun held new : Option BegunAt) (payload : Payload) (old reader : Result (Option BegunAt) Fault) → old ≡ Ok begun → old ≡ Ok held → said_next held payload ≡ Ok new
+pub passed_first : (begun held new : Option StartedPutAt) (payload : Payload) (old reader : Result (Option StartedPutAt) Fault) → old ≡ Ok begun → old ≡ Ok held → said_next held payload ≡ Ok new
     → IfErr (glance_next begun payload) (λ cause. reader ≡ Err cause)
 passed_first begun held new payload old reader is holds read =
     let same : begun ≡ held = cc in
@@ -228,7 +217,7 @@ passed_first begun held new payload old reader is holds read =
 -- ---- readers
 
 -- one payload more was read
-pub read_on : (payloads : List Payload) (payload : Payload) (begun new : Option BegunAt) (old : Result (Option BegunAt) Fault) → old ≡ Ok begun → said_next begun payload ≡ Ok new
+pub read_on : (payloads : List Payload) (payload : Payload) (begun new : Option StartedPutAt) (old : Result (Option StartedPutAt) Fault) → old ≡ Ok begun → said_next begun payload ≡ Ok new
     → HasRead payloads old → HasRead (payloads ++ payload ∷ []) (Ok new)
 read_on payloads payload begun new old is next has = by payloads (said_so_far-append payloads payload ∙ rw before next)
   where
@@ -240,7 +229,7 @@ read_on payloads payload begun new old is next has = by payloads (said_so_far-ap
     by (first ∷ rest) e = e
 
 -- one payload more is faulty
-pub read_faulty : (payloads : List Payload) (payload : Payload) (begun : Option BegunAt) (fault : Fault) (old : Result (Option BegunAt) Fault) → old ≡ Ok begun
+pub read_faulty : (payloads : List Payload) (payload : Payload) (begun : Option StartedPutAt) (fault : Fault) (old : Result (Option StartedPutAt) Fault) → old ≡ Ok begun
     → RefusedFor (glance_next begun payload) (said_next begun payload) fault → HasRead payloads old → HasRead (payloads ++ payload ∷ []) (Err fault)
 unfolding said_so_far
 read_faulty [] payload begun fault old is next has =
@@ -255,14 +244,14 @@ read_faulty (first ∷ rest) payload begun fault old is next has =
     (λ other. said_so_far-append (first ∷ rest) payload ∙ rw before (next_refused begun payload fault next other))
 
 -- the first fault is kept
-pub read_past : (payloads : List Payload) (payload : Payload) (fault : Fault) (old : Result (Option BegunAt) Fault) → old ≡ Err fault → HasRead payloads old → HasRead (payloads ++ payload ∷ []) old
+pub read_past : (payloads : List Payload) (payload : Payload) (fault : Fault) (old : Result (Option StartedPutAt) Fault) → old ≡ Err fault → HasRead payloads old → HasRead (payloads ++ payload ∷ []) old
 read_past [] payload fault old is has = absurd cc
 read_past (first ∷ rest) payload fault old is has = rw is
     (refused_on (first_glance first) (said_so_far (first ∷ rest)) (said_so_far (first ∷ (rest ++ payload ∷ []))) fault
     (λ before. said_so_far-append (first ∷ rest) payload ∙ rw before refl) (rw is at has))
 
 -- nothing more comes
-pub read_whole : {X : Type 0} (view : X → Put) (result : Result X Fault) (payloads : List Payload) (begun : Option BegunAt) (reader : Result (Option BegunAt) Fault) → reader ≡ Ok begun
+pub read_whole : {X : Type 0} (view : X → Put) (result : Result X Fault) (payloads : List Payload) (begun : Option StartedPutAt) (reader : Result (Option StartedPutAt) Fault) → reader ≡ Ok begun
     → Gives view result (whole_put begun) → HasRead payloads reader → GivesBehind (put_glance payloads) view result (put_said payloads)
 read_whole view result payloads begun reader is gives has = by payloads result gives (rw is at has)
   where
@@ -276,7 +265,7 @@ read_whole view result payloads begun reader is gives has = by payloads result g
         behind (first_glance first) (put_said (first ∷ rest)) fault (command_read first rest begun has) (λ other. same (first ∷ rest) has ∙ gives)
 
 -- nothing more comes after a fault
-pub read_refused : (payloads : List Payload) (fault : Fault) (reader : Result (Option BegunAt) Fault) → reader ≡ Err fault → HasRead payloads reader
+pub read_refused : (payloads : List Payload) (fault : Fault) (reader : Result (Option StartedPutAt) Fault) → reader ≡ Err fault → HasRead payloads reader
     → RefusedFor (put_glance payloads) (put_said payloads) fault
 read_refused [] fault reader is has = absurd cc
 read_refused (first ∷ rest) fault reader is has =

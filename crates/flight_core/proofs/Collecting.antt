@@ -11,7 +11,7 @@ use Rattle.flight_info.specs.Payloads.{Payload, FitMessages}
 use Rattle.fetch_stream.specs.Fetches.{FetchAt, HandleMeans}
 use Rattle.fetch_stream.specs.Streams.{StreamAt, Gives, HasGiven}
 use Rattle.fetch_stream.proofs.Answering.{streams_answer, was_refused}
-use Rattle.flight_core.specs.Collected.{Collects}
+use Rattle.flight_core.specs.PayloadCollector.{Collects}
 
 -- those that fit, and more that do
 pub all_fit : (payloads more : List Payload) → FitMessages payloads → FitMessages more → FitMessages (payloads ++ more)

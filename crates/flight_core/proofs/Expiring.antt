@@ -9,7 +9,7 @@ use Rattle.scan_base.specs.Reading.{◌>>=◌, demand}
 use Rattle.flight_proto.specs.Expiry.{expiry_of, floor_bytes}
 use Rattle.flight_proto.specs.Message.{set_fields, spelled}
 use Rattle.proto_wire.specs.Calls.{chunk_entry}
-use Rattle.proto_wire.specs.Writing.{spelling}
+use Rattle.proto_wire.specs.Writing.{field_spelling}
 use Rattle.version_log.specs.Expiry.{IsExpired, RefusesExpiry}
 use Rattle.version_log.specs.Log.{Log, puts_in}
 use Rattle.flight_info.specs.Payloads.{Payload}
@@ -23,7 +23,7 @@ floor_fits floor =
     let body = chunk_entry 1 (big_bytes 8 floor) in
     let whole : length (floor_bytes floor) ≡ length (spelled (set_fields (body ∷ []))) = refl in
     let eight : length (big_bytes 8 floor) ≡ 8 = refl in
-    omega (arith, whole, eight, short_set (body ∷ []), length-append (spelling body) [], short_chunk 1 (big_bytes 8 floor))
+    omega (arith, whole, eight, short_set (body ∷ []), length-append (field_spelling body) [], short_chunk 1 (big_bytes 8 floor))
 
 -- an action that reads
 pub number_read : (action : Payload) (version : ℕ) → expiry_of action ≡ Ok version → IsOk (expiry_of action)

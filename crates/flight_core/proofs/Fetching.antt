@@ -1,68 +1,27 @@
 -- What a fetch shows, and its stream.
-use Rattle.std.proofs.Common.{◌≡◌, ◌≢◌, ◌<◌, ◌≤◌, ◌+◌, ℕ, Bool, true, false, nat_le, [], length, length-append, ◌⊎◌, Option, Some, None, Result, Ok, Err, refl, sym, ap, subst, inl, inr, arith}
+use Rattle.std.proofs.Common.{◌≡◌, ◌≢◌, ◌<◌, ◌≤◌, ◌+◌, ℕ, [], length, length-append, ◌⊎◌, Option, Some, None, Result, Ok, Err, refl, sym, ap, subst, inl, inr, arith}
 use Rattle.std.specs.Prelude.{IsOk}
-use Rattle.std.proofs.lemmas.Bool.{le-leb, leb-false, leb-true, lt-leb}
 use Rattle.scan_base.specs.declared.fault.Fault.{Fault}
 use Rattle.scan_base.specs.declared.fault.Fault.TheVariants.{BadTicket, OutOfMemory, VersionExpired, VersionUnknown}
-use Rattle.scan_base.specs.Reading.{◌>>=◌, demand}
 use Rattle.endpoint_split.specs.Handle.{HandleAt}
 use Rattle.table_versions.specs.Database.{Database}
 use Rattle.flight_info.specs.Infos.{handle_asked}
 use Rattle.flight_info.specs.Payloads.{Payload}
 use Rattle.flight_info.specs.Replies.{ReplyAt, refusal}
-use Rattle.fetch_stream.specs.Fetches.{FetchAt, version_of, may_mean}
+use Rattle.fetch_stream.specs.Fetches.{FetchAt, version_of}
 use Rattle.fetch_stream.specs.Streams.{StreamAt, Opens}
 use Rattle.version_log.specs.Log.{Log, puts_of, puts_in, floor_of, version, Begins}
 use Rattle.version_log.proofs.Logs.{begun_puts}
 use Rattle.flight_core.specs.declared.answer.Answer.TheVariants.{Stream, Whole}
-use Rattle.flight_core.specs.Answered.{AnsweredBy, ReactsBy}
+use Rattle.flight_core.specs.StepAnswer.{AnsweredBy, ReactsBy}
 use Rattle.flight_core.specs.Asked.{Asked, fetch}
 use Rattle.flight_core.specs.Machine.{FetchBy, FetchIn, FetchShown, OpensBy, OpensIn, ReplyTo}
 use Rattle.flight_core.specs.Reacts.{IsBeyond}
 use Rattle.flight_core.specs.Seats.{Seat, Moves, AsksNone, Learns}
-use Rattle.flight_core.specs.Shown.{handle_shown}
+use Rattle.flight_core.specs.ShownHandle.{handle_shown}
 use Rattle.flight_core.proofs.Reacting.{goes_by_look}
 
 -- ---- what a ticket shows, whose handle reads
-
-shown_so : (log : Log) (ticket : Payload) (handle : HandleAt) → handle_asked ticket ≡ Ok handle → puts_in log < version_of handle → handle_shown (floor_of log) (puts_in log) ticket ≡ Err VersionUnknown
-shown_so log ticket handle asked above = rw (asked, lt-leb (version_of handle) (puts_in log) above) refl
-
-shown_expired : (log : Log) (ticket : Payload) (handle : HandleAt) → handle_asked ticket ≡ Ok handle → version_of handle ≤ puts_in log → version_of handle < floor_of log
-    → handle_shown (floor_of log) (puts_in log) ticket ≡ Err VersionExpired
-shown_expired log ticket handle asked reached below = rw (asked, le-leb (version_of handle) (puts_in log) reached, lt-leb (floor_of log) (version_of handle) below) refl
-
-shown_there : (log : Log) (ticket : Payload) (handle : HandleAt) (means : Bool) → may_mean handle ≡ means → handle_asked ticket ≡ Ok handle → version_of handle ≤ puts_in log → floor_of log ≤ version_of handle
-    → handle_shown (floor_of log) (puts_in log) ticket ≡ (demand means BadTicket >>= λ _. Ok handle)
-shown_there log ticket handle means is asked reached kept = rw (asked, le-leb (version_of handle) (puts_in log) reached, le-leb (floor_of log) (version_of handle) kept, is) refl
-
--- a fetch is refused for what it shows
-shows_fault : (log : Log) (ticket : Payload) (cause fault : Fault) → handle_shown (floor_of log) (puts_in log) ticket ≡ Err cause → fault ≡ cause → FetchShown log ticket (Some fault)
-shows_fault log ticket cause fault is same = rw (is, same) refl
-
--- a version that is there, of which the handle's look or opening was refused
-pub shown_refused : (log : Log) (ticket : Payload) (handle : HandleAt) (fault : Fault) → handle_asked ticket ≡ Ok handle → version_of handle ≤ puts_in log → floor_of log ≤ version_of handle
-    → (may_mean handle ≡ false → fault ≡ BadTicket) → FetchShown log ticket (Some fault)
-shown_refused log ticket handle fault asked reached kept bad = by (may_mean handle) refl
-  where
-    by : (means : Bool) → may_mean handle ≡ means → FetchShown log ticket (Some fault)
-    by true is = rw (shown_there log ticket handle true is asked reached kept) tt
-    by false is = shows_fault log ticket BadTicket fault (shown_there log ticket handle false is asked reached kept) (bad is)
-
-pub shown_unknown : (log : Log) (ticket : Payload) (handle : HandleAt) → handle_asked ticket ≡ Ok handle → puts_in log < version_of handle → FetchShown log ticket (Some VersionUnknown)
-shown_unknown log ticket handle asked above = shows_fault log ticket VersionUnknown VersionUnknown (shown_so log ticket handle asked above) refl
-
-pub shown_below : (log : Log) (ticket : Payload) (handle : HandleAt) → handle_asked ticket ≡ Ok handle → version_of handle ≤ puts_in log → version_of handle < floor_of log → FetchShown log ticket (Some VersionExpired)
-shown_below log ticket handle asked reached below = shows_fault log ticket VersionExpired VersionExpired (shown_expired log ticket handle asked reached below) refl
-
--- a ticket that does not read
-pub shown_unread : (log : Log) (ticket : Payload) (fault : Fault) → handle_asked ticket ≡ Err fault → FetchShown log ticket (Some fault)
-shown_unread log ticket fault unread = rw unread refl
-
--- a handle of a version that is there, which means nothing as far as it shows
-pub opens_bad : (log : Log) (ticket : Payload) (handle : HandleAt) → handle_asked ticket ≡ Ok handle → version_of handle ≤ puts_in log → floor_of log ≤ version_of handle → may_mean handle ≡ false
-    → OpensIn log ticket (Err BadTicket)
-opens_bad log ticket handle asked reached kept bad = inl (rw (shown_there log ticket handle false bad asked reached kept) refl)
 
 -- ---- the stream of a fetch
 
@@ -121,17 +80,6 @@ pub unknown_above : (may once : Type 0) (log : Log) (number : ℕ)
 unknown_above may once log number (inl tired) = let no = tired.0 in absurd cc
 unknown_above may once log number (inr (inl unknown)) = unknown.2
 unknown_above may once log number (inr (inr below)) = let no = below.0 in absurd cc
-
--- a version that is not beyond a log is reached by it
-pub reached_by : (ticket : Payload) (handle : HandleAt) (log : Log) → handle_asked ticket ≡ Ok handle → (IsBeyond (handle_asked ticket) log → ⊥) → version_of handle ≤ puts_in log
-reached_by ticket handle log asked not = by (nat_le (version_of handle) (puts_in log)) refl
-  where
-    below : puts_in log < version_of handle → ⊥
-    below = rw asked at not
-
-    by : (there : Bool) → nat_le (version_of handle) (puts_in log) ≡ there → version_of handle ≤ puts_in log
-    by true is = leb-true (version_of handle) (puts_in log) is
-    by false is = absurd (below (leb-false (version_of handle) (puts_in log) is))
 
 abbrev refused : Fault → Result StreamAt Fault
 refused fault = Err fault

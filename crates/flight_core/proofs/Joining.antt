@@ -10,7 +10,7 @@ use Rattle.endpoint_split.specs.declared.ranges.Range.{Range}
 use Rattle.endpoint_split.specs.Split.{IsPartition, ranges_of}
 use Rattle.endpoint_split.specs.Handle.{HandleAt, Query, Tables}
 use Rattle.endpoint_split.proofs.Cuts.{ranges_are_partition}
-use Rattle.ipc_batch.specs.Said.{Rows}
+use Rattle.ipc_batch.specs.SaidRows.{Rows}
 use Rattle.ipc_batch.proofs.Messages.{say_one_thing}
 use Rattle.sql_query.specs.Sentence.{Sentence, is_grouped}
 use Rattle.table_versions.specs.Table.{Row, Table}
@@ -21,11 +21,11 @@ use Rattle.typed_plan.specs.Meaning.{meaning}
 use Rattle.typed_plan.proofs.Ranges.{ranges_join}
 use Rattle.version_log.specs.Log.{Log, puts_of, puts_in, floor_of, database_of, version, Begins}
 use Rattle.flight_info.specs.Payloads.{Payload}
-use Rattle.flight_info.specs.Meant.{Asks, first_rows}
+use Rattle.flight_info.specs.QueryMeaning.{AsksSentence, first_rows}
 use Rattle.fetch_stream.specs.Fetches.{FetchAt, version_of, may_mean}
 use Rattle.flight_core.specs.Machine.{FetchBy, FetchIn}
 use Rattle.flight_info.specs.Infos.{handle_asked, ranges_asked, handles_in}
-use Rattle.flight_proto.specs.Wanted.{rows_of, tables}
+use Rattle.flight_proto.specs.InfoCommand.{rows_of, tables}
 use Rattle.flight_info.specs.Tables.{tables_listed}
 use Rattle.flight_core.specs.Headline.{Saw, FetchedAt, Joined, Pairwise}
 use Rattle.flight_info.proofs.Meaning.{one_sentence, same_ok}
@@ -41,7 +41,7 @@ same_version log told seat other there a b fits c d long =
     let whole : take n (puts_of log ++ puts_of a.0) ≡ puts_of log = take-append_seam (puts_of log) (puts_of a.0) in
     let mine : take n (puts_of told) ≡ puts_of log =
     sym (take-append-le n (puts_of told) (puts_of b.0) fits) ∙ ap (take n) (sym (begun_puts told seat b) ∙ begun_puts log seat a) ∙ whole in
-    ap puts.database_of (sym (take-append-le n (puts_of other) (puts_of c.0) long) ∙ ap (take n) (sym (begun_puts other there c) ∙ begun_puts told there d)
+    ap puts.database_after (sym (take-append-le n (puts_of other) (puts_of c.0) long) ∙ ap (take n) (sym (begun_puts other there c) ∙ begun_puts told there d)
     ∙ take-append-le n (puts_of told) (puts_of d.0) fits ∙ mine)
 
 -- ---- ranges
@@ -106,7 +106,7 @@ abbrev query_at : ℕ → List ℕ → Range → HandleAt
 query_at n text r = Query n r.from r.to text
 
 said : (log told : Log) (text : List ℕ) (query : Sentence) (r : Range) (rows : Rows)
-    → Saw told log → puts_in log ≤ puts_in told → Asks (database_of log) text query
+    → Saw told log → puts_in log ≤ puts_in told → AsksSentence (database_of log) text query
     → FetchedAt told (query_at (puts_in log) text r) rows → rows ≡ meaning query (database_of log) r.from r.to
 said log told text query r rows seen fits asks f =
     let h : HandleAt = query_at (puts_in log) text r in
@@ -119,7 +119,7 @@ said log told text query r rows seen fits asks f =
 -- ---- all of them
 
 streams_join : (log told : Log) (text : List ℕ) (query : Sentence) (rs : List Range) (streams : List Rows)
-    → Saw told log → puts_in log ≤ puts_in told → Asks (database_of log) text query
+    → Saw told log → puts_in log ≤ puts_in told → AsksSentence (database_of log) text query
     → Pairwise (FetchedAt told) (map (query_at (puts_in log) text) rs) streams
     → flat_map (λ (rows : Rows). rows) streams ≡ flat_map (λ (r : Range). meaning query (database_of log) r.from r.to) rs
 streams_join log told text query [] [] seen fits asks f = refl

@@ -11,7 +11,7 @@ use Rattle.flight_info.proofs.Results.{first_for}
 use Rattle.flight_info.specs.Replies.{ReplyAt}
 use Rattle.flight_core.specs.Asked.{Asked}
 use Rattle.flight_core.specs.Machine.{StepOn}
-use Rattle.flight_core.specs.Placed.{placed}
+use Rattle.flight_core.specs.PlacedEntries.{placed}
 use Rattle.flight_core.specs.Reacts.{Reacts}
 use Rattle.flight_core.specs.Seats.{Seat, lone_seat, Expires, Puts, alone}
 use Rattle.flight_core.proofs.Placing.{placed_behind, placed_more}

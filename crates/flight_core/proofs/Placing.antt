@@ -2,7 +2,7 @@
 use Rattle.std.proofs.Common.{◌≡◌, ℕ, ◌+◌, List, [], ◌∷◌, ◌++◌, length, refl, ap, ◌∙◌, arith}
 use Rattle.std.proofs.lemmas.List.{map-append}
 use Rattle.version_log.specs.Log.{Entry, Log}
-use Rattle.flight_core.specs.Placed.{Placed, placed, log_in}
+use Rattle.flight_core.specs.PlacedEntries.{Placed, placed, log_in}
 
 placed-append : (place : ℕ) (log more : Log) → placed place (log ++ more) ≡ placed place log ++ placed (place + length log) more
 placed-append place [] more = let at : place ≡ place + 0 = omega arith in ap (λ n. placed n more) at

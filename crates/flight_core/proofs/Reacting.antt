@@ -13,10 +13,10 @@ use Rattle.version_log.specs.Log.{Log, added, expired, puts_of, Begins}
 use Rattle.version_log.proofs.Logs.{puts_of-added, puts_of-expired}
 use Rattle.flight_core.specs.declared.answer.Answer.{Answer}
 use Rattle.flight_core.specs.declared.answer.Answer.TheVariants.{Whole, Accepted, Floor, Stream}
-use Rattle.flight_core.specs.Answered.{fault_in, IsReplyOf, ReactsBy}
+use Rattle.flight_core.specs.StepAnswer.{fault_in, IsReplyOf, ReactsBy}
 use Rattle.flight_core.specs.Asked.{Asked, put, info, tables, schema, fetch, expire}
 use Rattle.flight_core.specs.Machine.{PutStep, ReplyTo}
-use Rattle.flight_core.specs.Placed.{Placed, log_in}
+use Rattle.flight_core.specs.PlacedEntries.{Placed, log_in}
 use Rattle.flight_core.specs.Puts.{put_glance, put_said}
 use Rattle.flight_core.specs.Reacts.{StartsAt, Looks, Asks, Goes, MayAsk, Reacts}
 use Rattle.flight_core.specs.Refusals.{RefusedFor}

@@ -7,7 +7,7 @@ use Rattle.std.specs.Int.{w64, cast_unsigned}
 use Rattle.flight_proto.specs.Message.{set_fields, spelled}
 use Rattle.flight_proto.specs.PutResult.{update_bytes, rows_put_bytes}
 use Rattle.proto_wire.specs.Calls.{chunk_entry, varint_entry}
-use Rattle.proto_wire.specs.Writing.{spelling}
+use Rattle.proto_wire.specs.Writing.{field_spelling}
 use Rattle.scan_base.specs.Limits.{most_message_bytes, most_rows}
 use Rattle.table_versions.specs.Database.{Database, Put, after}
 use Rattle.table_versions.proofs.Accepted.{accepted_puts_are_few}
@@ -54,9 +54,9 @@ answer_fits rows payload is =
       arith,
       whole,
       inner,
-      length-append (spelling count) [],
+      length-append (field_spelling count) [],
       short_number 1 (cast_unsigned w64 rows),
       short_set (metadata ∷ []),
-      length-append (spelling metadata) [],
+      length-append (field_spelling metadata) [],
       short_chunk 1 (update_bytes rows),
     )

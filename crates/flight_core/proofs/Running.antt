@@ -6,7 +6,7 @@ use Rattle.scan_base.specs.declared.fault.Fault.TheVariants.{LimitReached}
 use Rattle.scan_base.specs.Limits.{most_query_bytes}
 use Rattle.scan_base.specs.Reading.{◌>>=◌, demand}
 use Rattle.endpoint_split.specs.Handle.{HandleAt}
-use Rattle.ipc_batch.specs.Said.{Rows}
+use Rattle.ipc_batch.specs.SaidRows.{Rows}
 use Rattle.table_versions.specs.Database.{Database, Put}
 use Rattle.version_log.specs.Log.{Log, added, expired, puts_of, puts_in, database_of, Begins}
 use Rattle.version_log.proofs.Logs.{begun_puts}
@@ -16,7 +16,7 @@ use Rattle.flight_core.specs.Asked.{Asked, put, info, tables, schema, fetch, exp
 use Rattle.flight_info.specs.Replies.{ReplyAt, whole}
 use Rattle.flight_proto.specs.Expiry.{expiry_of}
 use Rattle.flight_proto.specs.FlightInfo.{InfoSaid, info_of}
-use Rattle.flight_proto.specs.Wanted.{Wanted, wanted_in, rows_of, tables as list}
+use Rattle.flight_proto.specs.InfoCommand.{InfoCommand, wanted_in, rows_of, tables as list}
 use Rattle.flight_info.specs.Infos.{only_rows, only_tables, short_enough, RightInfo, InfoAt}
 use Rattle.flight_core.specs.Machine.{PutStep, ExpireStep, StepOn, Run}
 use Rattle.flight_core.specs.Headline.{FetchedAt, Fetched, Informed, RunsMeetHeadline, Pairwise}
@@ -113,23 +113,23 @@ all_fetched asked replies last (h ∷ hs) [] run f = absurd f
 same_one : {X : Type 0} {a b : X} → a ∷ [] ≡ b ∷ [] → a ≡ b
 same_one e = cc
 
-right_of : (database : Database) (n : ℕ) (payload said : Payload) (parts : ℕ) (wanted : Wanted) (told : InfoSaid) → info_of said ≡ Ok told
+right_of : (database : Database) (n : ℕ) (payload said : Payload) (parts : ℕ) (wanted : InfoCommand) (told : InfoSaid) → info_of said ≡ Ok told
     → InfoAt database n payload parts (Ok wanted) (said ∷ []) None → RightInfo database n payload parts wanted told
 right_of database n payload said parts wanted told read at =
     let same : at.0 ≡ told = same_ok (info_of said) at.0 told (ap info_of (same_one at.1) ∙ at.2) read in
     subst (λ (x : InfoSaid). RightInfo database n payload parts wanted x) same at.3
 
 -- where what is wanted was looked at and not refused, it is what was wanted
-looked : (database : Database) (n : ℕ) (payload said : Payload) (parts : ℕ) (wanted : Wanted) (told : InfoSaid) (kept : Result Wanted Fault) → info_of said ≡ Ok told
-    → ((other : Wanted) → kept ≡ Ok other → other ≡ wanted) → InfoAt database n payload parts kept (said ∷ []) None → RightInfo database n payload parts wanted told
+looked : (database : Database) (n : ℕ) (payload said : Payload) (parts : ℕ) (wanted : InfoCommand) (told : InfoSaid) (kept : Result InfoCommand Fault) → info_of said ≡ Ok told
+    → ((other : InfoCommand) → kept ≡ Ok other → other ≡ wanted) → InfoAt database n payload parts kept (said ∷ []) None → RightInfo database n payload parts wanted told
 looked database n payload said parts wanted told (Ok other) read same at =
-    subst (λ (w : Wanted). RightInfo database n payload parts w told) (same other refl) (right_of database n payload said parts other told read at)
+    subst (λ (w : InfoCommand). RightInfo database n payload parts w told) (same other refl) (right_of database n payload said parts other told read at)
 looked database n payload said parts wanted told (Err fault) read same at = absurd cc
 
-abbrev good : Wanted → Result Wanted Fault
+abbrev good : InfoCommand → Result InfoCommand Fault
 good wanted = Ok wanted
 
-short_same : (wanted other : Wanted) → short_enough wanted ≡ Ok other → other ≡ wanted
+short_same : (wanted other : InfoCommand) → short_enough wanted ≡ Ok other → other ≡ wanted
 short_same (rows_of text) other e = by (nat_le (length text) most_query_bytes) e
   where
     by : (short : Bool) → (demand short LimitReached >>= λ _. good (rows_of text)) ≡ Ok other → other ≡ rows_of text
@@ -137,32 +137,32 @@ short_same (rows_of text) other e = by (nat_le (length text) most_query_bytes) e
     by false e = absurd cc
 short_same list other e = cc
 
-rows_same : (wanted other : Wanted) → (only_rows wanted >>= short_enough) ≡ Ok other → other ≡ wanted
+rows_same : (wanted other : InfoCommand) → (only_rows wanted >>= short_enough) ≡ Ok other → other ≡ wanted
 rows_same (rows_of text) other e = short_same (rows_of text) other e
 rows_same list other e = cc
 
-list_same : (wanted other : Wanted) → (only_tables wanted >>= short_enough) ≡ Ok other → other ≡ wanted
+list_same : (wanted other : InfoCommand) → (only_tables wanted >>= short_enough) ≡ Ok other → other ≡ wanted
 list_same (rows_of text) other e = cc
 list_same list other e = short_same list other e
 
 -- an info that was answered by a step is right at the step's log
-pub info_right : (log : Log) (payload said : Payload) (parts : ℕ) (wanted : Wanted) (told : InfoSaid) (one : Asked) → (one ≡ info payload parts) ⊎ (one ≡ tables payload parts)
+pub info_right : (log : Log) (payload said : Payload) (parts : ℕ) (wanted : InfoCommand) (told : InfoSaid) (one : Asked) → (one ≡ info payload parts) ⊎ (one ≡ tables payload parts)
     → wanted_in payload ≡ Ok wanted → info_of said ≡ Ok told → (after : Log) → StepOn log one (whole (said ∷ [])) after → RightInfo (database_of log) (puts_in log) payload parts wanted told
 info_right log payload said parts wanted told one (inl is) wants read after step =
     let here : StepOn log (info payload parts) (whole (said ∷ [])) after = subst (λ (a : Asked). StepOn log a (whole (said ∷ [])) after) is step in
     looked (database_of log) (puts_in log) payload said parts wanted told (only_rows wanted >>= short_enough) read (rows_same wanted)
-    (subst (λ (w : Result Wanted Fault). InfoAt (database_of log) (puts_in log) payload parts ((w >>= only_rows) >>= short_enough) (said ∷ []) None) wants here.1)
+    (subst (λ (w : Result InfoCommand Fault). InfoAt (database_of log) (puts_in log) payload parts ((w >>= only_rows) >>= short_enough) (said ∷ []) None) wants here.1)
 info_right log payload said parts wanted told one (inr is) wants read after step =
     let here : StepOn log (tables payload parts) (whole (said ∷ [])) after = subst (λ (a : Asked). StepOn log a (whole (said ∷ [])) after) is step in
     looked (database_of log) (puts_in log) payload said parts wanted told (only_tables wanted >>= short_enough) read (list_same wanted)
-    (subst (λ (w : Result Wanted Fault). InfoAt (database_of log) (puts_in log) payload parts ((w >>= only_tables) >>= short_enough) (said ∷ []) None) wants here.1)
+    (subst (λ (w : Result InfoCommand Fault). InfoAt (database_of log) (puts_in log) payload parts ((w >>= only_tables) >>= short_enough) (said ∷ []) None) wants here.1)
 
 -- the last log goes on from the info's, at which the info is right
-record Right (last log : Log) (payload : Payload) (parts : ℕ) (wanted : Wanted) (told : InfoSaid) : Type 0 where
+record Right (last log : Log) (payload : Payload) (parts : ℕ) (wanted : InfoCommand) (told : InfoSaid) : Type 0 where
   grows : Begins log last
   right : RightInfo (database_of log) (puts_in log) payload parts wanted told
 
-informed_right : (asked : List Asked) (replies : List ReplyAt) (last log : Log) (wanted : Wanted) (handles : List HandleAt) → Run [] asked replies last
+informed_right : (asked : List Asked) (replies : List ReplyAt) (last log : Log) (wanted : InfoCommand) (handles : List HandleAt) → Run [] asked replies last
     → (i : Informed asked replies log wanted handles) → Right last log i.payload i.parts wanted i.told
 informed_right asked replies last log wanted handles run i = by i.event
   where

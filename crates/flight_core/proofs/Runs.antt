@@ -1,6 +1,6 @@
 -- Runs: cut, joined, and without a refused event.
 use Rattle.std.proofs.Common.{◌≡◌, ℕ, zero, suc, ◌+◌, ◌<◌, ◌≤◌, get_or, List, [], ◌∷◌, ◌++◌, length, map, take, drop, refl, sym, ap, subst, ◌∙◌, add-one, Option, None, Some, Result, Ok, Err}
-use Rattle.std.specs.Prelude.{IsOk}
+use Rattle.std.specs.Prelude.{IsOk, All}
 use Rattle.std.specs.List.{slice_get}
 use Rattle.std.proofs.lemmas.List.{take_more, take_all, map-append}
 use Rattle.scan_base.specs.declared.fault.Fault.{Fault}
@@ -10,11 +10,16 @@ use Rattle.flight_core.specs.Asked.{Asked, put, info, tables, schema, fetch, exp
 use Rattle.flight_info.specs.Replies.{ReplyAt}
 use Rattle.flight_core.specs.Event.{asked_in}
 use Rattle.table_versions.specs.Database.{Database, Put, after}
-use Rattle.version_log.specs.Log.{Log, added, puts_in, database_of, IsLog}
+use Rattle.version_log.specs.Log.{Log, added, puts_in, database_of, IsLog, puts_of}
 use Rattle.version_log.proofs.Logs.{is_log-added, is_log-expired}
 use Rattle.flight_core.specs.Machine.{PutStep, ExpireStep, StepOn, Run}
 use Rattle.flight_core.specs.Laws.{RefusalsLeaveNothing}
 use Rattle.flight_info.proofs.Results.{same_some}
+use Rattle.table_versions.specs.Valid.{IsPut}
+
+-- each put of a log comes with one column or more, and with rows of their types
+abbrev pub ArePuts : Log → Type 0
+ArePuts log = All IsPut (puts_of log)
 
 pub run_joins : (old : Log) (asked : List Asked) (replies : List ReplyAt) (mid : Log) (more : List Asked) (others : List ReplyAt) (new : Log)
     → Run old asked replies mid → Run mid more others new → Run old (asked ++ more) (replies ++ others) new

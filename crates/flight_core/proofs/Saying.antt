@@ -5,18 +5,18 @@ use Rattle.scan_base.specs.declared.fault.Fault.{Fault}
 use Rattle.scan_base.specs.declared.fault.Fault.TheVariants.{BadBatch}
 use Rattle.scan_base.specs.Reading.{◌>>=◌, wanted}
 use Rattle.scan_base.specs.Lists.{each}
-use Rattle.arrow_schema.specs.declared.schema.Schema.{Schema}
+use Rattle.arrow_types.specs.declared.schema.Schema.{Schema}
 use Rattle.flight_proto.specs.FlightData.{DataSaid, data_of}
 use Rattle.flight_proto.specs.Ingest.{IngestSaid, ingest_of}
 use Rattle.ipc_batch.specs.State.{Known, State}
 use Rattle.ipc_batch.specs.Laws.{SayOneThing}
-use Rattle.ipc_batch.specs.Said.{Sent, News, Rows, Says, rows_in, news_of, Follows}
+use Rattle.ipc_batch.specs.SaidRows.{Sent, News, Rows, Says, rows_in, news_of, Follows}
 use Rattle.ipc_batch.proofs.Lengths.{both}
 use Rattle.table_versions.specs.Database.{Put}
 use Rattle.endpoint_split.specs.Handle.{Query, Tables}
 use Rattle.sql_query.specs.Sentence.{Sentence}
 use Rattle.flight_info.specs.Payloads.{Payload, message_in}
-use Rattle.flight_info.specs.Meant.{result_over}
+use Rattle.flight_info.specs.QueryMeaning.{result_over}
 use Rattle.flight_info.proofs.Meaning.{one_sentence}
 use Rattle.fetch_stream.specs.Fetches.{HandlesMeanOne}
 use Rattle.flight_core.specs.Laws.{carries_message, PutSays, AnswersSayOneThing, SayPut, PutsAreSaid}

@@ -1,7 +1,7 @@
 -- What an operation stands for.
 use Rattle.std.proofs.Common.{◌≡◌, List, Result, sym, subst}
 use Rattle.scan_base.specs.declared.fault.Fault.{Fault}
-use Rattle.table_versions.specs.Stored.{PutAt, put_of}
+use Rattle.table_versions.specs.StoredTables.{PutAt, put_of}
 use Rattle.flight_info.specs.Payloads.{Payload}
 use Rattle.flight_core.specs.declared.operation.Operation.TheVariants as operation
 use Rattle.flight_core.specs.Asked.{Asked, put, info, tables, schema, fetch, expire}

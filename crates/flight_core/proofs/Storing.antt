@@ -3,13 +3,13 @@ use Rattle.std.proofs.Common.{◌≡◌, List, [], ◌∷◌, ◌++◌, All, IfO
 use Rattle.std.specs.Option.{option_map}
 use Rattle.std.proofs.lemmas.List.Elements.{All-cons, All-head, All-nil, All-push, All-tail, All-weaker}
 use Rattle.scan_base.specs.declared.fault.Fault.{Fault}
-use Rattle.arrow_schema.specs.declared.schema.Schema.{Schema}
+use Rattle.arrow_types.specs.declared.schema.Schema.{Schema}
 use Rattle.arrays.specs.Batch.{BatchAt}
-use Rattle.arrays.specs.Typed.{AreOfTypes}
+use Rattle.arrays.specs.TypedLayouts.{AreOfTypes}
 use Rattle.ipc_batch.specs.State.{Known, State}
-use Rattle.ipc_batch.specs.Said.{News, Sent, Tells, HasColumns, news_of}
+use Rattle.ipc_batch.specs.SaidRows.{News, Sent, Tells, HasColumns, news_of}
 use Rattle.ipc_batch.proofs.Messages.{Keeps, keeps}
-use Rattle.flight_core.specs.Stored.{MayBeStored, batches_in}
+use Rattle.flight_core.specs.StoredPayloads.{MayBeStored, batches_in}
 
 -- ---- batches after a schema
 

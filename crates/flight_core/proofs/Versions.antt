@@ -5,10 +5,10 @@ use Rattle.std.proofs.lemmas.List.{map-append, length-drop, drop-drop, drop-map,
 use Rattle.scan_base.specs.declared.fault.Fault.TheVariants.{LimitReached}
 use Rattle.scan_base.specs.Limits.{most_commits}
 use Rattle.scan_base.specs.Reading.{first_fault}
-use Rattle.table_versions.specs.Database.{Database, Put, after, accepted, after_all, database_of, table_at, with_table, table_after, put_faults}
+use Rattle.table_versions.specs.Database.{Database, Put, after, accepted, after_all, database_after, table_at, with_table, table_after, put_faults}
 use Rattle.version_log.specs.Log as logs
 use Rattle.version_log.specs.Log.{Log, added, expired, puts_of, puts_in, floor_of}
-use Rattle.table_versions.specs.Stored.{VersionAt, tables_of}
+use Rattle.table_versions.specs.StoredTables.{VersionAt, tables_of}
 use Rattle.table_versions.proofs.Accepted.{among, unrefused}
 use Rattle.table_versions.proofs.Databases.{logs_grow}
 use Rattle.version_log.proofs.Logs.{puts_of-added, puts_of-expired, floor_of-added, floor_of-expired}
@@ -39,10 +39,10 @@ versions_from-at old n (p ∷ ps) (suc k) lt =
     versions_from-at next (n + 1) ps k (omega arith) ∙ ap (λ m. Some (m, after_all next (n + 1) (take (suc k) ps))) (one_more n (suc k))
 
 -- the database after one put more
-database_of-more : (log : List Put) (put : Put) (new : Database) → after (database_of log) (length log) put ≡ Ok new → database_of (log ++ put ∷ []) ≡ new
+database_of-more : (log : List Put) (put : Put) (new : Database) → after (database_after log) (length log) put ≡ Ok new → database_after (log ++ put ∷ []) ≡ new
 database_of-more log put new e =
     let grown = logs_grow log put new e in
-    ap database_of (sym grown.0) ∙ grown.1
+    ap database_after (sym grown.0) ∙ grown.1
 
 versions_from-length : (old : Database) (n : ℕ) (log : List Put) → length (versions_from old n log) ≡ length log
 versions_from-length old n [] = refl
@@ -52,16 +52,16 @@ versions_of-length : (log : List Put) → length (versions_of log) ≡ suc (leng
 unfolding versions_of
 versions_of-length log = ap suc (versions_from-length [] 0 log)
 
-versions_of-more : (log : List Put) (put : Put) → versions_of (log ++ put ∷ []) ≡ versions_of log ++ (suc (length log), database_of (log ++ put ∷ [])) ∷ []
+versions_of-more : (log : List Put) (put : Put) → versions_of (log ++ put ∷ []) ≡ versions_of log ++ (suc (length log), database_after (log ++ put ∷ [])) ∷ []
 unfolding versions_of
 versions_of-more log put =
     ap (λ l. (0, []) ∷ l) (versions_from-more [] 0 log put
-    ∙ ap (λ m. versions_from [] 0 log ++ (m, database_of (log ++ put ∷ [])) ∷ []) (none_before (suc (length log))))
+    ∙ ap (λ m. versions_from [] 0 log ++ (m, database_after (log ++ put ∷ [])) ∷ []) (none_before (suc (length log))))
 
-versions_of-at : (log : List Put) (k : ℕ) → k ≤ length log → slice_get (versions_of log) k ≡ Some (k, database_of (take k log))
+versions_of-at : (log : List Put) (k : ℕ) → k ≤ length log → slice_get (versions_of log) k ≡ Some (k, database_after (take k log))
 unfolding versions_of
 versions_of-at log zero le = refl
-versions_of-at log (suc k) le = versions_from-at [] 0 log k (omega (arith, le)) ∙ ap (λ m. Some (m, database_of (take (suc k) log))) (none_before (suc k))
+versions_of-at log (suc k) le = versions_from-at [] 0 log k (omega (arith, le)) ∙ ap (λ m. Some (m, database_after (take (suc k) log))) (none_before (suc k))
 
 slice_get-drop : {X : Type 0} (k i : ℕ) (xs : List X) → slice_get (drop k xs) i ≡ slice_get xs (k + i)
 slice_get-drop zero i xs = let e : 0 + i ≡ i = omega arith in rw e refl
@@ -104,7 +104,7 @@ module _ (floor : ℕ) (kept : List (ℕ × Database)) (log : Log) (are : AreKep
       let within : low ≤ length (versions_of old) = omega (arith, are.there, versions_of-length old) in
       let versions : kept ++ (suc (puts_in log), new) ∷ [] ≡ drop low (versions_of (old ++ put ∷ [])) =
       ap (λ l. l ++ (suc (puts_in log), new) ∷ []) are.versions ∙ ap (λ d. drop low (versions_of old) ++ (suc (puts_in log), d) ∷ []) (sym (database_of-more old put new made))
-      ∙ sym (drop-append-le low (versions_of old) ((suc (length old), database_of (old ++ put ∷ [])) ∷ []) within) ∙ ap (drop low) (sym (versions_of-more old put)) in
+      ∙ sym (drop-append-le low (versions_of old) ((suc (length old), database_after (old ++ put ∷ [])) ∷ []) within) ∙ ap (drop low) (sym (versions_of-more old put)) in
       let more : low ≤ length (old ++ put ∷ []) = omega (arith, are.there, length-append old (put ∷ [])) in
       let few : length (old ++ put ∷ []) ≤ most_commits = omega (arith, few_before log put new made, length-append old (put ∷ [])) in
       record {

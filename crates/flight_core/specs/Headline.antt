@@ -1,19 +1,19 @@
 -- The headline: the streams of an info's handles, joined, are what was wanted at the info's log.
 use Rattle.std.specs.Prelude.{◌≡◌, ◌⊎◌, ◌≤◌, ℕ, List, [], ◌∷◌, take, Some, None, Ok, slice_get}
 use Rattle.std.specs.List.{flat_map}
-use Rattle.arrow_schema.specs.declared.schema.Schema.{Schema}
+use Rattle.arrow_types.specs.declared.schema.Schema.{Schema}
 use Rattle.endpoint_split.specs.Handle.{HandleAt}
-use Rattle.ipc_batch.specs.Said.{Rows}
+use Rattle.ipc_batch.specs.SaidRows.{Rows}
 use Rattle.table_versions.specs.Table.{Table}
 use Rattle.flight_info.specs.Payloads.{Payload, PayloadsSay}
 use Rattle.flight_core.specs.Asked.{Asked, info, tables, fetch}
 use Rattle.flight_info.specs.Replies.{ReplyAt, whole}
 use Rattle.flight_proto.specs.FlightInfo.{InfoSaid, info_of}
-use Rattle.flight_proto.specs.Wanted.{Wanted, wanted_in}
+use Rattle.flight_proto.specs.InfoCommand.{InfoCommand, wanted_in}
 use Rattle.version_log.specs.Log.{Log, puts_in, database_of, Begins}
 use Rattle.flight_info.specs.Infos.{handle_asked, handles_in, RightInfo}
 use Rattle.flight_core.specs.Machine.{FetchIn, Run}
-use Rattle.flight_info.specs.Meant.{Answers}
+use Rattle.flight_info.specs.QueryMeaning.{Answers}
 
 -- the items of two lists hold together, one by one
 abbrev pub Pairwise : {X Y : Type 0} → (X → Y → Type 0) → List X → List Y → Type 0
@@ -38,7 +38,7 @@ pub record Fetched (asked : List Asked) (replies : List ReplyAt) (handle : Handl
   pub says : PayloadsSay payloads schema rows
 
 -- an info was answered for what was wanted, at this log, by these handles
-pub record Informed (asked : List Asked) (replies : List ReplyAt) (log : Log) (wanted : Wanted)
+pub record Informed (asked : List Asked) (replies : List ReplyAt) (log : Log) (wanted : InfoCommand)
     (handles : List HandleAt) : Type 0 where
   pub place : ℕ
   pub payload : Payload
@@ -58,7 +58,8 @@ pub record Informed (asked : List Asked) (replies : List ReplyAt) (log : Log) (w
 -- the info was given.
 abbrev pub Headline : List Asked → List ReplyAt → Type 0
 Headline asked replies =
-    (log : Log) (wanted : Wanted) (handles : List HandleAt) (streams : List Rows) (answer : Table)
+    (log : Log) (wanted : InfoCommand) (handles : List HandleAt) (streams : List Rows)
+    (answer : Table)
     → Informed asked replies log wanted handles → Answers (database_of log) wanted answer
     → Pairwise (Fetched asked replies) handles streams
     → flat_map (λ rows. rows) streams ≡ answer.rows
@@ -90,7 +91,7 @@ pub record FetchedAt (told : Log) (handle : HandleAt) (rows : Rows) : Type 0 whe
 -- The same where the info and each fetch have a seat of their own, all of which learnt of one log
 -- that is no shorter than the info's, before or after they were answered.
 abbrev pub Joined : Type 0
-Joined = (told log : Log) (payload : Payload) (parts : ℕ) (wanted : Wanted) (given : InfoSaid)
+Joined = (told log : Log) (payload : Payload) (parts : ℕ) (wanted : InfoCommand) (given : InfoSaid)
     (handles : List HandleAt) (streams : List Rows) (answer : Table)
     → RightInfo (database_of log) (puts_in log) payload parts wanted given
     → Saw told log → puts_in log ≤ puts_in told

@@ -2,11 +2,11 @@
 use Rattle.std.specs.Prelude.{◌≡◌, ◌↔◌, ℕ, ◌+◌, ◌==◌, Bool, not, List, [], ◌∷◌, ◌++◌, length, map}
 use Rattle.std.specs.Prelude.{filter, take, drop, Some, Ok, slice_get}
 use Rattle.scan_base.specs.declared.fault.Fault.{Fault}
-use Rattle.arrow_schema.specs.declared.schema.Schema.{Schema}
+use Rattle.arrow_types.specs.declared.schema.Schema.{Schema}
 use Rattle.scan_base.specs.Lists.{each}
 use Rattle.flight_proto.specs.FlightData.{DataSaid, data_of}
 use Rattle.flight_proto.specs.Ingest.{IngestSaid, ingest_of}
-use Rattle.ipc_batch.specs.Said.{Rows, Says}
+use Rattle.ipc_batch.specs.SaidRows.{Rows, Says}
 use Rattle.table_versions.specs.Database.{Put}
 use Rattle.flight_info.specs.Payloads.{Payload, message_in, PayloadsSay}
 use Rattle.flight_core.specs.Puts.{put_made, put_said}

@@ -13,7 +13,7 @@ use Rattle.flight_core.specs.Asked.{Asked, put, info, tables, schema, fetch, exp
 use Rattle.flight_info.specs.Replies.{ReplyAt, refusal}
 use Rattle.version_log.specs.Log.{Log, added, expired, puts_in, floor_of, database_of, version}
 use Rattle.flight_core.specs.Puts.{put_glance, put_said}
-use Rattle.flight_core.specs.Shown.{handle_shown}
+use Rattle.flight_core.specs.ShownHandle.{handle_shown}
 use Rattle.fetch_stream.specs.Fetches.{version_of, FetchAt}
 use Rattle.fetch_stream.specs.Streams.{StreamAt, Opens}
 use Rattle.endpoint_split.specs.Handle.{HandleAt}

@@ -1,6 +1,6 @@
 -- What an operation asks, without where its bytes lie in memory.
 use Rattle.std.specs.Prelude.{◌≡◌}
-use Rattle.table_versions.specs.Stored.{put_of}
+use Rattle.table_versions.specs.StoredTables.{put_of}
 use Rattle.flight_core.specs.declared.operation.Operation.{Operation}
 use Rattle.flight_core.specs.declared.operation.Operation.TheVariants as operation
 use Rattle.flight_core.specs.Asked.{Asked, put, info, tables, schema, fetch, expire}

@@ -12,7 +12,7 @@ use Rattle.version_log.specs.Log.{Log, puts_in, Begins}
 use Rattle.flight_core.specs.Asked.{Asked, put, info, tables, schema, fetch, expire}
 use Rattle.flight_core.specs.Puts.{put_said}
 use Rattle.flight_core.specs.Machine.{ReplyTo}
-use Rattle.flight_core.specs.Placed.{Placed, placed}
+use Rattle.flight_core.specs.PlacedEntries.{Placed, placed}
 use Rattle.flight_core.specs.Seats.{Seat, Moves, AsksNone}
 
 -- a put or an expiry that was read may go by another log than the seat's; all else by one that

@@ -7,7 +7,7 @@ use Rattle.scan_base.specs.Reading.{RefusesFirst}
 use Rattle.table_versions.specs.Database.{Put, after}
 use Rattle.version_log.specs.Expiry.{IsExpired}
 use Rattle.version_log.specs.Log.{Log, added, expired, puts_in, database_of, Begins}
-use Rattle.flight_core.specs.Placed.{Placed, placed}
+use Rattle.flight_core.specs.PlacedEntries.{Placed, placed}
 
 -- the log that the seat has seen, its looks, the entries that it made, each with its place in the
 -- log, and how often it asked what others have done

@@ -3,7 +3,7 @@ use Rattle.std.specs.Prelude.{◌≡◌, ◌≤◌, ℕ, ◌+◌, List, [], ◌�
 use Rattle.scan_base.specs.Limits.{most_commits}
 use Rattle.table_versions.specs.Database.{Database, Put, after, accepted}
 use Rattle.version_log.specs.Log.{Log, puts_of, puts_in, floor_of}
-use Rattle.table_versions.specs.Stored.{VersionAt, tables_of}
+use Rattle.table_versions.specs.StoredTables.{VersionAt, tables_of}
 
 -- the database after each of these puts, and how many were accepted up to it, where n were before
 -- them

@@ -15,7 +15,7 @@ pub trait Backend {
     ghost use Rattle.scan_base.specs.declared.fault.Fault.TheVariants.{OutOfMemory, VersionExpired};
     ghost use Rattle.scan_base.specs.declared.fault.Fault.TheVariants.{VersionUnknown};
     ghost use Rattle.table_versions.specs.Database as database;
-    ghost use Rattle.table_versions.specs.Stored.{put_of, tables_of};
+    ghost use Rattle.table_versions.specs.StoredTables.{put_of, tables_of};
     ghost use Rattle.version_log.specs.Log.{Log, puts_in, floor_of, database_of, version};
     ghost use Rattle.flight_core.specs.Seats.{Seat, AsksNone, AsksOnce, Expires, Learns, LooksOnce};
     ghost use Rattle.flight_core.specs.Seats.{MayLook, Puts};
@@ -147,16 +147,16 @@ impl Times {
 }
 
 /// The versions of a connection that shares them with none.
-pub struct Alone {
+pub struct PlainBackend {
     plain: Plain,
     looks: Times,
     asks: Times,
 }
 
 // Written out, so that dropping it is one call (docs/DECISIONS.md).
-impl Drop for Alone {
+impl Drop for PlainBackend {
     fn drop(self) {
-        let Alone {
+        let PlainBackend {
             plain: _,
             looks: _,
             asks: _,
@@ -164,7 +164,7 @@ impl Drop for Alone {
     }
 }
 
-impl Model for Alone {
+impl Model for PlainBackend {
     ghost use Rattle.flight_core.specs.Seats.{Seat, lone_seat};
 
     ghost Value = { Seat };
@@ -172,14 +172,14 @@ impl Model for Alone {
     ghost view = { λ a. lone_seat a.plain a.looks a.asks };
 }
 
-impl Alone {
+impl PlainBackend {
     ghost use Rattle.flight_core.specs.Seats.{seat_of};
 
     /// Those of a log, at which no look was made. Nobody was asked.
-    pub fn new(plain: Plain) -> Alone
+    pub fn new(plain: Plain) -> PlainBackend
         ensures { result ≡ seat_of plain 0 }
     {
-        Alone {
+        PlainBackend {
             plain,
             looks: Times::none(),
             asks: Times::none(),
@@ -187,7 +187,7 @@ impl Alone {
     }
 }
 
-impl Backend for Alone {
+impl Backend for PlainBackend {
     ghost use Rattle.std.specs.Prelude.{refl, true};
     ghost use Rattle.std.proofs.Common.{◌∙◌};
     ghost use Rattle.table_versions.specs.Valid.{IsPut};

@@ -6,22 +6,22 @@
 
 pub mod answer;
 pub mod backend;
-pub mod collected;
 pub mod event;
 pub mod laws;
 pub mod machine;
 pub mod operation;
+pub mod payload_collector;
 mod payloads;
 pub mod plain;
 pub mod put;
 pub mod steps;
 
 pub use crate::answer::Answer;
-pub use crate::backend::{Alone, Backend};
-pub use crate::collected::{answer_fetch, collect};
+pub use crate::backend::{Backend, PlainBackend};
 pub use crate::event::Event;
 pub use crate::machine::{reply_to, run};
 pub use crate::operation::Operation;
+pub use crate::payload_collector::{answer_fetch, collect};
 pub use crate::plain::Plain;
 pub use crate::put::{PutReader, read_put};
 pub use crate::steps::step;

@@ -10,20 +10,19 @@ ghost use Rattle.flight_core.specs.Headline.{Headline};
 ghost use Rattle.flight_core.specs.Laws.{RefusedLeaveNothing};
 ghost use Rattle.flight_core.specs.Machine.{Run};
 ghost use Rattle.flight_core.specs.Operation.{StandsFor};
-ghost use Rattle.flight_core.specs.Placed.{log_in};
+ghost use Rattle.flight_core.specs.PlacedEntries.{log_in};
 ghost use Rattle.flight_core.specs.Reacts.{Reacts};
 
-use crate::backend::{Alone, Backend};
-use crate::collected::collect;
+use crate::backend::{Backend, PlainBackend};
 use crate::event::Event;
 use crate::operation::Operation;
+use crate::payload_collector::collect;
 use crate::plain::Plain;
 use crate::put::read_put;
 use crate::steps::step;
 use fetch_stream::Executor;
 use flight_info::Reply;
-use hash_seed::HashSeed;
-use scan_base::Fault;
+use scan_base::{Fault, HashSeed};
 use std::alloc::Global;
 
 // What an event asks. The payloads of a put are read.
@@ -107,7 +106,7 @@ pub fn run<X: Executor>(
     // There are no replies only for want of memory.
     ensures err { IfErr result (λ fault. fault ≡ OutOfMemory) }
 {
-    let mut backend = Alone::new(Plain::new(alloc, seed)?);
+    let mut backend = PlainBackend::new(Plain::new(alloc, seed)?);
     let mut replies = Vec::new(alloc);
     for event in events {
         let reply = reply_to(alloc, executor, &mut backend, event)?;

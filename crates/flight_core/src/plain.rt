@@ -9,11 +9,10 @@ ghost use Rattle.scan_base.specs.declared.fault.Fault.TheVariants.{VersionUnknow
 ghost use Rattle.version_log.specs.Expiry.{IsExpired};
 ghost use Rattle.version_log.specs.Log.{added, puts_in, floor_of, database_of, version};
 ghost use Rattle.table_versions.specs.Database.{after};
-ghost use Rattle.table_versions.specs.Stored.{put_of, tables_of};
+ghost use Rattle.table_versions.specs.StoredTables.{put_of, tables_of};
 ghost use Rattle.table_versions.specs.Valid.{IsPut};
 
-use hash_seed::HashSeed;
-use scan_base::Fault;
+use scan_base::{Fault, HashSeed};
 use std::alloc::Global;
 use std::marker::Model;
 use std::sync::Arc;

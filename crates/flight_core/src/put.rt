@@ -6,13 +6,13 @@ ghost use Rattle.scan_base.specs.declared.fault.Fault.{Fault};
 ghost use Rattle.scan_base.specs.Reading.{Gives, GivesUnlessMemory, RefusesFirst};
 ghost use Rattle.flight_proto.specs.Ingest.{ingest_of};
 ghost use Rattle.arrays.specs.Batch.{BatchAt};
-ghost use Rattle.table_versions.specs.Stored.{put_of};
+ghost use Rattle.table_versions.specs.StoredTables.{put_of};
 ghost use Rattle.flight_info.specs.Payloads.{Payload};
 ghost use Rattle.flight_core.specs.Puts.{news_in_payload, message_glance, first_glance, put_glance};
 ghost use Rattle.flight_core.specs.Puts.{put_said};
 ghost use Rattle.flight_core.specs.Refusals.{GivesBehind};
-ghost use Rattle.flight_core.specs.Stored.{MayBeStored, batches_in};
-ghost use Rattle.flight_core.specs.Arriving.{BegunAt, begun_by, after_payload, glance_next};
+ghost use Rattle.flight_core.specs.StoredPayloads.{MayBeStored, batches_in};
+ghost use Rattle.flight_core.specs.Arriving.{StartedPutAt, begun_by, after_payload, glance_next};
 ghost use Rattle.flight_core.specs.Arriving.{said_next, whole_put, put_from, HasRead};
 
 use arrays::Batch;
@@ -59,7 +59,7 @@ fn read_payload(alloc: Global, reader: &mut Reader, payload: &Bytes) -> Result<O
 
 // A put whose command was read: its options, and what its payloads tell.
 #[derive(Drop)]
-struct Begun {
+struct StartedPut {
     table: Text,
     if_not_exist: IfNotExist,
     if_exists: IfExists,
@@ -67,13 +67,13 @@ struct Begun {
     batches: Vec<MeasuredBatch>,
 }
 
-impl Model for Begun {
+impl Model for StartedPut {
     ghost use Rattle.std.specs.List.{flat_map};
     ghost use Rattle.arrays.specs.Batch.{rows_of};
-    ghost use Rattle.flight_core.specs.Stored.{MayBeStored};
-    ghost use Rattle.flight_core.specs.Arriving.{BegunAt};
+    ghost use Rattle.flight_core.specs.StoredPayloads.{MayBeStored};
+    ghost use Rattle.flight_core.specs.Arriving.{StartedPutAt};
 
-    ghost Value = { BegunAt };
+    ghost Value = { StartedPutAt };
 
     ghost view = { λ b. record {
       ingest = record { table = b.table; if_not_exist = b.if_not_exist; if_exists = b.if_exists };
@@ -83,13 +83,13 @@ impl Model for Begun {
     ghost invariant = { λ b. MayBeStored b.reader b.batches.items };
 }
 
-impl Begun {
+impl StartedPut {
     // A put with the command of its first payload. No message was read.
-    fn new(alloc: Global, first: &Bytes) -> Result<Begun, Fault>
+    fn new(alloc: Global, first: &Bytes) -> Result<StartedPut, Fault>
         ensures { GivesBehind (ingest_of first.now) (λ begun. begun) result (begun_by first.now) }
     {
         let ingest = read_ingest(first.as_slice())?;
-        Ok(Begun {
+        Ok(StartedPut {
             table: Text::new(alloc, ingest.table)?,
             if_not_exist: ingest.if_not_exist,
             if_exists: ingest.if_exists,
@@ -99,11 +99,11 @@ impl Begun {
     }
 
     // A put with what its first payload says.
-    fn first(alloc: Global, payload: &Bytes) -> Result<Begun, Fault>
+    fn first(alloc: Global, payload: &Bytes) -> Result<StartedPut, Fault>
         ensures { GivesBehind (first_glance payload.now) (λ begun. Some begun) result
             (said_next None payload.now) }
     {
-        let Ok(mut first) = Begun::new(alloc, payload) else {
+        let Ok(mut first) = StartedPut::new(alloc, payload) else {
             read_ingest(payload.as_slice())?;
             glance(alloc, &Reader::new(), payload.as_slice())?;
             return Err(Fault::OutOfMemory);
@@ -125,21 +125,21 @@ impl Begun {
 }
 
 // Reads the next payload of a put: the first one has its command.
-fn read_next(alloc: Global, begun: &mut Option<Begun>, payload: &Bytes) -> Result<(), Fault>
+fn read_next(alloc: Global, begun: &mut Option<StartedPut>, payload: &Bytes) -> Result<(), Fault>
     ensures { GivesBehind (glance_next begun.old payload.now) (λ _. begun.new) result
         (said_next begun.old payload.now) }
 {
     match begun {
         Some(begun) => begun.push(alloc, payload),
         None => {
-            *begun = Some(Begun::first(alloc, payload)?);
+            *begun = Some(StartedPut::first(alloc, payload)?);
             Ok(())
         }
     }
 }
 
 // The put, where no payload follows: F5 where none came, and F8 where no schema did.
-fn whole_put(begun: Option<Begun>) -> Result<Put, Fault>
+fn whole_put(begun: Option<StartedPut>) -> Result<Put, Fault>
     ensures { Gives put_of result (whole_put begun) }
 {
     let Some(begun) = begun else {
@@ -164,15 +164,15 @@ fn whole_put(begun: Option<Begun>) -> Result<Put, Fault>
 /// A contract sees what the payloads say so far, or the first fault.
 #[derive(Drop)]
 pub struct PutReader {
-    begun: Result<Option<Begun>, Fault>,
+    begun: Result<Option<StartedPut>, Fault>,
 }
 
 impl Model for PutReader {
     ghost use Rattle.std.specs.Prelude.{Option, Result};
     ghost use Rattle.scan_base.specs.declared.fault.Fault.{Fault};
-    ghost use Rattle.flight_core.specs.Arriving.{BegunAt};
+    ghost use Rattle.flight_core.specs.Arriving.{StartedPutAt};
 
-    ghost Value = { Result (Option BegunAt) Fault };
+    ghost Value = { Result (Option StartedPutAt) Fault };
 
     ghost view = { λ r. r.begun };
 }
@@ -190,7 +190,7 @@ impl PutReader {
     pub fn push(&mut self, alloc: Global, payload: &Bytes)
         ensures read { (payloads : List Payload) → HasRead payloads self.old
             → HasRead (payloads ++ payload.now ∷ []) self.new }
-        ensures first { (begun : Option BegunAt) → self.old ≡ Ok begun
+        ensures first { (begun : Option StartedPutAt) → self.old ≡ Ok begun
             → IfErr (glance_next begun payload.now) (λ fault. self.new ≡ Err fault) }
         ensures kept { (fault : Fault) → self.old ≡ Err fault → self.new ≡ Err fault }
     {

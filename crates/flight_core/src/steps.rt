@@ -4,17 +4,17 @@ ghost use Rattle.std.specs.Prelude.{◌≡◌, ◌≢◌, ◌≤◌, ◌<◌, �
 ghost use Rattle.std.specs.Prelude.{IfOk, IfErr, IsOk};
 ghost use Rattle.scan_base.specs.declared.fault.Fault.TheVariants.{OutOfMemory, VersionExpired};
 ghost use Rattle.scan_base.specs.declared.fault.Fault.TheVariants.{VersionUnknown};
-ghost use Rattle.endpoint_split.specs.Seen.{handle_seen};
-ghost use Rattle.table_versions.specs.Stored.{put_of, tables_of};
+ghost use Rattle.endpoint_split.specs.HandleView.{handle_seen};
+ghost use Rattle.table_versions.specs.StoredTables.{put_of, tables_of};
 ghost use Rattle.flight_info.specs.Infos.{handle_asked, rows_wanted, tables_wanted, schema_wanted};
 ghost use Rattle.flight_info.specs.Payloads.{Payload};
 ghost use Rattle.fetch_stream.specs.Fetches as fetches;
 ghost use Rattle.version_log.specs.Log.{puts_of, puts_in, floor_of, version};
-ghost use Rattle.flight_core.specs.Answered.{ReactsBy, HasVersion, FitsMessages, fault_in};
+ghost use Rattle.flight_core.specs.StepAnswer.{ReactsBy, HasVersion, FitsMessages, fault_in};
 ghost use Rattle.flight_core.specs.Asked.{Asked, put, info, tables, schema, fetch, expire};
 ghost use Rattle.flight_core.specs.Machine.{OpensIn, AsShown, FetchShown};
 ghost use Rattle.flight_core.specs.Operation.{StandsFor};
-ghost use Rattle.flight_core.specs.Placed.{log_in};
+ghost use Rattle.flight_core.specs.PlacedEntries.{log_in};
 ghost use Rattle.flight_core.specs.Puts.{put_glance, put_said};
 ghost use Rattle.flight_core.specs.Reacts.{IsBeyond};
 ghost use Rattle.flight_core.specs.Refusals.{GivesBehind, RefusedBy};
@@ -27,7 +27,7 @@ use crate::payloads::put_answer;
 use endpoint_split::Handle;
 use fetch_stream::{Opening, read_ticket, version_of};
 use flight_info::{Reply, answer_info, answer_schema, answer_tables};
-use flight_proto::{Wanted, read_expiry, read_wanted};
+use flight_proto::{InfoCommand, read_expiry, read_wanted};
 use scan_base::Fault;
 use sql_text::MOST_BYTES;
 use std::alloc::Global;
@@ -140,9 +140,9 @@ fn unread_info(payload: &[u8]) -> Fault
     ensures { RefusedBy (rows_wanted payload.now) result }
 {
     match read_wanted(payload) {
-        Ok(Wanted::Rows(text)) if text.len() > MOST_BYTES => Fault::LimitReached,
-        Ok(Wanted::Rows(_)) => Fault::OutOfMemory,
-        Ok(Wanted::Tables) => Fault::UnknownCommand,
+        Ok(InfoCommand::Rows(text)) if text.len() > MOST_BYTES => Fault::LimitReached,
+        Ok(InfoCommand::Rows(_)) => Fault::OutOfMemory,
+        Ok(InfoCommand::Tables) => Fault::UnknownCommand,
         Err(fault) => fault,
     }
 }
@@ -152,8 +152,8 @@ fn unread_tables(payload: &[u8]) -> Fault
     ensures { RefusedBy (tables_wanted payload.now) result }
 {
     match read_wanted(payload) {
-        Ok(Wanted::Rows(_)) => Fault::UnknownCommand,
-        Ok(Wanted::Tables) => Fault::OutOfMemory,
+        Ok(InfoCommand::Rows(_)) => Fault::UnknownCommand,
+        Ok(InfoCommand::Tables) => Fault::OutOfMemory,
         Err(fault) => fault,
     }
 }
@@ -163,7 +163,7 @@ fn unread_schema(payload: &[u8]) -> Fault
     ensures { RefusedBy (schema_wanted payload.now) result }
 {
     match read_wanted(payload) {
-        Ok(Wanted::Rows(text)) if text.len() > MOST_BYTES => Fault::LimitReached,
+        Ok(InfoCommand::Rows(text)) if text.len() > MOST_BYTES => Fault::LimitReached,
         Ok(_) => Fault::OutOfMemory,
         Err(fault) => fault,
     }

@@ -8,25 +8,25 @@ use Rattle.scan_base.specs.Limits.{most_endpoints, most_message_bytes, most_quer
 use Rattle.scan_base.specs.Reading.{demand, RefusesFirst}
 use Rattle.flatbuf.specs.Block.{little, padded}
 use Rattle.flatbuf.proofs.Standing.{length-little}
-use Rattle.arrow_schema.specs.Written.{encapsulated}
+use Rattle.arrow_schema.specs.WrittenHeader.{encapsulated}
 use Rattle.arrow_schema.proofs.Framed.{length_header}
 use Rattle.endpoint_split.specs.declared.ranges.Range.{Range}
 use Rattle.endpoint_split.specs.Handle.{HandleAt, Query, Tables, IsHandle}
 use Rattle.endpoint_split.specs.Split.{count_of, range_at, first_ranges, ranges_of, IsPartition}
 use Rattle.endpoint_split.proofs.Cuts.{ranges_are_partition}
 use Rattle.proto_wire.specs.Calls.{chunk_entry}
-use Rattle.proto_wire.specs.Writing.{spelling}
-use Rattle.flight_proto.specs.Wanted.{rows_of, tables}
-use Rattle.flight_proto.specs.Wrapped.{wrapped_bytes}
+use Rattle.proto_wire.specs.Writing.{field_spelling}
+use Rattle.flight_proto.specs.InfoCommand.{rows_of, tables}
+use Rattle.flight_proto.specs.WrappedBytes.{wrapped_bytes}
 use Rattle.sql_query.specs.Sentence.{is_grouped}
 use Rattle.table_versions.specs.Database.{Database}
 use Rattle.typed_plan.specs.Plan.{PlanAt}
-use Rattle.flight_info.specs.Meant.{first_rows, result_over}
-use Rattle.flight_info.specs.Planned.{IsPlanned}
+use Rattle.flight_info.specs.QueryMeaning.{first_rows, result_over}
+use Rattle.flight_info.specs.QueryPlan.{IsPlanned}
 use Rattle.flight_info.specs.Tables.{tables_schema, tables_listed}
 use Rattle.flight_info.specs.Forms.{IsSchemaForm}
 use Rattle.flight_info.specs.Infos.{ranges_over, ranges_asked}
-use Rattle.flight_info.specs.inside.Described.{ticket_bytes, text_in, most_form_bytes, HasForm, Describes}
+use Rattle.flight_info.specs.inside.InfoParts.{ticket_bytes, text_in, most_form_bytes, HasForm, Describes}
 use Rattle.flight_info.proofs.Sizes.{short_chunk, short_set}
 
 -- ---- a schema in IPC form
@@ -48,7 +48,7 @@ form_small header form short framed = omega (arith, ap length framed, form_len h
 pub result_fits : (form payload : List ℕ) → payload ≡ wrapped_bytes form → length form ≤ most_form_bytes → length payload ≤ most_message_bytes
 result_fits form payload is small =
     let first = chunk_entry 1 form in
-    omega (arith, small, ap length is, short_set (first ∷ []), length-append (spelling first) [], short_chunk 1 form)
+    omega (arith, small, ap length is, short_set (first ∷ []), length-append (field_spelling first) [], short_chunk 1 form)
 
 -- ---- handles
 

@@ -7,29 +7,29 @@ use Rattle.std.proofs.lemmas.Bool.{lt-ltb}
 use Rattle.flatbuf.specs.Place.{TableAt, VectorAt, field_of, table_of, element_of}
 use Rattle.flatbuf.specs.Layout.{Stands}
 use Rattle.flatbuf.specs.Block.{Given, Absent, Number, Offset, IsWhole, AreWhole, table_part, tables_part, buffer_of}
-use Rattle.flatbuf.specs.Written.{table_at, SlotReads}
+use Rattle.flatbuf.specs.WrittenTables.{table_at, SlotReads}
 use Rattle.flatbuf.specs.Fits.{FitsTable}
 use Rattle.flatbuf.proofs.Written.{vtable_reads, table_reads}
 use Rattle.flatbuf.proofs.Lengths.{whole_table, whole_text, whole_tables}
 use Rattle.flatbuf.proofs.Led.{led_table, led_vector, Elements, absent_table, buffer_reads}
+use Rattle.arrow_types.specs.declared.data_type.IntegerType.{IntegerType}
+use Rattle.arrow_types.specs.declared.data_type.DataType.{DataType}
+use Rattle.arrow_types.specs.declared.data_type.DataType.TheVariants.{Integer, Utf8, Bool as Flags, Decimal128, Date, Dictionary}
+use Rattle.arrow_types.specs.declared.data_type.DictionaryEncoding.{DictionaryEncoding}
+use Rattle.arrow_types.specs.declared.schema.Field.{Field}
+use Rattle.arrow_types.specs.declared.schema.Schema.{Schema}
+use Rattle.arrow_types.specs.DataType.{bit_width, is_signed}
+use Rattle.arrow_types.specs.Schema.{IsField, IsSchema}
 use Rattle.arrow_schema.specs.declared.header.HeaderKind.TheVariants as header
-use Rattle.arrow_schema.specs.declared.data_type.IntegerType.{IntegerType}
-use Rattle.arrow_schema.specs.declared.data_type.DataType.{DataType}
-use Rattle.arrow_schema.specs.declared.data_type.DataType.TheVariants.{Integer, Utf8, Bool as Flags, Decimal128, Date, Dictionary}
-use Rattle.arrow_schema.specs.declared.data_type.DictionaryEncoding.{DictionaryEncoding}
-use Rattle.arrow_schema.specs.declared.schema.Field.{Field}
-use Rattle.arrow_schema.specs.declared.schema.Schema.{Schema}
-use Rattle.arrow_schema.specs.DataType.{bit_width, is_signed}
 use Rattle.arrow_schema.specs.Fields.{table_wanted, vector_wanted}
 use Rattle.arrow_schema.specs.Header.{schema_in, schema_message_of, schema_of}
-use Rattle.arrow_schema.specs.Schema.{IsField, IsSchema}
 use Rattle.arrow_schema.specs.Message.{message_part}
-use Rattle.arrow_schema.specs.Written.{flag, integer_part, type_part, dictionary_part, dictionary_given, field_slots, field_part, schema_part, schema_bytes, encapsulated}
+use Rattle.arrow_schema.specs.WrittenHeader.{flag, integer_part, type_part, dictionary_part, dictionary_given, field_slots, field_part, schema_part, schema_bytes, encapsulated}
 use Rattle.arrow_schema.proofs.Messages.{short_message, fits_message, messages_read}
 use Rattle.arrow_schema.proofs.Again.{fits_dictionary, fits_field, fits_fields, fits_schema, whole_schema, short_schema, schemas_read}
 use Rattle.ipc_batch.specs.Parts.{body_claimed}
 use Rattle.ipc_batch.specs.State.{Known}
-use Rattle.ipc_batch.specs.Said.{schema_sent, news_of}
+use Rattle.ipc_batch.specs.SaidRows.{schema_sent, news_of}
 use Rattle.flight_info.specs.Forms.{EndsAt, IsPlainField, IsPlain, IsSchemaForm}
 
 -- ---- tables

@@ -12,7 +12,7 @@ use Rattle.endpoint_split.specs.Handle.{HandleAt, Query, Tables, handle_bytes, I
 use Rattle.endpoint_split.proofs.Tickets.{reads_back}
 use Rattle.proto_wire.specs.Standard.{Entry}
 use Rattle.proto_wire.specs.Calls.{varint_entry, chunk_entry}
-use Rattle.proto_wire.specs.Writing.{spelling}
+use Rattle.proto_wire.specs.Writing.{field_spelling}
 use Rattle.flight_proto.specs.Any.{any_bytes}
 use Rattle.flight_proto.specs.Command.{command_of}
 use Rattle.flight_proto.specs.FlightDescriptor.{DescriptorSaid, descriptor_of}
@@ -20,13 +20,13 @@ use Rattle.flight_proto.specs.FlightInfo.{EndpointSaid, InfoSaid, info_of, info_
 use Rattle.flight_proto.specs.Laws.{IsEndpoint, IsInfo}
 use Rattle.flight_proto.specs.Message.{bool_number, set_fields, spelled}
 use Rattle.flight_proto.specs.Ticket.{handle_any, statement_ticket_bytes}
-use Rattle.flight_proto.specs.Wanted.{Wanted, wanted_in, wanted_by}
-use Rattle.flight_proto.specs.Wrapped.{wrapped_bytes}
+use Rattle.flight_proto.specs.InfoCommand.{InfoCommand, wanted_in, wanted_by}
+use Rattle.flight_proto.specs.WrappedBytes.{wrapped_bytes}
 use Rattle.flight_proto.proofs.InfoBack.{info_back}
 use Rattle.flight_proto.proofs.ReadsBack.{fields_back, set_writable, chunk_writable, statement_ticket_back}
 use Rattle.table_versions.specs.Database.{Database}
 use Rattle.flight_info.specs.Payloads.{Payload}
-use Rattle.flight_info.specs.inside.Described.{ticket_bytes, text_in, Describes}
+use Rattle.flight_info.specs.inside.InfoParts.{ticket_bytes, text_in, Describes}
 use Rattle.flight_info.specs.Infos.{endpoint_at, handle_asked, RightInfo}
 use Rattle.flight_info.proofs.Sizes.{short_chunk, short_number, short_set}
 
@@ -47,11 +47,11 @@ any_len handle =
     omega (
       arith,
       short_set (inner ∷ []),
-      length-append (spelling inner) [],
+      length-append (field_spelling inner) [],
       short_chunk 1 handle,
       short_set (url ∷ value ∷ []),
-      length-append (spelling url) (spelled (value ∷ [])),
-      length-append (spelling value) [],
+      length-append (field_spelling url) (spelled (value ∷ [])),
+      length-append (field_spelling value) [],
       short_chunk 1 any.type_url,
       short_chunk 2 (wrapped_bytes handle),
     )
@@ -59,7 +59,7 @@ any_len handle =
 ticket_len : (handle : List ℕ) → length (statement_ticket_bytes handle) ≤ 160 + length handle
 ticket_len handle =
     let outer = chunk_entry 1 (any_bytes (handle_any handle)) in
-    omega (arith, any_len handle, short_set (outer ∷ []), length-append (spelling outer) [], short_chunk 1 (any_bytes (handle_any handle)))
+    omega (arith, any_len handle, short_set (outer ∷ []), length-append (field_spelling outer) [], short_chunk 1 (any_bytes (handle_any handle)))
 
 -- as many bytes as a ticket has
 abbrev most_ticket_bytes : ℕ
@@ -120,11 +120,11 @@ pub record IsRequest (payload : Payload) : Type 0 where
   pub descriptor : DescriptorSaid
   pub reads : descriptor_of payload ≡ Ok descriptor
 
-pub request_is : (payload : Payload) (wanted : Wanted) → wanted_in payload ≡ Ok wanted → IsRequest payload
+pub request_is : (payload : Payload) (wanted : InfoCommand) → wanted_in payload ≡ Ok wanted → IsRequest payload
 unfolding wanted_in
 request_is payload wanted e = by (nat_le (length payload) most_request_bytes) refl e
   where
-    then : DescriptorSaid → Result Wanted Fault
+    then : DescriptorSaid → Result InfoCommand Fault
     then descriptor = command_of (Some descriptor) >>= wanted_by
 
     read : (said : Result DescriptorSaid Fault) → descriptor_of payload ≡ said → length payload ≤ most_request_bytes → (said >>= then) ≡ Ok wanted → IsRequest payload
@@ -137,7 +137,7 @@ request_is payload wanted e = by (nat_le (length payload) most_request_bytes) re
 
 -- ---- the info
 
-module _ (database : Database) (n parts : ℕ) (wanted : Wanted) (form : List ℕ) (tickets : List (List ℕ)) (told : Describes database n parts wanted form tickets)
+module _ (database : Database) (n parts : ℕ) (wanted : InfoCommand) (form : List ℕ) (tickets : List (List ℕ)) (told : Describes database n parts wanted form tickets)
     (payload : Payload) (asked : IsRequest payload) where
   abbrev made : InfoSaid
   made = info_with form payload tickets
@@ -173,12 +173,12 @@ module _ (database : Database) (n parts : ℕ) (wanted : Wanted) (form : List �
 
   spelled_both : (one other : List Entry) → length (spelled (one ++ other)) ≡ length (spelled one) + length (spelled other)
   spelled_both [] other = omega arith
-  spelled_both (entry ∷ one) other = omega (arith, spelled_both one other, length-append (spelling entry) (spelled (one ++ other)), length-append (spelling entry) (spelled one))
+  spelled_both (entry ∷ one) other = omega (arith, spelled_both one other, length-append (field_spelling entry) (spelled (one ++ other)), length-append (field_spelling entry) (spelled one))
 
-  endpoint_len : (handle : HandleAt) → length (text_in handle) ≤ most_query_bytes → length (spelling (endpoint_field (ticket_bytes handle))) ≤ 17100
+  endpoint_len : (handle : HandleAt) → length (text_in handle) ≤ most_query_bytes → length (field_spelling (endpoint_field (ticket_bytes handle))) ≤ 17100
   endpoint_len handle short =
       let ticket = chunk_entry 1 (ticket_bytes handle) in
-      omega (arith, short_ticket handle short, short_chunk 1 (ticket_bytes handle), length-append (spelling ticket) [], short_chunk 3 (spelled (ticket ∷ [])))
+      omega (arith, short_ticket handle short, short_chunk 1 (ticket_bytes handle), length-append (field_spelling ticket) [], short_chunk 3 (spelled (ticket ∷ [])))
 
   endpoints_len : (handles : List HandleAt) → All (λ (handle : HandleAt). length (text_in handle) ≤ most_query_bytes) handles
       → length (spelled (map (λ (endpoint : EndpointSaid). endpoint_field endpoint.ticket) (map endpoint_of (map ticket_bytes handles)))) ≤ 17100 * length handles
@@ -186,7 +186,7 @@ module _ (database : Database) (n parts : ℕ) (wanted : Wanted) (form : List �
   endpoints_len (handle ∷ handles) short =
       let few = λ (handle : HandleAt). length (text_in handle) ≤ most_query_bytes in
       let rest = map (λ (endpoint : EndpointSaid). endpoint_field endpoint.ticket) (map endpoint_of (map ticket_bytes handles)) in
-      omega (arith, endpoint_len handle (All-head few handle handles short), endpoints_len handles (All-tail few handle handles short), length-append (spelling (endpoint_field (ticket_bytes handle))) (spelled rest))
+      omega (arith, endpoint_len handle (All-head few handle handles short), endpoints_len handles (All-tail few handle handles short), length-append (field_spelling (endpoint_field (ticket_bytes handle))) (spelled rest))
 
   totals_len : length (spelled (totals (negsuc 0) (negsuc 0) true)) ≤ 60
   totals_len =
@@ -196,9 +196,9 @@ module _ (database : Database) (n parts : ℕ) (wanted : Wanted) (form : List �
       omega (
         arith,
         short_set (records ∷ bytes ∷ ordered ∷ []),
-        length-append (spelling records) (spelled (bytes ∷ ordered ∷ [])),
-        length-append (spelling bytes) (spelled (ordered ∷ [])),
-        length-append (spelling ordered) [],
+        length-append (field_spelling records) (spelled (bytes ∷ ordered ∷ [])),
+        length-append (field_spelling bytes) (spelled (ordered ∷ [])),
+        length-append (field_spelling ordered) [],
         short_number 4 (cast_unsigned w64 (negsuc 0)),
         short_number 5 (cast_unsigned w64 (negsuc 0)),
         short_number 6 (bool_number true),
@@ -220,10 +220,10 @@ module _ (database : Database) (n parts : ℕ) (wanted : Wanted) (form : List �
         ends,
         totals_len,
         spelled_both (set_fields (schema ∷ [])) (descriptor ∷ (listed tickets ++ last)),
-        length-append (spelling descriptor) (spelled (listed tickets ++ last)),
+        length-append (field_spelling descriptor) (spelled (listed tickets ++ last)),
         spelled_both (listed tickets) last,
         short_set (schema ∷ []),
-        length-append (spelling schema) [],
+        length-append (field_spelling schema) [],
         short_chunk 1 form,
         short_chunk 2 payload,
       )

@@ -20,9 +20,9 @@ use Rattle.scan_base.specs.declared.value.Value.{Value}
 use Rattle.scan_base.specs.declared.value.Value.TheVariants.{Null, Text}
 use Rattle.scan_base.specs.Limits.{most_name_bytes, most_text_bytes}
 use Rattle.scan_base.specs.Value.{is_null, IsTextOrNull}
-use Rattle.arrow_schema.specs.declared.data_type.DataType.TheVariants.{Utf8}
-use Rattle.arrow_schema.specs.declared.data_type.IntegerType.TheVariants.{UInt8}
-use Rattle.arrow_schema.specs.Schema.{IsField, IsSchema}
+use Rattle.arrow_types.specs.declared.data_type.DataType.TheVariants.{Utf8}
+use Rattle.arrow_types.specs.declared.data_type.IntegerType.TheVariants.{UInt8}
+use Rattle.arrow_types.specs.Schema.{IsField, IsSchema}
 use Rattle.arrays.specs.declared.layout.Layout.{Layout}
 use Rattle.arrays.specs.declared.layout.Layout.TheVariants as layout
 use Rattle.arrays.specs.Batch.{AreLong, BatchAt, rows_of}
@@ -33,18 +33,18 @@ use Rattle.arrays.specs.Layout.{layout_slot}
 use Rattle.arrays.specs.Nulls.{null_count}
 use Rattle.arrays.specs.Number.{element_at}
 use Rattle.arrays.specs.Texts.{TextsAt, is_offset, text_at, text_stands, texts_of, texts_stand}
-use Rattle.arrays.specs.Typed.{IsOfType}
-use Rattle.arrays.specs.Written.{text_bytes, offsets_from, texts_joined}
-use Rattle.array_buffers.specs.Written.{values_written, validity_read, SaySlots}
+use Rattle.arrays.specs.TypedLayouts.{IsOfType}
+use Rattle.arrays.specs.WrittenSlots.{text_bytes, offsets_from, texts_joined}
+use Rattle.array_buffers.specs.ColumnBuffers.{values_written, validity_read, SaySlots}
 use Rattle.arrays.proofs.OfType.{index_is_text}
 use Rattle.array_buffers.proofs.ColumnsAgain.{texts_read_again}
 use Rattle.array_buffers.proofs.Packed.{map_same}
 use Rattle.ipc_batch.proofs.Lengths.{both}
 use Rattle.table_versions.specs.Table.{Name, Row, is_long_text}
-use Rattle.table_versions.specs.Stored.{CatalogAt, TableAt, tables_of}
+use Rattle.table_versions.specs.StoredTables.{CatalogAt, TableAt, tables_of}
 use Rattle.table_versions.specs.Valid.{IsName}
 use Rattle.table_versions.proofs.Places.{split_at}
-use Rattle.flight_info.specs.inside.Listed.{text_values, HoldTexts, HasValues, nulls_listed, names_listed, types_listed}
+use Rattle.flight_info.specs.inside.ListedTables.{text_values, HoldTexts, HasValues, nulls_listed, names_listed, types_listed}
 use Rattle.flight_info.specs.Tables.{text_column, tables_schema, table_row, tables_listed}
 
 -- ---- the columns

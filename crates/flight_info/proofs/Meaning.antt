@@ -4,7 +4,7 @@ use Rattle.std.specs.Prelude.{IfSome}
 use Rattle.std.proofs.lemmas.List.Elements.{All-weaker}
 use Rattle.scan_base.specs.declared.fault.Fault.{Fault}
 use Rattle.scan_base.specs.Limits.{most_rows}
-use Rattle.arrow_schema.specs.Schema.{IsSchema}
+use Rattle.arrow_types.specs.Schema.{IsSchema}
 use Rattle.sql_text.specs.Reading.{tokens_in}
 use Rattle.sql_query.specs.declared.query.SelectItem.{SelectItem}
 use Rattle.sql_query.specs.declared.query.Select.{Select}
@@ -18,15 +18,15 @@ use Rattle.sql_parse.specs.Tokens.{mark_of}
 use Rattle.sql_parse.proofs.Printed.{sentence_of_shallow}
 use Rattle.table_versions.specs.Table.{Name}
 use Rattle.table_versions.specs.Database.{Database, table_at}
-use Rattle.table_versions.specs.Stored.{CatalogAt, TableAt, plain, tables_of}
+use Rattle.table_versions.specs.StoredTables.{CatalogAt, TableAt, plain, tables_of}
 use Rattle.table_versions.proofs.Stores.{table_at-tables_of}
 use Rattle.query_binder.specs.Binding.{IsPlanOf}
-use Rattle.query_binder.specs.Bound.{fault_of}
-use Rattle.typed_plan.specs.Joined.{place_rows, rows_in}
-use Rattle.query_binder.specs.Named.{IsNameIfThere, HasNames}
+use Rattle.query_binder.specs.NameRules.{fault_of}
+use Rattle.typed_plan.specs.JoinedRows.{place_rows, rows_in}
+use Rattle.query_binder.specs.Aliases.{IsNameIfThere, HasNames}
 use Rattle.typed_plan.specs.Plan.{PlanAt}
-use Rattle.flight_info.specs.Meant.{first_rows}
-use Rattle.flight_info.specs.Planned.{IsPlanned}
+use Rattle.flight_info.specs.QueryMeaning.{first_rows}
+use Rattle.flight_info.specs.QueryPlan.{IsPlanned}
 
 -- a text says the sentence
 abbrev pub Says : List ℕ → Sentence → Type 0

@@ -1,6 +1,5 @@
 -- What holds of results and options.
 use Rattle.std.proofs.Common.{◌≡◌, Result, Ok, Err, Some, IfOk, ap}
-use Rattle.std.specs.Prelude.{IsOk, IfErr}
 use Rattle.scan_base.specs.declared.fault.Fault.{Fault}
 use Rattle.scan_base.specs.Reading.{RefusesFirst}
 
@@ -12,16 +11,6 @@ same_some e = cc
 pub first_for : (X Y : Type 0) {Z : Type 0} (fault : Fault) (read : Result Z Fault) → RefusesFirst {X = X} (Err fault) read → RefusesFirst {X = Y} (Err fault) read
 first_for X Y fault (Ok z) first = tt
 first_for X Y fault (Err cause) first = let same : fault ≡ cause = cc in ap Err same
-
--- a fault that comes first
-pub first_is : (X : Type 0) {Z : Type 0} (fault : Fault) (read : Result Z Fault) → RefusesFirst {X = X} (Err fault) read → IfErr read (λ cause. Some fault ≡ Some cause)
-first_is X fault (Ok z) first = tt
-first_is X fault (Err cause) first = let same : fault ≡ cause = cc in ap Some same
-
--- what is there has no fault
-pub none_refused : {Z : Type 0} (read : Result Z Fault) (holds : Fault → Type 0) → IsOk read → IfErr read holds
-none_refused (Ok z) holds ok = tt
-none_refused (Err cause) holds ok = let no = ok in cc
 
 -- what follows of a value follows of a result
 pub ok_so : {A E : Type 0} (result : Result A E) (one other : A → Type 0) → ((x : A) → one x → other x) → IfOk result one → IfOk result other

@@ -3,7 +3,7 @@ use Rattle.std.proofs.Common.{◌≤◌, ℕ, zero, suc, ◌+◌, ◌*◌, ◌/�
 use Rattle.flight_proto.specs.Message.{is_set, set_fields, spelled}
 use Rattle.proto_wire.specs.Calls.{chunk_entry, varint_entry}
 use Rattle.proto_wire.specs.Standard.{Entry}
-use Rattle.proto_wire.specs.Writing.{groups_of, varint, spelling}
+use Rattle.proto_wire.specs.Writing.{groups_of, varint, field_spelling}
 
 short_groups : (more n : ℕ) → length (groups_of more n) ≤ more + 1
 short_groups zero n = omega arith
@@ -18,8 +18,8 @@ unfolding varint
 short_varint n = short_groups 9 n
 
 -- a field of bytes has at most twenty more
-pub short_chunk : (number : ℕ) (chunk : List ℕ) → length (spelling (chunk_entry number chunk)) ≤ 20 + length chunk
-unfolding spelling
+pub short_chunk : (number : ℕ) (chunk : List ℕ) → length (field_spelling (chunk_entry number chunk)) ≤ 20 + length chunk
+unfolding field_spelling
 short_chunk number chunk =
     omega (
       arith,
@@ -29,8 +29,8 @@ short_chunk number chunk =
       length-append (varint (length chunk)) chunk,
     )
 
-pub short_number : (number value : ℕ) → length (spelling (varint_entry number value)) ≤ 20
-unfolding spelling
+pub short_number : (number value : ℕ) → length (field_spelling (varint_entry number value)) ≤ 20
+unfolding field_spelling
 short_number number value =
     omega (arith, short_varint (8 * number + 0), short_varint value, length-append (varint (8 * number + 0)) (varint value))
 
@@ -40,5 +40,5 @@ short_set [] = omega arith
 short_set (entry ∷ entries) = by (is_set entry.content) (short_set entries)
   where
     by : (there : Bool) → length (spelled (set_fields entries)) ≤ length (spelled entries) → length (spelled (cond there (entry ∷ set_fields entries) (set_fields entries))) ≤ length (spelled (entry ∷ entries))
-    by true rest = omega (arith, rest, length-append (spelling entry) (spelled entries), length-append (spelling entry) (spelled (set_fields entries)))
-    by false rest = omega (arith, rest, length-append (spelling entry) (spelled entries))
+    by true rest = omega (arith, rest, length-append (field_spelling entry) (spelled entries), length-append (field_spelling entry) (spelled (set_fields entries)))
+    by false rest = omega (arith, rest, length-append (field_spelling entry) (spelled entries))

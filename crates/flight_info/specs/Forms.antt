@@ -1,10 +1,10 @@
 -- A schema in IPC form, as an info and the answer to a schema give it.
 use Rattle.std.specs.Prelude.{◌≡◌, ◌≤◌, ◌<◌, ℕ, List, [], ◌∷◌, Some, None, Ok}
 use Rattle.flatbuf.specs.Place.{TableAt, VectorAt, root_of, field_of, table_of, element_of}
-use Rattle.arrow_schema.specs.declared.schema.Schema.{Schema}
+use Rattle.arrow_types.specs.declared.schema.Schema.{Schema}
 use Rattle.arrow_schema.specs.Fields.{table_wanted, vector_wanted}
-use Rattle.arrow_schema.specs.Written.{encapsulated}
-use Rattle.ipc_batch.specs.Said.{Says}
+use Rattle.arrow_schema.specs.WrittenHeader.{encapsulated}
+use Rattle.ipc_batch.specs.SaidRows.{Says}
 
 -- no slot of a table is set from this one on
 abbrev pub EndsAt : TableAt → ℕ → Type 0

@@ -1,8 +1,8 @@
 pub mod Payloads
 pub mod Replies
 pub mod Tables
-pub mod Meant
+pub mod QueryMeaning
 pub mod Forms
 pub mod Infos
-pub mod Planned
+pub mod QueryPlan
 pub mod inside

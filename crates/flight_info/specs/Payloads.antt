@@ -3,9 +3,9 @@
 use Rattle.std.specs.Prelude.{◌≡◌, ◌≤◌, ℕ, List, length, map, All, Ok}
 use Rattle.scan_base.specs.Limits.{most_message_bytes}
 use Rattle.scan_base.specs.Lists.{each}
-use Rattle.arrow_schema.specs.declared.schema.Schema.{Schema}
+use Rattle.arrow_types.specs.declared.schema.Schema.{Schema}
 use Rattle.flight_proto.specs.FlightData.{DataSaid, data_of}
-use Rattle.ipc_batch.specs.Said.{Sent, Rows, Says}
+use Rattle.ipc_batch.specs.SaidRows.{Sent, Rows, Says}
 
 -- the bytes of a call's or of an answer's message
 abbrev pub Payload : Type 0

@@ -1,9 +1,9 @@
 -- The list of tables, as a table.
 use Rattle.std.specs.Prelude.{Bool, true, false, [], ◌∷◌, map, codes}
 use Rattle.scan_base.specs.declared.value.Value.TheVariants.{Null, Text}
-use Rattle.arrow_schema.specs.declared.data_type.DataType.TheVariants.{Utf8}
-use Rattle.arrow_schema.specs.declared.schema.Field.{Field}
-use Rattle.arrow_schema.specs.declared.schema.Schema.{Schema}
+use Rattle.arrow_types.specs.declared.data_type.DataType.TheVariants.{Utf8}
+use Rattle.arrow_types.specs.declared.schema.Field.{Field}
+use Rattle.arrow_types.specs.declared.schema.Schema.{Schema}
 use Rattle.table_versions.specs.Table.{Name, Row, Table}
 use Rattle.table_versions.specs.Database.{Database}
 

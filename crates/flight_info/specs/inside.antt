@@ -1,3 +1,3 @@
 -- What contracts of this crate's private functions alone cite.
-pub mod Described
-pub mod Listed
+pub mod InfoParts
+pub mod ListedTables

@@ -5,30 +5,31 @@ ghost use Rattle.std.specs.Prelude.{IfOk, IfErr, MatchResult};
 ghost use Rattle.scan_base.specs.declared.fault.Fault.TheVariants.{OutOfMemory};
 ghost use Rattle.scan_base.specs.Limits.{most_message_bytes};
 ghost use Rattle.scan_base.specs.Reading.{Gives, RefusesFirst};
-ghost use Rattle.arrow_schema.specs.Schema.{IsSchema};
+ghost use Rattle.arrow_types.specs.Schema.{IsSchema};
 ghost use Rattle.endpoint_split.specs.Handle.{Query};
-ghost use Rattle.endpoint_split.specs.Seen.{handle_seen};
+ghost use Rattle.endpoint_split.specs.HandleView.{handle_seen};
 ghost use Rattle.flight_proto.specs.FlightInfo.{info_bytes, info_with};
-ghost use Rattle.flight_proto.specs.Wanted as wants;
-ghost use Rattle.flight_proto.specs.Wanted.{rows_of, tables, wanted_in, wanted_said};
-ghost use Rattle.flight_proto.specs.Wrapped.{wrapped_bytes};
-ghost use Rattle.table_versions.specs.Stored.{tables_of};
-ghost use Rattle.flight_info.specs.inside.Described.{rows_read, tables_read, if_short};
-ghost use Rattle.flight_info.specs.inside.Described.{ticket_bytes, most_form_bytes, HasForm};
-ghost use Rattle.flight_info.specs.inside.Described.{Describes};
+ghost use Rattle.flight_proto.specs.InfoCommand as wants;
+ghost use Rattle.flight_proto.specs.InfoCommand.{rows_of, tables, wanted_in, wanted_said};
+ghost use Rattle.flight_proto.specs.WrappedBytes.{wrapped_bytes};
+ghost use Rattle.table_versions.specs.StoredTables.{tables_of};
+ghost use Rattle.flight_info.specs.inside.InfoParts.{rows_read, tables_read, if_short};
+ghost use Rattle.flight_info.specs.inside.InfoParts.{ticket_bytes, most_form_bytes, HasForm};
+ghost use Rattle.flight_info.specs.inside.InfoParts.{Describes};
 ghost use Rattle.flight_info.specs.Forms.{IsSchemaForm};
 ghost use Rattle.flight_info.specs.Infos.{rows_wanted, tables_wanted, schema_wanted, short_enough};
 ghost use Rattle.flight_info.specs.Infos.{ranges_over, InfoAt, SchemaAt};
-ghost use Rattle.flight_info.specs.Meant.{Misses};
+ghost use Rattle.flight_info.specs.QueryMeaning.{Misses};
 ghost use Rattle.flight_info.specs.Payloads.{FitMessages};
 
-use crate::planned::plan_text;
+use crate::query_plan::plan_text;
 use crate::reply::{Reply, payload_of};
 use crate::tables::tables_schema;
-use arrow_schema::{Schema, encapsulate, write_schema};
+use arrow_schema::{encapsulate, write_schema};
+use arrow_types::Schema;
 use bytes::Bytes;
 use endpoint_split::{Handle, Range, Ranges, split, write_handle};
-use flight_proto::{Wanted, put_flight_info, put_statement_ticket, put_wrapped, read_wanted};
+use flight_proto::{InfoCommand, put_flight_info, put_statement_ticket, put_wrapped, read_wanted};
 use scan_base::Fault;
 use std::alloc::{AllocError, Global};
 use table_versions::Snapshot;
@@ -36,7 +37,7 @@ use typed_plan::TypedPlan;
 
 // What an info says next to its descriptor: a schema in IPC form, and a Ticket for each endpoint.
 #[derive(Drop)]
-struct Described {
+struct InfoParts {
     form: Vec<u8>,
     tickets: Vec<Vec<u8>>,
 }
@@ -110,7 +111,7 @@ fn describe_query(
     snapshot: &Snapshot,
     text: &str,
     parts: u32,
-) -> Result<Described, Fault>
+) -> Result<InfoParts, Fault>
     ensures described { IfOk result (λ described. Describes (tables_of snapshot.now.catalog)
         snapshot.now.number parts (rows_of text.now) described.form.items
         (map (λ ticket. ticket.items) described.tickets.items)) }
@@ -120,14 +121,14 @@ fn describe_query(
 {
     let planned = plan_text(alloc, snapshot.catalog(), text)?;
     let ranges = endpoint_ranges(planned.rows as u32, planned.grouped, parts);
-    Ok(Described {
+    Ok(InfoParts {
         form: result_form(alloc, &planned.plan)?,
         tickets: query_tickets(alloc, snapshot.number(), text, ranges.as_slice())?,
     })
 }
 
 // What the info of the list of tables says: its schema, and one Ticket.
-fn describe_tables(alloc: Global, snapshot: &Snapshot, parts: u32) -> Result<Described, AllocError>
+fn describe_tables(alloc: Global, snapshot: &Snapshot, parts: u32) -> Result<InfoParts, AllocError>
     ensures { IfOk result
         (λ described. Describes (tables_of snapshot.now.catalog) snapshot.now.number parts
         tables described.form.items (map (λ ticket. ticket.items) described.tickets.items)) }
@@ -138,16 +139,16 @@ fn describe_tables(alloc: Global, snapshot: &Snapshot, parts: u32) -> Result<Des
     };
     let mut tickets = Vec::new(alloc);
     tickets.push(ticket_of(alloc, &handle)?)?;
-    Ok(Described { form, tickets })
+    Ok(InfoParts { form, tickets })
 }
 
 // What the info of what is wanted says.
 fn describe(
     alloc: Global,
     snapshot: &Snapshot,
-    wanted: Wanted<'_>,
+    wanted: InfoCommand<'_>,
     parts: u32,
-) -> Result<Described, Fault>
+) -> Result<InfoParts, Fault>
     ensures described { IfOk result (λ described. Describes (tables_of snapshot.now.catalog)
         snapshot.now.number parts (wanted_said wanted.entry) described.form.items
         (map (λ ticket. ticket.items) described.tickets.items)) }
@@ -156,8 +157,8 @@ fn describe(
     ensures first { RefusesFirst result (short_enough (wanted_said wanted.entry)) }
 {
     match wanted {
-        Wanted::Rows(text) => describe_query(alloc, snapshot, text, parts),
-        Wanted::Tables => Ok(describe_tables(alloc, snapshot, parts)?),
+        InfoCommand::Rows(text) => describe_query(alloc, snapshot, text, parts),
+        InfoCommand::Tables => Ok(describe_tables(alloc, snapshot, parts)?),
     }
 }
 
@@ -165,7 +166,7 @@ fn describe(
 fn write_info(
     alloc: Global,
     payload: &[u8],
-    described: &Described,
+    described: &InfoParts,
 ) -> Result<Vec<Bytes>, AllocError>
     requires { length (info_bytes (info_with described.now.form.items payload.now
         (map (λ ticket. ticket.items) described.now.tickets.items))) ≤ most_message_bytes }
@@ -200,7 +201,7 @@ fn info_payload(
     alloc: Global,
     snapshot: &Snapshot,
     payload: &[u8],
-    wanted: Wanted<'_>,
+    wanted: InfoCommand<'_>,
     parts: u32,
 ) -> Result<Vec<Bytes>, Fault>
     requires { wanted_in payload.now ≡ Ok (wanted_said wanted) }
@@ -220,11 +221,11 @@ fn answer_read(
     alloc: Global,
     snapshot: &Snapshot,
     payload: &[u8],
-    read: Result<Wanted<'_>, Fault>,
+    read: Result<InfoCommand<'_>, Fault>,
     parts: u32,
 ) -> Reply
     requires { IfOk read (λ wanted. wanted_in payload.now ≡ Ok (wanted_said wanted)) }
-    ensures info { (kept : Result wants.Wanted Fault) → Gives wanted_said read.entry kept →
+    ensures info { (kept : Result wants.InfoCommand Fault) → Gives wanted_said read.entry kept →
         InfoAt (tables_of snapshot.now.catalog) snapshot.now.number payload.now parts
         (if_short kept) result.payloads result.fault }
     ensures fits { FitMessages result.payloads }
@@ -240,24 +241,24 @@ fn answer_read(
 }
 
 // A query, where a payload wants one.
-fn read_rows(payload: &[u8]) -> Result<Wanted<'_>, Fault>
+fn read_rows(payload: &[u8]) -> Result<InfoCommand<'_>, Fault>
     ensures read { Gives wanted_said result (rows_read payload.now) }
     ensures wants { IfOk result (λ wanted. wanted_in payload.now ≡ Ok (wanted_said wanted)) }
 {
     match read_wanted(payload)? {
-        Wanted::Rows(text) => Ok(Wanted::Rows(text)),
-        Wanted::Tables => Err(Fault::UnknownCommand),
+        InfoCommand::Rows(text) => Ok(InfoCommand::Rows(text)),
+        InfoCommand::Tables => Err(Fault::UnknownCommand),
     }
 }
 
 // The list of tables, where a payload wants it.
-fn read_tables(payload: &[u8]) -> Result<Wanted<'_>, Fault>
+fn read_tables(payload: &[u8]) -> Result<InfoCommand<'_>, Fault>
     ensures read { Gives wanted_said result (tables_read payload.now) }
     ensures wants { IfOk result (λ wanted. wanted_in payload.now ≡ Ok (wanted_said wanted)) }
 {
     match read_wanted(payload)? {
-        Wanted::Rows(_) => Err(Fault::UnknownCommand),
-        Wanted::Tables => Ok(Wanted::Tables),
+        InfoCommand::Rows(_) => Err(Fault::UnknownCommand),
+        InfoCommand::Tables => Ok(InfoCommand::Tables),
     }
 }
 
@@ -297,21 +298,6 @@ pub fn answer_tables(alloc: Global, snapshot: &Snapshot, payload: &[u8], parts: 
     answer_read(alloc, snapshot, payload, read_tables(payload), parts)
 }
 
-/// The answer to a GetFlightInfo at a version of the catalog, of a query or of the list of tables:
-/// that of [`answer_info`] or of [`answer_tables`], by what the payload wants, which is read once.
-///
-/// # Errors
-///
-/// The reply's fault, and then no payload: the faults of `flight_proto::read_wanted`; then those of
-/// the call that is due, but for its F5.
-pub fn answer_wanted(alloc: Global, snapshot: &Snapshot, payload: &[u8], parts: u32) -> Reply
-    ensures info { InfoAt (tables_of snapshot.now.catalog) snapshot.now.number payload.now parts
-        (schema_wanted payload.now) result.payloads result.fault }
-    ensures fits { FitMessages result.payloads }
-{
-    answer_read(alloc, snapshot, payload, read_wanted(payload), parts)
-}
-
 // The schema of a query's result, in IPC form.
 fn query_form(alloc: Global, snapshot: &Snapshot, text: &str) -> Result<Vec<u8>, Fault>
     ensures form { IfOk result
@@ -325,7 +311,11 @@ fn query_form(alloc: Global, snapshot: &Snapshot, text: &str) -> Result<Vec<u8>,
 }
 
 // The schema of what is wanted, in IPC form.
-fn wanted_form(alloc: Global, snapshot: &Snapshot, wanted: Wanted<'_>) -> Result<Vec<u8>, Fault>
+fn wanted_form(
+    alloc: Global,
+    snapshot: &Snapshot,
+    wanted: InfoCommand<'_>,
+) -> Result<Vec<u8>, Fault>
     ensures form { IfOk result
         (λ form. HasForm (tables_of snapshot.now.catalog) (wanted_said wanted.entry) form.items) }
     ensures missed { IfErr result (λ fault. fault ≢ OutOfMemory →
@@ -333,8 +323,8 @@ fn wanted_form(alloc: Global, snapshot: &Snapshot, wanted: Wanted<'_>) -> Result
     ensures first { RefusesFirst result (short_enough (wanted_said wanted.entry)) }
 {
     match wanted {
-        Wanted::Rows(text) => query_form(alloc, snapshot, text),
-        Wanted::Tables => Ok(schema_form(alloc, &tables_schema(alloc)?)?),
+        InfoCommand::Rows(text) => query_form(alloc, snapshot, text),
+        InfoCommand::Tables => Ok(schema_form(alloc, &tables_schema(alloc)?)?),
     }
 }
 

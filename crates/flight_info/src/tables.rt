@@ -3,17 +3,18 @@
 ghost use Rattle.std.specs.Prelude.{◌≡◌, ◌≤◌, ◌∷◌, ◌++◌, [], List, false, IfOk, OnOk};
 ghost use Rattle.std.specs.List.{list_any};
 ghost use Rattle.scan_base.specs.Limits.{most_tables};
-ghost use Rattle.arrow_schema.specs.Schema.{IsSchema};
+ghost use Rattle.arrow_types.specs.Schema.{IsSchema};
 ghost use Rattle.arrays.specs.Batch.{rows_of};
-ghost use Rattle.arrays.specs.Typed.{AreOfTypes};
-ghost use Rattle.table_versions.specs.Stored.{tables_of};
+ghost use Rattle.arrays.specs.TypedLayouts.{AreOfTypes};
+ghost use Rattle.table_versions.specs.StoredTables.{tables_of};
 ghost use Rattle.table_versions.specs.Table.{Name, is_long_text};
-ghost use Rattle.flight_info.specs.inside.Listed.{text_values, HoldTexts, HasValues, nulls_listed};
-ghost use Rattle.flight_info.specs.inside.Listed.{names_listed, types_listed};
+ghost use Rattle.flight_info.specs.inside.ListedTables.{text_values, HoldTexts, HasValues};
+ghost use Rattle.flight_info.specs.inside.ListedTables.{nulls_listed};
+ghost use Rattle.flight_info.specs.inside.ListedTables.{names_listed, types_listed};
 ghost use Rattle.flight_info.specs.Tables.{text_column, tables_schema, tables_listed};
 
 use arrays::{Batch, Column, Slots, Texts};
-use arrow_schema::{DataType, Field, Schema};
+use arrow_types::{DataType, Field, Schema};
 use bytes::Bytes;
 use scan_base::{Items, Text};
 use std::alloc::{AllocError, Global};

@@ -9,7 +9,7 @@ use Rattle.scan_base.specs.Lists.{each}
 use Rattle.scan_base.specs.Reading.{◌>>=◌}
 use Rattle.proto_wire.specs.Standard.{Content, Entry}
 use Rattle.proto_wire.specs.Reading.{fields_of}
-use Rattle.proto_wire.specs.Writing.{spelling, IsWritable}
+use Rattle.proto_wire.specs.Writing.{field_spelling, IsWritable}
 use Rattle.proto_wire.specs.Calls.{varint_entry, chunk_entry}
 use Rattle.flight_proto.specs.Lookup.{held, chunk_of, varint_of, chunks, varints, last_bytes, last_varint, joined, fields_of_parts, parts_in}
 use Rattle.flight_proto.specs.Message.{bool_of, bool_number, int64_of, set_fields, spelled}
@@ -42,7 +42,7 @@ endpoint_back endpoint h =
 
 endpoint_len : (endpoint : EndpointSaid) → IsEndpoint endpoint → length (spelled (endpoint_fields endpoint)) < 2 ^ 64
 endpoint_len endpoint h =
-    omega (arith, h.fits, chunk_len 1 endpoint.ticket (omega arith, omega arith) (short endpoint.ticket h.fits), length-append (spelling (chunk_entry 1 endpoint.ticket)) [])
+    omega (arith, h.fits, chunk_len 1 endpoint.ticket (omega arith, omega arith) (short endpoint.ticket h.fits), length-append (field_spelling (chunk_entry 1 endpoint.ticket)) [])
 
 abbrev field_of : EndpointSaid → Entry
 field_of endpoint = endpoint_field endpoint.ticket

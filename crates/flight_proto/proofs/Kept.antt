@@ -7,7 +7,7 @@ use lib.Utf8.{encode}
 use Rattle.std.proofs.lemmas.Str.{is_utf8-from_IsUtf8}
 use Rattle.std.proofs.lemmas.Bool.{not-false, eqb-true}
 use Rattle.proto_wire.specs.Standard.{Content, Varint, Fixed64, Chunk, Fixed32, Entry}
-use Rattle.proto_wire.specs.Writing.{spelling}
+use Rattle.proto_wire.specs.Writing.{field_spelling}
 use Rattle.flight_proto.specs.Lookup.{held, chunk_of, varint_of, last_bytes, last_varint, are_texts}
 use Rattle.flight_proto.specs.Message.{is_set, set_fields, spelled}
 
@@ -116,5 +116,5 @@ short_set [] = omega arith
 short_set (entry ∷ entries) = by (is_set entry.content) (short_set entries)
   where
     by : (there : Bool) → length (spelled (set_fields entries)) ≤ length (spelled entries) → length (spelled (cond there (entry ∷ set_fields entries) (set_fields entries))) ≤ length (spelled (entry ∷ entries))
-    by true rest = omega (arith, rest, length-append (spelling entry) (spelled entries), length-append (spelling entry) (spelled (set_fields entries)))
-    by false rest = omega (arith, rest, length-append (spelling entry) (spelled entries))
+    by true rest = omega (arith, rest, length-append (field_spelling entry) (spelled entries), length-append (field_spelling entry) (spelled (set_fields entries)))
+    by false rest = omega (arith, rest, length-append (field_spelling entry) (spelled entries))

@@ -13,7 +13,7 @@ use Rattle.scan_base.specs.declared.fault.Fault.{Fault}
 use Rattle.scan_base.specs.Reading.{◌>>=◌}
 use Rattle.proto_wire.specs.Standard.{Entry, IsFieldNumber}
 use Rattle.proto_wire.specs.Reading.{fields_of}
-use Rattle.proto_wire.specs.Writing.{varint, body, spelling, IsWritable}
+use Rattle.proto_wire.specs.Writing.{varint, body, field_spelling, IsWritable}
 use Rattle.proto_wire.specs.Calls.{varint_entry, chunk_entry}
 use Rattle.proto_wire.proofs.Lists.{list_law}
 use Rattle.proto_wire.proofs.Written.{varint_is, spellings_are}
@@ -24,9 +24,9 @@ use Rattle.flight_proto.specs.FlightDescriptor.{DescriptorSaid, descriptor_in, d
 use Rattle.flight_proto.specs.FlightData.{DataSaid, data_of, data_bytes, stream_descriptor_of}
 use Rattle.flight_proto.specs.PutResult.{update_of, update_bytes, rows_put_of, rows_put_bytes}
 use Rattle.flight_proto.specs.StatementIngest.{OptionsSaid, options_in, options_of, options_fields, options_bytes, StatementSaid, statement_in, statement_of, statement_scalars, statement_bytes}
-use Rattle.flight_proto.specs.Wrapped.{wrapped_of, wrapped_bytes}
+use Rattle.flight_proto.specs.WrappedBytes.{wrapped_of, wrapped_bytes}
 use Rattle.flight_proto.specs.Ticket.{ticket_query_name, handle_any, statement_handle_of, statement_ticket_bytes}
-use Rattle.flight_proto.specs.Wanted.{QuerySaid, query_of, query_bytes}
+use Rattle.flight_proto.specs.InfoCommand.{QuerySaid, query_of, query_bytes}
 use Rattle.flight_proto.specs.Action.{ActionSaid, action_of, action_bytes}
 use Rattle.flight_proto.specs.FlightInfo.{location_of}
 use Rattle.flight_proto.specs.Laws.{FieldsReadBack, ReadsBack, FitsMemory, IsText, IsCount, IsAny, IsDescriptor, AreOptions, IsStatement, IsQuery, IsAction, DataReadsBack}
@@ -65,8 +65,8 @@ short bytes fits = omega arith
 varint_short : (n : ℕ) → n < 2 ^ 64 → length (varint n) ≤ 10
 varint_short n small = (varint_is n small).short
 
-pub chunk_len : (number : ℕ) (bytes : List ℕ) → IsFieldNumber number → length bytes < 2 ^ 64 → length (spelling (chunk_entry number bytes)) ≤ 20 + length bytes
-unfolding spelling
+pub chunk_len : (number : ℕ) (bytes : List ℕ) → IsFieldNumber number → length bytes < 2 ^ 64 → length (field_spelling (chunk_entry number bytes)) ≤ 20 + length bytes
+unfolding field_spelling
 chunk_len number bytes is_number fits =
     omega (
       arith,
@@ -77,8 +77,8 @@ chunk_len number bytes is_number fits =
       length-append (varint (length bytes)) bytes,
     )
 
-varint_len : (number value : ℕ) → IsFieldNumber number → value < 2 ^ 64 → length (spelling (varint_entry number value)) ≤ 20
-unfolding spelling
+varint_len : (number value : ℕ) → IsFieldNumber number → value < 2 ^ 64 → length (field_spelling (varint_entry number value)) ≤ 20
+unfolding field_spelling
 varint_len number value is_number fits =
     omega (
       arith,
@@ -133,7 +133,7 @@ location_back uri is =
 
 wrapped_len : (bytes : List ℕ) → length bytes < 2 ^ 64 → length (wrapped_bytes bytes) ≤ 20 + length bytes
 wrapped_len bytes fits =
-    omega (arith, short_set (chunk_entry 1 bytes ∷ []), chunk_len 1 bytes (omega arith, omega arith) fits, length-append (spelling (chunk_entry 1 bytes)) [])
+    omega (arith, short_set (chunk_entry 1 bytes ∷ []), chunk_len 1 bytes (omega arith, omega arith) fits, length-append (field_spelling (chunk_entry 1 bytes)) [])
 
 -- ---- messages of a string and a chunk: Any, CommandStatementQuery and Action
 
@@ -157,8 +157,8 @@ module _ (text rest : List ℕ) (is : IsText text) (fits : length rest < 2 ^ 64)
         short_set two,
         chunk_len 1 text (omega arith, omega arith) (short text is.1),
         chunk_len 2 rest (omega arith, omega arith) fits,
-        length-append (spelling (chunk_entry 1 text)) (spelled (chunk_entry 2 rest ∷ [])),
-        length-append (spelling (chunk_entry 2 rest)) [],
+        length-append (field_spelling (chunk_entry 1 text)) (spelled (chunk_entry 2 rest ∷ [])),
+        length-append (field_spelling (chunk_entry 2 rest)) [],
       )
 
 abbrev any_made : List ℕ → List ℕ → AnySaid
@@ -219,8 +219,8 @@ descriptor_len descriptor h =
       short_set (descriptor_entries descriptor),
       varint_len 1 descriptor.descriptor_type (omega arith, omega arith) (omega (arith, h.0)),
       chunk_len 2 descriptor.cmd (omega arith, omega arith) (short descriptor.cmd h.1),
-      length-append (spelling (varint_entry 1 descriptor.descriptor_type)) (spelled (chunk_entry 2 descriptor.cmd ∷ [])),
-      length-append (spelling (chunk_entry 2 descriptor.cmd)) [],
+      length-append (field_spelling (varint_entry 1 descriptor.descriptor_type)) (spelled (chunk_entry 2 descriptor.cmd ∷ [])),
+      length-append (field_spelling (chunk_entry 2 descriptor.cmd)) [],
     )
 
 -- ---- embedded messages
@@ -303,7 +303,7 @@ update_len count fits =
       arith,
       short_set (varint_entry 1 (cast_unsigned w64 count) ∷ []),
       varint_len 1 (cast_unsigned w64 count) (omega arith, omega arith) (count_small count fits),
-      length-append (spelling (varint_entry 1 (cast_unsigned w64 count))) [],
+      length-append (field_spelling (varint_entry 1 (cast_unsigned w64 count))) [],
     )
 
 pub rows_put_back : ReadsBack IsCount rows_put_of rows_put_bytes
@@ -349,8 +349,8 @@ options_len options h =
       short_set (options_entries options),
       varint_len 1 options.if_not_exist (omega arith, omega arith) (omega (arith, h.0)),
       varint_len 2 options.if_exists (omega arith, omega arith) (omega (arith, h.1)),
-      length-append (spelling (varint_entry 1 options.if_not_exist)) (spelled (varint_entry 2 options.if_exists ∷ [])),
-      length-append (spelling (varint_entry 2 options.if_exists)) [],
+      length-append (field_spelling (varint_entry 1 options.if_not_exist)) (spelled (varint_entry 2 options.if_exists ∷ [])),
+      length-append (field_spelling (varint_entry 2 options.if_exists)) [],
     )
 
 abbrev statement_made : Option OptionsSaid → List ℕ → List ℕ → List ℕ → ℕ → List ℕ → StatementSaid

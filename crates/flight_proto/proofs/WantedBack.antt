@@ -8,7 +8,7 @@ use Rattle.flight_proto.specs.Message.{bool_number, set_fields}
 use Rattle.flight_proto.specs.Any.{AnySaid, any_bytes, message_name, type_url_of}
 use Rattle.flight_proto.specs.FlightDescriptor.{DescriptorSaid, descriptor_bytes}
 use Rattle.flight_proto.specs.Command.{command_of}
-use Rattle.flight_proto.specs.Wanted.{QuerySaid, TablesSaid, tables_in, tables_of, tables_bytes, Wanted, rows_of, tables, statement_query_name, get_tables_name, wanted_any, wanted_by, wanted_in, command_bytes, wanted_bytes}
+use Rattle.flight_proto.specs.InfoCommand.{QuerySaid, TablesSaid, tables_in, tables_of, tables_bytes, InfoCommand, rows_of, tables, statement_query_name, get_tables_name, wanted_any, wanted_by, wanted_in, command_bytes, wanted_bytes}
 use Rattle.flight_proto.specs.Laws.{ReadsBack, IsText, IsAny, IsDescriptor, IsQuery, IsUnfiltered, IsWanted}
 use Rattle.flight_proto.proofs.Cursors.{no_fields}
 use Rattle.flight_proto.proofs.ReadsBack.{back, set_writable, varint_writable, bool_small, any_back, any_len, descriptor_back, descriptor_len, query_back, query_len}
@@ -28,7 +28,7 @@ tables_back said h =
 -- ---- what is wanted
 
 -- a command whose Any is within the limit
-command_back : (any : AnySaid) (name : List ℕ) (wanted : Wanted) → IsAny any → length any.type_url + length any.value ≤ 60000 → message_name any.type_url ≡ Some name
+command_back : (any : AnySaid) (name : List ℕ) (wanted : InfoCommand) → IsAny any → length any.type_url + length any.value ≤ 60000 → message_name any.type_url ≡ Some name
     → wanted_by (record { name = name; value = any.value }) ≡ Ok wanted → wanted_in (command_bytes any) ≡ Ok wanted
 unfolding wanted_in command_of
 command_back any name wanted is few named by =

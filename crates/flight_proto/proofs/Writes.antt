@@ -4,16 +4,16 @@ use Rattle.std.specs.Prelude.{slice_index_or}
 use Rattle.std.proofs.lemmas.Grind.{flat_map-append}
 use native.Mathlib.Numerals.{unary_clauses}
 use Rattle.proto_wire.specs.Standard.{Entry}
-use Rattle.proto_wire.specs.Writing.{spelling}
+use Rattle.proto_wire.specs.Writing.{field_spelling}
 use Rattle.proto_wire.specs.Calls.{content_of, entry_of, chunk_entry}
 use Rattle.flight_proto.specs.Message.{is_set, set_fields, spelled}
 use Rattle.flight_proto.specs.Parts.{entries_of, IsNumbered, AreNumbered}
-use Rattle.flight_proto.specs.declared.written.Part.{Part}
-use Rattle.flight_proto.specs.declared.written.Part.TheVariants.{Scalar, Embedded}
+use Rattle.flight_proto.specs.declared.message_parts.Part.{Part}
+use Rattle.flight_proto.specs.declared.message_parts.Part.TheVariants.{Scalar, Embedded}
 use Rattle.flight_proto.specs.FlightInfo.{endpoint_field, totals, info_with, info_bytes}
 
 pub spelled-append : (entries others : List Entry) → spelled (entries ++ others) ≡ spelled entries ++ spelled others
-spelled-append entries others = flat_map-append spelling entries others
+spelled-append entries others = flat_map-append field_spelling entries others
 
 pub is_numbered : (parts : List Part) (index : ℕ) (part : Part) → index < length parts → AreNumbered parts → IsNumbered (slice_index_or parts index part)
 is_numbered [] index part lt all = absurd (omega arith)
@@ -52,14 +52,14 @@ parts_more start old new parts index part lt before e =
 pub info_pieces : (schema descriptor : List ℕ) (tickets : List (List ℕ)) →
     info_bytes (info_with schema descriptor tickets)
     ≡ spelled (set_fields (chunk_entry 1 schema ∷ []))
-    ++ (spelling (chunk_entry 2 descriptor) ++ (spelled (map endpoint_field tickets) ++ spelled (totals (negsuc 0) (negsuc 0) true)))
+    ++ (field_spelling (chunk_entry 2 descriptor) ++ (spelled (map endpoint_field tickets) ++ spelled (totals (negsuc 0) (negsuc 0) true)))
 unfolding info_bytes
 info_pieces schema descriptor tickets =
     let info = info_with schema descriptor tickets in
     let last = totals (negsuc 0) (negsuc 0) true in
     let endpoints = map (λ endpoint. endpoint_field endpoint.ticket) info.endpoints in
     spelled-append (set_fields (chunk_entry 1 schema ∷ [])) (chunk_entry 2 descriptor ∷ (endpoints ++ last))
-    ∙ ap (λ (rest : List ℕ). spelled (set_fields (chunk_entry 1 schema ∷ [])) ++ (spelling (chunk_entry 2 descriptor) ++ rest))
+    ∙ ap (λ (rest : List ℕ). spelled (set_fields (chunk_entry 1 schema ∷ [])) ++ (field_spelling (chunk_entry 2 descriptor) ++ rest))
     (spelled-append endpoints last ∙ ap (λ (fields : List Entry). spelled fields ++ spelled last) (same tickets))
   where
     same : (tickets : List (List ℕ)) → map (λ endpoint. endpoint_field endpoint.ticket) (info_with schema descriptor tickets).endpoints ≡ map endpoint_field tickets

@@ -6,7 +6,7 @@ use Rattle.scan_base.specs.declared.fault.Fault.{Fault}
 use Rattle.scan_base.specs.declared.fault.Fault.TheVariants.{BadProto, UnknownCommand}
 use Rattle.scan_base.specs.Reading.{◌>>=◌, demand}
 use Rattle.flight_proto.specs.Action.{action_of, action_bytes}
-use Rattle.flight_proto.specs.Wrapped.{wrapped_of, wrapped_bytes}
+use Rattle.flight_proto.specs.WrappedBytes.{wrapped_of, wrapped_bytes}
 
 -- the name of the action
 abbrev pub expire_name : List ℕ

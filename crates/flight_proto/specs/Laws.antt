@@ -16,7 +16,7 @@ use Rattle.flight_proto.specs.FlightData.{DataSaid, data_of, stream_descriptor_o
 use Rattle.flight_proto.specs.FlightData.{data_head}
 use Rattle.flight_proto.specs.StatementIngest.{OptionsSaid, StatementSaid}
 use Rattle.flight_proto.specs.FlightInfo.{EndpointSaid, InfoSaid}
-use Rattle.flight_proto.specs.Wanted.{QuerySaid, TablesSaid, Wanted, rows_of, tables}
+use Rattle.flight_proto.specs.InfoCommand.{QuerySaid, TablesSaid, InfoCommand, rows_of, tables}
 use Rattle.flight_proto.specs.Action.{ActionSaid}
 
 -- ---- merging
@@ -97,7 +97,7 @@ abbrev pub IsUnfiltered : TablesSaid → Type 0
 IsUnfiltered said = said.is_filtered ≡ false
 
 -- what is asked for: a query's text is within its limit
-abbrev pub IsWanted : Wanted → Type 0
+abbrev pub IsWanted : InfoCommand → Type 0
 IsWanted (rows_of text) = IsText text × (length text ≤ most_query_bytes)
 IsWanted tables = Unit {0}
 

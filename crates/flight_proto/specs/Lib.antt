@@ -1,6 +1,6 @@
 pub mod Lookup
 pub mod Message
-pub mod Wrapped
+pub mod WrappedBytes
 pub mod Any
 pub mod FlightDescriptor
 pub mod Cursor
@@ -12,7 +12,7 @@ pub mod StatementIngest
 pub mod Command
 pub mod Ingest
 pub mod FlightInfo
-pub mod Wanted
+pub mod InfoCommand
 pub mod Action
 pub mod Expiry
 pub mod Laws

@@ -3,8 +3,8 @@ use Rattle.std.specs.Prelude.{List, [], ◌∷◌, Some, None, if◌then◌else�
 use Rattle.proto_wire.specs.Standard.{Entry, IsFieldNumber}
 use Rattle.proto_wire.specs.Calls.{content_of, entry_of, chunk_entry}
 use Rattle.flight_proto.specs.Message.{is_set}
-use Rattle.flight_proto.specs.declared.written.Part.{Part}
-use Rattle.flight_proto.specs.declared.written.Part.TheVariants.{Scalar, Embedded}
+use Rattle.flight_proto.specs.declared.message_parts.Part.{Part}
+use Rattle.flight_proto.specs.declared.message_parts.Part.TheVariants.{Scalar, Embedded}
 
 -- the fields that are written
 abbrev pub entries_of : List Part → List Entry

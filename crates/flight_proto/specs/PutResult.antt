@@ -8,7 +8,7 @@ use Rattle.proto_wire.specs.Reading.{fields_of}
 use Rattle.proto_wire.specs.Calls.{varint_entry}
 use Rattle.flight_proto.specs.Lookup.{last_varint}
 use Rattle.flight_proto.specs.Message.{int64_of, set_fields, spelled}
-use Rattle.flight_proto.specs.Wrapped.{wrapped_of, wrapped_bytes}
+use Rattle.flight_proto.specs.WrappedBytes.{wrapped_of, wrapped_bytes}
 
 -- the count of a DoPutUpdateResult: int64 record_count = 1
 abbrev pub update_of : List ℕ → Result ℤ Fault

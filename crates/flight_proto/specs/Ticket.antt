@@ -4,7 +4,7 @@ use Rattle.std.specs.Prelude.{List, ℕ, Result, Ok, Err, codes, bytes_eq}
 use Rattle.scan_base.specs.declared.fault.Fault.{Fault}
 use Rattle.scan_base.specs.declared.fault.Fault.TheVariants.{BadTicket}
 use Rattle.scan_base.specs.Reading.{◌>>=◌, demand, wanted}
-use Rattle.flight_proto.specs.Wrapped.{wrapped_of, wrapped_bytes}
+use Rattle.flight_proto.specs.WrappedBytes.{wrapped_of, wrapped_bytes}
 use Rattle.flight_proto.specs.Any.{AnySaid, any_of, any_bytes, message_name, type_url_of}
 
 -- the full name of what a ticket holds

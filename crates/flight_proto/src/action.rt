@@ -5,7 +5,7 @@ ghost use Rattle.scan_base.specs.Reading.{Gives};
 ghost use Rattle.flight_proto.specs.Action.{action_said, action_of, action_bytes};
 
 use crate::message::Message;
-use crate::written::{Part, put_parts};
+use crate::message_parts::{Part, put_parts};
 use proto_wire::Field;
 use scan_base::Fault;
 use std::alloc::AllocError;

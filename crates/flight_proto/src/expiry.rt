@@ -7,7 +7,7 @@ ghost use Rattle.flight_proto.specs.Expiry.{body_number, expiry_of, expiry_bytes
 ghost use Rattle.flight_proto.specs.Expiry.{floor_bytes};
 
 use crate::action::Action;
-use crate::wrapped::{put_wrapped, read_wrapped};
+use crate::wrapped_bytes::{put_wrapped, read_wrapped};
 use byteorder::{BigEndian, ByteOrder};
 use scan_base::Fault;
 use std::alloc::AllocError;

@@ -11,7 +11,7 @@ ghost use Rattle.flight_proto.specs.FlightData.{data_head};
 
 use crate::flight_descriptor::FlightDescriptor;
 use crate::message::{Message, chunk_of};
-use crate::written::{Part, put_parts};
+use crate::message_parts::{Part, put_parts};
 use bytes::Bytes;
 use proto_wire::{Field, Fields, put_bytes_head};
 use scan_base::Fault;

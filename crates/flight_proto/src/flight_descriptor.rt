@@ -7,7 +7,7 @@ ghost use Rattle.flight_proto.specs.FlightDescriptor.{descriptor_of};
 ghost use Rattle.flight_proto.specs.FlightDescriptor.{descriptor_bytes};
 
 use crate::message::Message;
-use crate::written::{Part, put_parts};
+use crate::message_parts::{Part, put_parts};
 use proto_wire::Field;
 use scan_base::Fault;
 use std::alloc::AllocError;

@@ -13,7 +13,7 @@ ghost use Rattle.flight_proto.specs.FlightInfo.{info_said, info_of, totals, info
 
 use crate::flight_descriptor::FlightDescriptor;
 use crate::message::{Message, chunk_of};
-use crate::written::{Part, put_parts};
+use crate::message_parts::{Part, put_parts};
 use proto_wire::{Field, put_bytes, put_message};
 use scan_base::Fault;
 use std::alloc::{AllocError, Global};

@@ -2,8 +2,8 @@
 //!
 //! The messages are those of the public `Flight.proto` and `FlightSql.proto`, and the bytes those
 //! of the Protocol Buffers encoding (proto3). `message` looks up what the fields of a message say,
-//! and `written` writes fields; a module for each message, or for a few that belong together, has a
-//! struct, what reads it and what writes it. `specs/` has a file for each module.
+//! and `message_parts` writes fields; a module for each message, or for a few that belong together,
+//! has a struct, what reads it and what writes it. `specs/` has a file for each module.
 #![tactic(auto)]
 
 pub mod action;
@@ -13,15 +13,15 @@ pub mod expiry;
 pub mod flight_data;
 pub mod flight_descriptor;
 pub mod flight_info;
+pub mod info_command;
 pub mod ingest;
 pub mod laws;
 mod message;
+mod message_parts;
 pub mod put_result;
 pub mod statement_ingest;
 pub mod ticket;
-pub mod wanted;
-pub mod wrapped;
-mod written;
+pub mod wrapped_bytes;
 
 pub use crate::action::Action;
 pub use crate::any::Any;
@@ -34,12 +34,12 @@ pub use crate::flight_descriptor::FlightDescriptor;
 pub use crate::flight_info::{
     FlightEndpoint, FlightInfo, put_endpoint, put_flight_info, read_location,
 };
+pub use crate::info_command::{
+    CommandGetTables, CommandStatementQuery, InfoCommand, put_get_tables, put_wanted, read_wanted,
+};
 pub use crate::ingest::{Ingest, read_if_exists, read_if_not_exist, read_ingest};
 pub use crate::put_result::{put_rows_put, put_update, read_rows_put, read_update};
 pub use crate::statement_ingest::{CommandStatementIngest, TableDefinitionOptions};
 pub use crate::ticket::{put_statement_ticket, read_statement_handle};
-pub use crate::wanted::{
-    CommandGetTables, CommandStatementQuery, Wanted, put_get_tables, put_wanted, read_wanted,
-};
-pub use crate::wrapped::{put_wrapped, read_wrapped};
+pub use crate::wrapped_bytes::{put_wrapped, read_wrapped};
 pub use scan_base::{IfExists, IfNotExist};

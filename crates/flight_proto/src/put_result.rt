@@ -7,8 +7,8 @@ ghost use Rattle.flight_proto.specs.PutResult.{update_of, update_bytes, rows_put
 ghost use Rattle.flight_proto.specs.PutResult.{rows_put_bytes};
 
 use crate::message::Message;
-use crate::wrapped::{put_wrapped, read_wrapped};
-use crate::written::{Part, put_parts};
+use crate::message_parts::{Part, put_parts};
+use crate::wrapped_bytes::{put_wrapped, read_wrapped};
 use proto_wire::Field;
 use scan_base::Fault;
 use std::alloc::AllocError;

@@ -9,7 +9,7 @@ ghost use Rattle.flight_proto.specs.StatementIngest.{options_bytes};
 ghost use Rattle.flight_proto.specs.StatementIngest.{statement_said, statement_of, statement_bytes};
 
 use crate::message::Message;
-use crate::written::{Part, put_parts};
+use crate::message_parts::{Part, put_parts};
 use proto_wire::Field;
 use scan_base::Fault;
 use std::alloc::AllocError;

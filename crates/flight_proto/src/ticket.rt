@@ -6,7 +6,7 @@ ghost use Rattle.scan_base.specs.Reading.{Gives};
 ghost use Rattle.flight_proto.specs.Ticket.{handle_in, statement_handle_of, statement_ticket_bytes};
 
 use crate::any::Any;
-use crate::wrapped::{put_wrapped, read_wrapped};
+use crate::wrapped_bytes::{put_wrapped, read_wrapped};
 use scan_base::Fault;
 use std::alloc::AllocError;
 

@@ -1,2 +1,3 @@
 pub mod Running
+pub mod ServerRequests
 pub mod Descriptors

@@ -5,22 +5,22 @@
 ghost use Rattle.grpc_frame.specs.Ends.{CanFail};
 
 mod descriptors;
-mod running;
+mod runner;
 
 use crate::descriptors::{descriptor_limit, small_limit};
-use crate::running::{Machine, Network, Streams, run};
+use crate::runner::{Machine, Network, Streams, run};
 use command_line::Request;
 use commands::arguments::refuse_arguments;
-use commands::words::read_words;
-use grpc_frame::{Counted, Output};
-use hash_seed::HashSeed;
+use commands::program_words::read_words;
+use grpc_frame::{CountedEnd, Output};
 use loopback::{Loopback, Port};
-use progress::{Meter, Watched};
+use progress::{Meter, MeteredNetwork};
+use scan_base::HashSeed;
 use std::alloc::Global;
 use std::fs::{File, Files};
 use std::io::ErrorKind;
 use std::process::ExitCode;
-use version_cell::Opened;
+use version_cell::UnnamedBook;
 
 // Whether a command tells how far it has come. Only those of a client do.
 fn tells_progress(request: &Request<'_>) -> bool {
@@ -73,9 +73,9 @@ fn main(rt: HostRuntime) -> ExitCode {
     let alloc = rt.alloc();
     keep_freed_memory(alloc);
     let mut streams = Streams {
-        input: Counted::new(rt.stdin()),
-        output: Counted::new(rt.stdout()),
-        faults: Counted::new(rt.stderr()),
+        input: CountedEnd::new(rt.stdin()),
+        output: CountedEnd::new(rt.stdout()),
+        faults: CountedEnd::new(rt.stderr()),
     };
     let words = match std::env::args(&rt) {
         Ok(words) => words.collect::<Vec<String>>(alloc),
@@ -90,7 +90,7 @@ fn main(rt: HostRuntime) -> ExitCode {
     };
     if let Request::Serve(serving) = &request {
         // (by a handle of its own: no failure is counted of the standard streams)
-        tell_small_limit(alloc, serving.seats, &mut Counted::new(rt.stderr()));
+        tell_small_limit(alloc, serving.seats, &mut CountedEnd::new(rt.stderr()));
     }
     let machine = Machine {
         rt: &rt,
@@ -99,9 +99,15 @@ fn main(rt: HostRuntime) -> ExitCode {
     };
     let meter = tells_progress(&request).then(|| Meter::new(&rt, alloc, rt.stderr()));
     let mut network = Network {
-        connector: Watched::new(Loopback::new(&rt), alloc, meter.as_ref()),
+        connector: MeteredNetwork::new(Loopback::new(&rt), alloc, meter.as_ref()),
         listener: Port::new(&rt),
     };
-    let status = run(machine, Opened::new(), &mut network, &mut streams, request);
+    let status = run(
+        machine,
+        UnnamedBook::new(),
+        &mut network,
+        &mut streams,
+        request,
+    );
     ExitCode::from(status.number())
 }

@@ -2,11 +2,12 @@
 
 ghost use Rattle.std.specs.Prelude.{◌≡◌, IfOk, length};
 
-use crate::row::Row;
+use crate::row::CaseRow;
 use crate::schemas::kind_name;
 use crate::words::{Word, push_part, push_words, told};
 use arrays::{Batch, Cells, Column, Dictionary, Slots};
-use arrow_schema::{IntegerType, Schema, read_message};
+use arrow_schema::read_message;
+use arrow_types::{IntegerType, Schema};
 use bytes::Bytes;
 use ipc_batch::{Reader, SizedBatch};
 use ipc_stream::{IpcMessage, ipc_messages};
@@ -90,7 +91,7 @@ fn sized(alloc: Global, bytes: &[u8]) -> Result<String, Fault> {
 }
 
 // `ROWS FROM TO`: how many rows and columns a slice of a batch without columns has.
-fn no_columns(alloc: Global, row: &Row) -> Result<String, Fault> {
+fn no_columns(alloc: Global, row: &CaseRow) -> Result<String, Fault> {
     let [rows, from, to] = row.numbers.as_slice() else {
         return Err(Fault::BadFrame);
     };
@@ -117,7 +118,7 @@ fn no_values(alloc: Global) -> Result<String, Fault> {
 }
 
 /// What becomes of batches.
-pub fn answer(alloc: Global, case: &str, row: &Row) -> Result<String, Fault> {
+pub fn answer(alloc: Global, case: &str, row: &CaseRow) -> Result<String, Fault> {
     match case {
         "reader" => reader(alloc, &row.bytes),
         "sized" => sized(alloc, &row.bytes),

@@ -2,7 +2,7 @@
 
 ghost use Rattle.std.specs.Prelude.{◌≡◌, length, IfOk};
 
-use crate::row::Row;
+use crate::row::CaseRow;
 use crate::words::{Word, told};
 use bitmap::Bits;
 use bytes::Bytes;
@@ -37,7 +37,7 @@ fn told_bits(alloc: Global, bits: &Bits) -> Result<String, Fault> {
 }
 
 // `HEX FIRST LEN`: bits.
-fn run(alloc: Global, row: &Row) -> Result<String, Fault> {
+fn run(alloc: Global, row: &CaseRow) -> Result<String, Fault> {
     let [first, len] = row.numbers.as_slice() else {
         return Err(Fault::BadFrame);
     };
@@ -45,7 +45,7 @@ fn run(alloc: Global, row: &Row) -> Result<String, Fault> {
 }
 
 // `HEX FIRST LEN FROM TO`: a slice of bits.
-fn slice(alloc: Global, row: &Row) -> Result<String, Fault> {
+fn slice(alloc: Global, row: &CaseRow) -> Result<String, Fault> {
     let [first, len, from, to] = row.numbers.as_slice() else {
         return Err(Fault::BadFrame);
     };
@@ -57,7 +57,7 @@ fn slice(alloc: Global, row: &Row) -> Result<String, Fault> {
 }
 
 // `HEX FIRST LEN FROM`: the word from a bit on, of bits and of the same once more.
-fn word(alloc: Global, row: &Row) -> Result<String, Fault> {
+fn word(alloc: Global, row: &CaseRow) -> Result<String, Fault> {
     let [first, len, from] = row.numbers.as_slice() else {
         return Err(Fault::BadFrame);
     };
@@ -77,7 +77,7 @@ fn word(alloc: Global, row: &Row) -> Result<String, Fault> {
 }
 
 // `HEX FIRST LEN FROM COUNT`: fewer bits than a word, of bits that are shared.
-fn short_word(alloc: Global, row: &Row) -> Result<String, Fault> {
+fn short_word(alloc: Global, row: &CaseRow) -> Result<String, Fault> {
     let [first, len, from, count] = row.numbers.as_slice() else {
         return Err(Fault::BadFrame);
     };
@@ -93,7 +93,7 @@ fn short_word(alloc: Global, row: &Row) -> Result<String, Fault> {
 
 // `HEX FIRST SECOND LEN`: what the bits of the first half of the bytes make with those of the
 // second.
-fn joined(alloc: Global, case: &str, row: &Row) -> Result<String, Fault> {
+fn joined(alloc: Global, case: &str, row: &CaseRow) -> Result<String, Fault> {
     let [first, second, len] = row.numbers.as_slice() else {
         return Err(Fault::BadFrame);
     };
@@ -110,7 +110,7 @@ fn joined(alloc: Global, case: &str, row: &Row) -> Result<String, Fault> {
 }
 
 /// What bits are, and what two lists of them make.
-pub fn answer(alloc: Global, case: &str, row: &Row) -> Result<String, Fault> {
+pub fn answer(alloc: Global, case: &str, row: &CaseRow) -> Result<String, Fault> {
     match case {
         "run" => run(alloc, row),
         "slice" => slice(alloc, row),

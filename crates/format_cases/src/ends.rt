@@ -4,10 +4,10 @@
 ghost use Rattle.std.specs.Prelude.{◌≡◌, ◌≤◌, IfOk, length};
 ghost use Rattle.grpc_frame.specs.Ends.{CanFail};
 
-use crate::row::Row;
+use crate::row::CaseRow;
 use crate::words::{Word, told};
 use grpc_frame::{
-    Counted, Inbox, Input, MAX_MESSAGE_LEN, MAX_PATH_LEN, MemoryInput, MemoryOutput, Outbox,
+    CountedEnd, Inbox, Input, MAX_MESSAGE_LEN, MAX_PATH_LEN, MemoryInput, MemoryOutput, Outbox,
     Output, Record,
 };
 use scan_base::Fault;
@@ -18,14 +18,14 @@ use std::io::{ErrorKind, Read, Write};
 // An end of the system's. Of each call its script has a byte: 0 where it goes well and moves one
 // byte, 1 where it is interrupted, and another where it is refused.
 #[derive(Drop)]
-struct Scripted<'a> {
+struct ScriptedEnd<'a> {
     script: &'a [u8],
     moved: usize,
 }
 
-impl<'a> Scripted<'a> {
-    fn new(script: &'a [u8]) -> Scripted<'a> {
-        Scripted { script, moved: 0 }
+impl<'a> ScriptedEnd<'a> {
+    fn new(script: &'a [u8]) -> ScriptedEnd<'a> {
+        ScriptedEnd { script, moved: 0 }
     }
 
     // What the next call of the script does.
@@ -51,13 +51,13 @@ impl<'a> Scripted<'a> {
     }
 }
 
-impl Read for Scripted<'_> {
+impl Read for ScriptedEnd<'_> {
     fn read(&mut self, buf: &mut [u8]) -> io::Result<usize> {
         self.move_byte(buf.len())
     }
 }
 
-impl Write for Scripted<'_> {
+impl Write for ScriptedEnd<'_> {
     fn write(&mut self, buf: &[u8]) -> io::Result<usize> {
         self.move_byte(buf.len())
     }
@@ -98,7 +98,7 @@ fn read_three<R: Input>(input: &mut R) -> Result<(), Fault>
 
 // `HEX`: three reads by a script. An interrupted call is made again, and no other.
 fn reads(alloc: Global, script: &[u8]) -> Result<String, Fault> {
-    let mut input = Counted::new(Scripted::new(script));
+    let mut input = CountedEnd::new(ScriptedEnd::new(script));
     let done = read_three(&mut input);
     told_calls(alloc, done, Input::failures(&input), input.get_ref().moved)
 }
@@ -106,7 +106,7 @@ fn reads(alloc: Global, script: &[u8]) -> Result<String, Fault> {
 // `HEX`: a piece of three bytes, written by a script. The last call of a piece that is written
 // whole is the flush: a piece whose flush fails is not written.
 fn writes(alloc: Global, script: &[u8]) -> Result<String, Fault> {
-    let mut output = Counted::new(Scripted::new(script));
+    let mut output = CountedEnd::new(ScriptedEnd::new(script));
     let done = output.write(b"abc");
     told_calls(
         alloc,
@@ -202,7 +202,7 @@ fn longest(alloc: Global) -> Result<String, Fault> {
 }
 
 /// What becomes of calls of ends.
-pub fn answer(alloc: Global, case: &str, row: &Row) -> Result<String, Fault> {
+pub fn answer(alloc: Global, case: &str, row: &CaseRow) -> Result<String, Fault> {
     match (case, row.numbers.as_slice()) {
         ("reads", []) => reads(alloc, &row.bytes),
         ("writes", []) => writes(alloc, &row.bytes),

@@ -1,6 +1,6 @@
 //! The fields of a message.
 
-use crate::row::Row;
+use crate::row::CaseRow;
 use crate::words::{Word, push_part, told};
 use proto_wire::{Field, Fields, Payload, put_bytes, put_bytes_head, put_message, put_varint};
 use scan_base::Fault;
@@ -66,7 +66,7 @@ fn large_content(alloc: Global, content: &[u8]) -> Result<String, Fault> {
 }
 
 /// Fields that are written.
-pub fn answer(alloc: Global, case: &str, row: &Row) -> Result<String, Fault> {
+pub fn answer(alloc: Global, case: &str, row: &CaseRow) -> Result<String, Fault> {
     match case {
         "each_call" => each_call(alloc),
         "large_content" => large_content(alloc, &row.bytes),

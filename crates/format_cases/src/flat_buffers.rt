@@ -1,6 +1,6 @@
 //! Tables of FlatBuffers, slot by slot.
 
-use crate::row::Row;
+use crate::row::CaseRow;
 use crate::words::{Word, told};
 use flatbuf::{Buf, Builder, Table, Width};
 use scan_base::Fault;
@@ -34,7 +34,7 @@ fn width_of(bytes: usize) -> Result<Width, Fault> {
 }
 
 // `HEX SLOT WIDTH DEFAULT`: the number in a slot of the root.
-fn scalar(alloc: Global, row: &Row) -> Result<String, Fault> {
+fn scalar(alloc: Global, row: &CaseRow) -> Result<String, Fault> {
     let [slot, width, default] = row.numbers.as_slice() else {
         return Err(Fault::BadFrame);
     };
@@ -44,7 +44,7 @@ fn scalar(alloc: Global, row: &Row) -> Result<String, Fault> {
 }
 
 // `HEX SLOT`: the structs of 16 bytes in a slot of the header.
-fn structs(alloc: Global, row: &Row) -> Result<String, Fault> {
+fn structs(alloc: Global, row: &CaseRow) -> Result<String, Fault> {
     let [slot] = row.numbers.as_slice() else {
         return Err(Fault::BadFrame);
     };
@@ -60,7 +60,7 @@ fn many_structs(alloc: Global) -> Result<String, Fault> {
 }
 
 /// What a buffer has in a slot.
-pub fn answer(alloc: Global, case: &str, row: &Row) -> Result<String, Fault> {
+pub fn answer(alloc: Global, case: &str, row: &CaseRow) -> Result<String, Fault> {
     match case {
         "name" => column_name(alloc, &row.bytes),
         "scalar" => scalar(alloc, row),

@@ -12,20 +12,20 @@ mod fields;
 mod flat_buffers;
 mod messages;
 mod records;
+mod round_trips;
 mod row;
 mod schemas;
 mod streams;
 mod values;
 mod words;
-mod written;
 
-use crate::row::Row;
+use crate::row::CaseRow;
 use scan_base::Fault;
 use std::alloc::Global;
 use std::io;
 
 // What a row of this room and case says.
-fn answer_in_room(alloc: Global, room: &str, case: &str, row: &Row) -> Result<String, Fault> {
+fn answer_in_room(alloc: Global, room: &str, case: &str, row: &CaseRow) -> Result<String, Fault> {
     match room {
         "values" => values::answer(alloc, case, row),
         "fields" => fields::answer(alloc, case, row),
@@ -40,13 +40,13 @@ fn answer_in_room(alloc: Global, room: &str, case: &str, row: &Row) -> Result<St
 }
 
 // What a row of this kind says, that has bytes and numbers.
-fn answer_row(alloc: Global, kind: &str, row: &Row) -> Result<String, Fault> {
+fn answer_row(alloc: Global, kind: &str, row: &CaseRow) -> Result<String, Fault> {
     if let Some((room, case)) = kind.split_once('.') {
         return answer_in_room(alloc, room, case, row);
     }
     let bytes = row.bytes.as_slice();
     if kind.starts_with("write_") {
-        return written::answer(alloc, kind, bytes);
+        return round_trips::answer(alloc, kind, bytes);
     }
     match kind {
         "fault" => faults::fault(alloc, bytes),
@@ -68,7 +68,7 @@ fn answer(alloc: Global, line: &str) -> Result<String, Fault> {
         "#" => Ok(String::from_str(alloc, line)?),
         "day" => dates::day(alloc, words),
         "shown" => dates::shown(alloc, words),
-        _ => answer_row(alloc, kind, &Row::read(alloc, words)?),
+        _ => answer_row(alloc, kind, &CaseRow::read(alloc, words)?),
     }
 }
 

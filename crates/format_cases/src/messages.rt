@@ -1,13 +1,13 @@
 //! What messages say.
 
-use crate::row::Row;
+use crate::row::CaseRow;
 use crate::words::{Word, push_part, push_words, told};
 use bytes::Bytes;
 use flight_proto::laws::parts_join;
 use flight_proto::{
     Action, Any, Command, CommandGetTables, CommandStatementIngest, CommandStatementQuery,
-    FlightData, FlightDescriptor, FlightEndpoint, FlightInfo, StreamDescriptor,
-    TableDefinitionOptions, Wanted, put_flight_data, read_ingest, read_location, read_rows_put,
+    FlightData, FlightDescriptor, FlightEndpoint, FlightInfo, InfoCommand, StreamDescriptor,
+    TableDefinitionOptions, put_flight_data, read_ingest, read_location, read_rows_put,
     read_statement_handle, read_update, read_wanted, read_wrapped,
 };
 use scan_base::Fault;
@@ -129,12 +129,12 @@ fn tables(alloc: Global, bytes: &[u8]) -> Result<String, Fault> {
 fn wanted(alloc: Global, bytes: &[u8]) -> Result<String, Fault> {
     let mut text = String::new(alloc);
     match read_wanted(bytes)? {
-        Wanted::Rows(query) => push_words(
+        InfoCommand::Rows(query) => push_words(
             &mut text,
             &[Word::Text("rows"), Word::Text(query)],
             " ",
         )?,
-        Wanted::Tables => text.push_str("tables")?,
+        InfoCommand::Tables => text.push_str("tables")?,
     }
     Ok(text)
 }
@@ -206,7 +206,7 @@ fn large_data(alloc: Global, len: usize) -> Result<String, Fault> {
 }
 
 /// Messages of the length that a row names.
-pub fn large(alloc: Global, case: &str, row: &Row) -> Result<String, Fault> {
+pub fn large(alloc: Global, case: &str, row: &CaseRow) -> Result<String, Fault> {
     let [len] = row.numbers.as_slice() else {
         return Err(Fault::BadFrame);
     };

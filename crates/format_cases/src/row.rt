@@ -5,17 +5,17 @@ use std::alloc::Global;
 
 /// Bytes, and numbers after them.
 #[derive(Drop)]
-pub struct Row {
+pub struct CaseRow {
     pub bytes: Vec<u8>,
     pub numbers: Vec<usize>,
 }
 
-impl Row {
+impl CaseRow {
     /// The row of a text: the bytes in hex, where a dash stands for none, and each number in a word
     /// of its own.
-    pub fn read(alloc: Global, text: &str) -> Result<Row, Fault> {
+    pub fn read(alloc: Global, text: &str) -> Result<CaseRow, Fault> {
         let (digits, words) = text.split_once(' ').unwrap_or((text, ""));
-        Ok(Row {
+        Ok(CaseRow {
             bytes: read_bytes(alloc, digits)?,
             numbers: read_numbers(alloc, words)?,
         })

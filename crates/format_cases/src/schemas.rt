@@ -1,7 +1,8 @@
 //! Schemas that are copied, and written and read again.
 
 use crate::words::{Word, told};
-use arrow_schema::{Field, HeaderKind, encapsulate, read_message, read_schema, write_schema};
+use arrow_schema::{HeaderKind, encapsulate, read_message, read_schema, write_schema};
+use arrow_types::Field;
 use scan_base::Fault;
 use std::alloc::{AllocError, Global};
 

@@ -7,7 +7,7 @@ ghost use Rattle.scan_base.specs.declared.value.Value.TheVariants.{Int};
 ghost use Rattle.scan_base.specs.Predicate.{comparing};
 ghost use Rattle.scan_base.specs.View.{pred_of};
 
-use crate::row::Row;
+use crate::row::CaseRow;
 use crate::words::{Word, told};
 use scan_base::{
     Comparison, Fault, Items, Operand, Predicate, Text, Truth, Value, ValueRef, read_text,
@@ -18,7 +18,7 @@ use std::alloc::Global;
 fn copied(alloc: Global, bytes: &[u8]) -> Result<String, Fault> {
     let text = read_text(bytes, Fault::BadProto)?;
     let value = Value::Text(Text::new(alloc, text)?.clone()?).copy()?;
-    let is_same = value.same(&ValueRef::Text(text).to_value(alloc)?);
+    let is_same = value == Value::Text(Text::new(alloc, text)?);
     let word = match value.borrowed() {
         ValueRef::Text(copy) => Word::Text(copy),
         _ => Word::Text("no text"),
@@ -84,7 +84,7 @@ fn chain_truths(alloc: Global, levels: usize) -> Result<String, Fault> {
 }
 
 /// Values that are copied, and what is as large as a row says.
-pub fn answer(alloc: Global, case: &str, row: &Row) -> Result<String, Fault> {
+pub fn answer(alloc: Global, case: &str, row: &CaseRow) -> Result<String, Fault> {
     match (case, row.numbers.as_slice()) {
         ("copied", []) => copied(alloc, &row.bytes),
         ("list", [len]) => list(alloc, *len),

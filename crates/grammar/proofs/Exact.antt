@@ -24,9 +24,6 @@ module _ {K V P : Type 0} (kinds : List K) (rule : Rule K V P P) (s after : K �
   solid_at zero v q = solid_of Nowhere (λ w n. n) rule filled v q
   solid_at (suc d) v q = solid_of (Nested rule d) (solid_at d) rule filled v q
 
-  solid_any : Solid (Any rule)
-  solid_any v q = solid_at q.0 v q.1
-
   speaks_at : (d : ℕ) → Speaks (Nested rule d)
   speaks_at zero = speaks_flat Nowhere rule made_well guarded
   speaks_at (suc d) = speaks (Nested rule d) (speaks_at d) rule made_well

@@ -10,7 +10,7 @@ use Rattle.typed_plan.specs.declared.plan.Aggregate.{Aggregate}
 use Rattle.group_slots.specs.declared.tally.Tally.{Tally}
 use Rattle.group_slots.specs.Tallies.{no_rows, added, counted}
 use Rattle.group_slots.specs.Counting.{AreWithin, IsSmall}
-use Rattle.group_slots.specs.Held.{count_tally, count_tallies, padded}
+use Rattle.group_slots.specs.HeldTallies.{count_tally, count_tallies, padded}
 use Rattle.group_slots.proofs.Stepping.{IsStepped, one_within, step}
 
 -- the tally of a group

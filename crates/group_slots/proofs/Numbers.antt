@@ -6,13 +6,13 @@ use Rattle.std.proofs.lemmas.List.{length-map}
 use Rattle.std.proofs.lemmas.List.FromFn.{get_or-map-range_with_len, length-range_with_len}
 use Rattle.std.proofs.lemmas.List.Elements.{All-get_or}
 use Rattle.std.specs.List.{range_with_len}
-use Rattle.arrow_schema.specs.declared.data_type.IntegerType.{IntegerType}
-use Rattle.arrow_schema.specs.declared.data_type.IntegerType.TheVariants as integer
-use Rattle.arrow_schema.specs.declared.data_type.DataType.TheVariants.{Integer}
+use Rattle.arrow_types.specs.declared.data_type.IntegerType.{IntegerType}
+use Rattle.arrow_types.specs.declared.data_type.IntegerType.TheVariants as integer
+use Rattle.arrow_types.specs.declared.data_type.DataType.TheVariants.{Integer}
 use Rattle.scan_base.specs.declared.value.Value.{Value}
 use Rattle.scan_base.specs.declared.value.Value.TheVariants.{Null, Int, Text, Bool as Flag}
 use Rattle.arrays.specs.Column.{ColumnAt, IsColumn, slot_of, values_of}
-use Rattle.arrays.specs.Typed.{IsInteger, IsValueOf, ValuesAreOfTheirType}
+use Rattle.arrays.specs.TypedLayouts.{IsInteger, IsValueOf, ValuesAreOfTheirType}
 use Rattle.group_slots.specs.Counting.{IsIntegers, IsShort}
 
 signed : (z : ℤ) → FitsSigned w64 z → IsShort z

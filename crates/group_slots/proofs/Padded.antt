@@ -4,7 +4,7 @@ use Rattle.std.proofs.lemmas.Bool.{cases_lt}
 use Rattle.std.proofs.lemmas.List.{get_or-append_right, get_or-replicate, get_or_append_left, get_or_past, length-append, length-replicate, take_all}
 use Rattle.group_slots.specs.declared.tally.Tally.{Tally}
 use Rattle.group_slots.specs.Tallies.{no_rows}
-use Rattle.group_slots.specs.Held.{AreBlank, count_tallies, padded}
+use Rattle.group_slots.specs.HeldTallies.{AreBlank, count_tallies, padded}
 
 -- there are so many
 pub padded_long : (groups : ℕ) (tallies : List Tally) → length tallies ≤ groups → length (padded groups tallies) ≡ groups

@@ -13,8 +13,8 @@ use Rattle.arrays.specs.Batch.{row_of}
 use Rattle.arrays.specs.Column.{ColumnAt}
 use Rattle.typed_plan.specs.declared.plan.Aggregate.{Aggregate}
 use Rattle.typed_plan.specs.declared.plan.Aggregate.TheVariants.{Sum}
-use Rattle.group_slots.specs.declared.pieces.Piece.{Piece}
-use Rattle.group_slots.specs.declared.slots.Slots.{Slots}
+use Rattle.group_slots.specs.declared.partial_sums.PartialSum.{PartialSum}
+use Rattle.group_slots.specs.declared.slots.IntegerSlots.{IntegerSlots}
 use Rattle.group_slots.specs.declared.tally.Tally.{Tally}
 use Rattle.group_slots.specs.Tallies.{no_rows, added, both, summed}
 use Rattle.group_slots.specs.Counting.{AreWithin, IsSmall, counted_in, stepped}
@@ -30,12 +30,12 @@ counted_more tally tallies = sum_by-cons (λ (tally : Tally). tally.count) tally
 -- ---- pieces of no rows
 
 -- each is of no rows
-pub blank_each : (pieces : List Piece) → All (λ (piece : Piece). piece_tally piece ≡ no_rows) pieces → (g : ℕ) → g < length pieces → get_or (tallies_of pieces) g no_rows ≡ no_rows
+pub blank_each : (pieces : List PartialSum) → All (λ (piece : PartialSum). piece_tally piece ≡ no_rows) pieces → (g : ℕ) → g < length pieces → get_or (tallies_of pieces) g no_rows ≡ no_rows
 blank_each pieces blank g low =
-    let none : Piece = record { count = 0; sum = pos 0 } in
-    get_or-map piece_tally pieces g none no_rows low ∙ All-get_or (λ (piece : Piece). piece_tally piece ≡ no_rows) pieces g none low blank
+    let none : PartialSum = record { count = 0; sum = pos 0 } in
+    get_or-map piece_tally pieces g none no_rows low ∙ All-get_or (λ (piece : PartialSum). piece_tally piece ≡ no_rows) pieces g none low blank
 
-blank_few : (pieces : List Piece) → All (λ (piece : Piece). piece_tally piece ≡ no_rows) pieces → counted_in (tallies_of pieces) ≤ 0
+blank_few : (pieces : List PartialSum) → All (λ (piece : PartialSum). piece_tally piece ≡ no_rows) pieces → counted_in (tallies_of pieces) ≤ 0
 blank_few [] blank = omega arith
 blank_few (piece ∷ pieces) blank =
     let first : piece_tally piece ≡ no_rows = blank 0 piece (omega arith) in
@@ -46,7 +46,7 @@ none_small : IsSmall no_rows
 none_small = record { low = omega (arith, ints); high = omega (arith, ints) }
 
 -- pieces of no rows count none
-pub blank_within : (pieces : List Piece) → All (λ (piece : Piece). piece_tally piece ≡ no_rows) pieces → AreWithin 0 (tallies_of pieces)
+pub blank_within : (pieces : List PartialSum) → All (λ (piece : PartialSum). piece_tally piece ≡ no_rows) pieces → AreWithin 0 (tallies_of pieces)
 blank_within pieces blank = record {
   few = blank_few pieces blank;
   small = λ g low. subst IsSmall (sym (blank_each pieces blank g (omega (arith, low, length-map pieces piece_tally)))) none_small;
@@ -55,13 +55,13 @@ blank_within pieces blank = record {
 -- ---- a row more
 
 -- no piece counts more than all do
-pub piece_few : (pieces : List Piece) (group : ℕ) (d : Piece) → group < length pieces → (get_or pieces group d).count ≤ counted_in (tallies_of pieces)
+pub piece_few : (pieces : List PartialSum) (group : ℕ) (d : PartialSum) → group < length pieces → (get_or pieces group d).count ≤ counted_in (tallies_of pieces)
 piece_few pieces group d there =
     let one = get_or-le-sum_by (λ (tally : Tally). tally.count) (tallies_of pieces) group no_rows (omega (arith, there, length-map pieces piece_tally)) in
     omega (arith, one, ap (λ (tally : Tally). tally.count) (get_or-map piece_tally pieces group d no_rows there))
 
 -- a row more is added to its piece
-fill : (column : ℕ) (columns : List ColumnAt) (groups rows : List ℕ) (before : List Tally) (k : ℕ) (pieces : List Piece) (d piece : Piece) (slots : Slots) (valid : Bool) (number : ℤ) →
+fill : (column : ℕ) (columns : List ColumnAt) (groups rows : List ℕ) (before : List Tally) (k : ℕ) (pieces : List PartialSum) (d piece : PartialSum) (slots : IntegerSlots) (valid : Bool) (number : ℤ) →
     IsStepped (Sum column) columns groups rows 0 before k (tallies_of pieces) → get_or groups k 0 < length pieces → FitsSigned w64 number →
     valid ≡ slot_is_valid slots (get_or rows k 0) → number ≡ slot_number slots (get_or rows k 0) →
     cell_in (row_of columns (get_or rows k 0)) column ≡ slot_cell slots (get_or rows k 0) →
@@ -212,13 +212,13 @@ sum_held a b sum true fits_a fits_b is held holds = cc
 sum_held a b sum false fits_a fits_b is held holds = is ∙ wrapping_add_is w64 a b fits_a fits_b ∙ int_wrap_fits w64 (a +ℤ b) (search rules)
 
 -- what the pieces count, and the tallies that they are where 64 bits held each sum
-pub record AreFilled (item : Aggregate) (columns : List ColumnAt) (groups rows : List ℕ) (before : List Piece) (k : ℕ) (pieces : List Piece) (holds : Bool) : Type 0 where
+pub record AreFilled (item : Aggregate) (columns : List ColumnAt) (groups rows : List ℕ) (before : List PartialSum) (k : ℕ) (pieces : List PartialSum) (holds : Bool) : Type 0 where
   pub few : counted_in (tallies_of pieces) ≤ k
   pub long : length pieces ≡ length before
   pub stepped : holds ≡ true → IsStepped item columns groups rows 0 (tallies_of before) k (tallies_of pieces)
 
 -- a row more
-pub fill_more : (column : ℕ) (columns : List ColumnAt) (groups rows : List ℕ) (before : List Piece) (k : ℕ) (pieces : List Piece) (d piece : Piece) (slots : Slots)
+pub fill_more : (column : ℕ) (columns : List ColumnAt) (groups rows : List ℕ) (before : List PartialSum) (k : ℕ) (pieces : List PartialSum) (d piece : PartialSum) (slots : IntegerSlots)
     (valid : Bool) (number : ℤ) (holds fit : Bool) →
     AreFilled (Sum column) columns groups rows before k pieces holds → get_or groups k 0 < length pieces → FitsSigned w64 number →
     valid ≡ slot_is_valid slots (get_or rows k 0) → number ≡ slot_number slots (get_or rows k 0) →

@@ -8,7 +8,7 @@ use Rattle.std.proofs.lemmas.Nat.{mod-pow-add}
 use Rattle.bitmap.proofs.Masks.{little_part}
 use Rattle.byteorder.specs.Endian.{little_from}
 use Rattle.scan_base.specs.declared.value.Value.TheVariants.{Int, Null, Text}
-use Rattle.group_slots.specs.Tagged.{low_bytes, value_tagged}
+use Rattle.group_slots.specs.TaggedValues.{low_bytes, value_tagged}
 use Rattle.byteorder.specs.Numbers.{little_from-lt}
 
 -- the elements from a place on begin with the element there

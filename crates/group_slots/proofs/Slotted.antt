@@ -1,25 +1,25 @@
 -- Slots that are counted and summed.
-use Rattle.std.proofs.Common.{◌≡◌, ◌≤◌, ◌<◌, ℕ, ◌+◌, ◌*◌, ℤ, Bool, true, false, FitsSigned, ◌^◌, List, Option, Some, None, length, get_or, sym, ap, ◌∙◌, subst, arith}
+use Rattle.std.proofs.Common.{◌≡◌, ◌≤◌, ◌<◌, ℕ, ◌+◌, ◌*◌, ℤ, Bool, true, false, FitsSigned, ◌^◌, List, Option, Some, None, length, get_or, refl, sym, ap, ◌∙◌, subst, arith}
 use Rattle.std.specs.Int.{w64}
 use Rattle.std.proofs.lemmas.Int.{ints}
 use Rattle.std.proofs.Math.Nat.{le_trans, mul-le-mul_left}
 use Rattle.std.proofs.lemmas.List.{get_or-map}
 use Rattle.std.proofs.lemmas.Option.{unwrap_or-slice_get}
-use Rattle.arrow_schema.specs.declared.data_type.IntegerType.{IntegerType}
+use Rattle.arrow_types.specs.declared.data_type.IntegerType.{IntegerType}
 use Rattle.arrays.specs.Number.{byte_width}
 use Rattle.arrays.specs.Integers.{IntegersAt}
 use Rattle.arrays.specs.Indices.{IndicesAt}
 use Rattle.arrays.specs.Layout.{layout_slot}
 use Rattle.arrays.specs.declared.layout.Layout.{Layout}
 use Rattle.arrays.specs.declared.layout.Layout.TheVariants.{Indices, Integers}
-use Rattle.arrays.specs.Validity.{IsLong}
+use Rattle.arrays.specs.Validity.{HasBits, IsLong}
 use Rattle.group_slots.specs.declared.slots.Entries.{Entries}
 use Rattle.group_slots.specs.declared.tally.Tally.{Tally}
 use Rattle.group_slots.specs.Tallies.{summed}
 use Rattle.group_slots.specs.Counting.{IsSmall}
-use Rattle.group_slots.specs.Slots.{AreSlots, HaveRoom, entry_cell, number_or_null, slot_cell, slot_is_valid, slot_number, validity_count}
-use Rattle.group_slots.specs.declared.slots.Slots.{Slots}
-use Rattle.arrays.specs.Batch.{AreLong, BatchAt, row_of}
+use Rattle.group_slots.specs.Slots.{HaveRoom, entry_cell, number_or_null, slot_cell, slot_is_valid, slot_number, validity_count}
+use Rattle.group_slots.specs.declared.slots.IntegerSlots.{IntegerSlots}
+use Rattle.arrays.specs.Batch.{row_of}
 use Rattle.arrays.specs.Column.{ColumnAt, slot_of}
 use Rattle.scan_base.specs.declared.value.Value.{Value}
 use Rattle.scan_base.specs.declared.value.Value.TheVariants.{Null}
@@ -36,7 +36,7 @@ pub small_after : (before after : Tally) (valid : Bool) (number : ℤ) → FitsS
 small_after before after valid number fits small is = subst IsSmall (sym is) (small_slot before valid number fits small)
 
 -- what is added is the cell of the row
-pub summed_cell : (before after : Tally) (slots : Slots) (row : ℕ) (value : Value) (valid : Bool) (number : ℤ) → after ≡ summed before (number_or_null valid number) →
+pub summed_cell : (before after : Tally) (slots : IntegerSlots) (row : ℕ) (value : Value) (valid : Bool) (number : ℤ) → after ≡ summed before (number_or_null valid number) →
     valid ≡ slot_is_valid slots row → number ≡ slot_number slots row → value ≡ slot_cell slots row → after ≡ summed before value
 summed_cell before after slots row value valid number added is_valid is_number is =
     added
@@ -50,20 +50,20 @@ pub cell_slot : (columns : List ColumnAt) (row key : ℕ) (d : ColumnAt) → key
 cell_slot columns row key d there =
     unwrap_or-slice_get (row_of columns row) key Null ∙ get_or-map (λ (c : ColumnAt). slot_of c row) columns key d Null there
 
--- a cell of a row, by the slots of its column
-pub are_slots : (slots : Slots) (column : ℕ) (found : ColumnAt) (batch : BatchAt) → found ≡ get_or batch.columns column found → column < length batch.columns →
-    AreLong batch.rows batch.columns → HaveRoom slots found.len → ((row : ℕ) → slot_of found row ≡ slot_cell slots row) → AreSlots slots column batch
-are_slots slots column found batch is there long room cells = record {
-  room = subst (HaveRoom slots) (ap (λ (c : ColumnAt). c.len) is ∙ long column found there) room;
-  cells = λ row. cell_slot batch.columns row column found there ∙ ap (λ (c : ColumnAt). slot_of c row) (sym is) ∙ cells row;
-}
-
 bits_long : (validity : Option (List Bool)) (len wanted : ℕ) → IsLong validity len → wanted ≤ len → wanted ≤ validity_count validity wanted
 bits_long None len wanted long within = omega arith
 bits_long (Some bits) len wanted long within = omega (arith, long, within)
 
+bits_below : (validity : Option (List Bool)) (all below : ℕ) → below ≤ all → all ≤ validity_count validity all → HasBits validity below
+bits_below None all below within room = (all, within, tt)
+bits_below (Some bits) all below within room = (length bits, omega (arith, within, room), refl)
+
+-- a row's validity bit is there, where there are bits
+pub has_bit : (slots : IntegerSlots) (rows row : ℕ) → row < rows → HaveRoom slots rows → HasBits slots.validity.now (slots.first + row + 1)
+has_bit slots rows row low room = bits_below slots.validity.now (slots.first + rows) (slots.first + row + 1) (omega (arith, low)) room.valid
+
 -- the buffers of a column have room for its rows
-pub room_of : (integer : IntegerType) (validity : Option (List Bool)) (values : List ℕ) (len first count : ℕ) (slots : Slots) →
+pub room_of : (integer : IntegerType) (validity : Option (List Bool)) (values : List ℕ) (len first count : ℕ) (slots : IntegerSlots) →
     IsLong validity len → byte_width integer * len ≤ length values → first + count ≤ len → first + count < 2 ^ 64 →
     slots.kind ≡ integer → slots.validity.now ≡ validity → slots.values.now ≡ values → slots.first ≡ first → HaveRoom slots count
 room_of integer validity values len first count slots long room within small is_kind is_validity is_values is_first = record {
@@ -73,7 +73,7 @@ room_of integer validity values len first count slots long room within small is_
 }
 
 -- a slot of integers, by its packed number
-pub integer_cell : (column : ColumnAt) (cells : IntegersAt) (slots : Slots) → column.layout ≡ Integers cells →
+pub integer_cell : (column : ColumnAt) (cells : IntegersAt) (slots : IntegerSlots) → column.layout ≡ Integers cells →
     slots.kind ≡ cells.integer → slots.validity.now ≡ cells.validity → slots.values.now ≡ cells.values → slots.first ≡ column.first →
     (row : ℕ) → slot_of column row ≡ slot_cell slots row
 integer_cell column cells slots is is_kind is_validity is_values is_first row =

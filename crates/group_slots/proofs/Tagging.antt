@@ -7,8 +7,8 @@ use Rattle.scan_base.specs.declared.value.Value.TheVariants.{Int, Null}
 use Rattle.arrays.specs.Dictionary.{entry_at}
 use Rattle.group_slots.specs.declared.tags.Tag.{Tag}
 use Rattle.group_slots.specs.declared.slots.Entries.{Entries}
-use Rattle.group_slots.specs.declared.slots.Slots.{Slots}
-use Rattle.group_slots.specs.Tagged.{entry_tagged, value_tagged}
+use Rattle.group_slots.specs.declared.slots.IntegerSlots.{IntegerSlots}
+use Rattle.group_slots.specs.TaggedValues.{entry_tagged, value_tagged}
 use Rattle.group_slots.specs.Slots.{entry_cell, number_or_null, number_tag, slot_cell, slot_is_valid, slot_number}
 
 number_back : (valid : Bool) (number : ℤ) → FitsSigned w64 number →
@@ -17,7 +17,7 @@ number_back true number fits = ap Int (to_z-of_z w64 number fits)
 number_back false number fits = refl
 
 -- the tag of a row's number is of its cell
-pub number_tagged : (slots : Slots) (row : ℕ) (valid : Bool) (number : ℤ) (tag : Tag) → FitsSigned w64 number →
+pub number_tagged : (slots : IntegerSlots) (row : ℕ) (valid : Bool) (number : ℤ) (tag : Tag) → FitsSigned w64 number →
     tag ≡ number_tag valid number → valid ≡ slot_is_valid slots row → number ≡ slot_number slots row →
     value_tagged tag.kind tag.key ≡ slot_cell slots row
 number_tagged slots row valid number tag fits is is_valid is_number =

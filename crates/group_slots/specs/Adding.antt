@@ -7,7 +7,7 @@ use Rattle.group_slots.specs.declared.item_tallies.ItemTallies.{ItemTallies}
 use Rattle.group_slots.specs.declared.tally.Tally.{Tally}
 use Rattle.group_slots.specs.Tallies.{no_rows}
 use Rattle.group_slots.specs.Counting.{AreWithin, CanCount, stepped}
-use Rattle.group_slots.specs.Held.{tallies_in}
+use Rattle.group_slots.specs.HeldTallies.{tallies_in}
 
 -- the tallies are those of before, and of no rows for each new group, with the rows added
 pub record IsAdded (item : Aggregate) (columns : List ColumnAt) (rows groups : List ℕ) (found : ℕ)

@@ -1,7 +1,7 @@
 pub mod Adding
 pub mod Counting
-pub mod Held
+pub mod HeldTallies
 pub mod Pieces
 pub mod Slots
-pub mod Tagged
+pub mod TaggedValues
 pub mod Tallies

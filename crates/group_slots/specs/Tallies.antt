@@ -7,7 +7,7 @@ use Rattle.scan_base.specs.Predicate.{cell_in}
 use Rattle.table_versions.specs.Table.{Row}
 use Rattle.typed_plan.specs.declared.plan.Aggregate.{Aggregate}
 use Rattle.typed_plan.specs.declared.plan.Aggregate.TheVariants.{Key, CountRows, Count, Sum}
-use Rattle.typed_plan.specs.Grouped.{plus}
+use Rattle.typed_plan.specs.GroupedRows.{plus}
 use Rattle.group_slots.specs.declared.tally.Tally.{Tally}
 
 -- of no rows

@@ -7,15 +7,15 @@ ghost use Rattle.typed_plan.specs.declared.plan.Aggregate.TheVariants.{Count as 
 ghost use Rattle.scan_base.specs.Predicate.{cell_in};
 ghost use Rattle.arrays.specs.Batch.{row_of};
 ghost use Rattle.group_slots.specs.Counting.{AreWithin, CanCount, stepped};
-ghost use Rattle.group_slots.specs.Held.{count_tally, count_tallies};
+ghost use Rattle.group_slots.specs.HeldTallies.{count_tally, count_tallies};
 ghost use Rattle.group_slots.specs.Tallies.{counted};
 
-use crate::part::Part;
+use crate::row_groups::RowGroups;
 use arrays::{Batch, Cells};
 use scan_base::ValueRef;
 
 /// Counts each row in its group.
-pub(crate) fn count_rows(counts: &mut [u64], part: &Part<'_>)
+pub(crate) fn count_rows(counts: &mut [u64], part: &RowGroups<'_>)
     requires grouped { All (λ group. group < length counts.old) part.now.groups.now }
     requires long { length part.now.groups.now ≡ length part.now.rows.now }
     requires few { part.now.fed + length part.now.rows.now ≤ most_rows }
@@ -32,7 +32,7 @@ pub(crate) fn count_rows(counts: &mut [u64], part: &Part<'_>)
 }
 
 /// Counts each value of a column in the group of its row.
-pub(crate) fn count_values(counts: &mut [u64], column: usize, part: &Part<'_>)
+pub(crate) fn count_values(counts: &mut [u64], column: usize, part: &RowGroups<'_>)
     requires there { CanCount (CountOf column) part.now.batch.now.columns }
     requires within { All (λ row. row < part.now.batch.now.rows) part.now.rows.now }
     requires grouped { All (λ group. group < length counts.old) part.now.groups.now }

@@ -1,7 +1,7 @@
 //! Tallies of an item: counts alone, until something is summed.
 
 ghost use Rattle.std.specs.Prelude.{◌≡◌, IfOk, OnOk, map};
-ghost use Rattle.group_slots.specs.Held.{count_tallies, padded, tallies_in, AreBlank};
+ghost use Rattle.group_slots.specs.HeldTallies.{count_tallies, padded, tallies_in, AreBlank};
 
 use crate::tally::Tally;
 use std::alloc::{AllocError, Global};

@@ -1,8 +1,8 @@
 //! Numbers of at most 64 bits with a sign, as they lie in the buffers of a column.
 
 ghost use Rattle.std.specs.Prelude.{◌≡◌, ◌≤◌, ◌<◌, ◌+◌, ◌*◌, ℕ, Bool, true, false, is_some, length};
-ghost use Rattle.arrow_schema.specs.declared.data_type.IntegerType.{IntegerType as Kind};
-ghost use Rattle.arrow_schema.specs.declared.data_type.IntegerType.TheVariants as integer;
+ghost use Rattle.arrow_types.specs.declared.data_type.IntegerType.{IntegerType as Kind};
+ghost use Rattle.arrow_types.specs.declared.data_type.IntegerType.TheVariants as integer;
 ghost use Rattle.arrays.specs.Number.{byte_width, integer_at};
 ghost use Rattle.arrays.specs.Column.{slot_of};
 ghost use Rattle.arrays.specs.declared.layout.Layout.TheVariants.{Indices as IndicesLayout};
@@ -11,9 +11,8 @@ ghost use Rattle.arrays.specs.Indices.{AreIndices};
 ghost use Rattle.group_slots.specs.Slots.{HaveRoom, entry_cell, slot_cell, slot_is_valid};
 ghost use Rattle.group_slots.specs.Slots.{slot_number};
 
-use arrays::{Cells, Column, Dictionary, Element, Indices, Integers};
-use arrow_schema::IntegerType;
-use bitmap::Bits;
+use arrays::{Cells, Column, Dictionary, Element, Indices, Integers, Validity};
+use arrow_types::IntegerType;
 
 /// A type of numbers that 64 bits with a sign hold.
 pub trait Number {
@@ -84,14 +83,14 @@ impl Number for u32 {
 /// The packed numbers of a column, their type, which of them are valid, and the place of its first
 /// row among them.
 #[derive(Clone, Copy, Drop)]
-pub struct Slots<'a> {
+pub struct IntegerSlots<'a> {
     pub kind: IntegerType,
     pub values: &'a [u8],
-    pub validity: &'a Option<Bits>,
+    pub validity: &'a Validity,
     pub first: usize,
 }
 
-impl<'a> Slots<'a> {
+impl<'a> IntegerSlots<'a> {
     /// The number of a row, which is what its bytes say where it is null.
     pub(crate) fn number<N: Number>(&self, row: usize) -> i64
         requires kind { self.now.kind ≡ N.kind }
@@ -101,24 +100,21 @@ impl<'a> Slots<'a> {
         N::at(self.values, self.first + row)
     }
 
-    /// Whether the number of a row is valid: each is, where there are no bits.
+    /// Whether the number of a row is valid.
     pub(crate) fn is_valid(&self, row: usize) -> bool
         requires { (rows : ℕ) × (row < rows) × HaveRoom self.now rows }
         ensures { result ≡ slot_is_valid self.now row }
     {
-        match self.validity {
-            None => true,
-            Some(bits) => bits.get(self.first + row),
-        }
+        self.validity.is_valid(self.first + row)
     }
 }
 
 /// Which numbers of a column are valid.
-pub(crate) trait Validity {
+pub(crate) trait ValidRows {
     ghost marked: { Bool };
 
     /// Whether the number of a row is valid.
-    fn is_valid(slots: &Slots<'_>, row: usize) -> bool
+    fn is_valid(slots: &IntegerSlots<'_>, row: usize) -> bool
         requires marked { is_some slots.now.validity.now ≡ marked }
         requires room { (rows : ℕ) × (row < rows) × HaveRoom slots.now rows }
         ensures { result ≡ slot_is_valid slots.now row };
@@ -126,25 +122,25 @@ pub(crate) trait Validity {
 
 /// Each number is valid.
 #[derive(Clone, Copy, Drop)]
-pub(crate) struct Whole;
+pub(crate) struct WholeValidity;
 
-impl Validity for Whole {
+impl ValidRows for WholeValidity {
     ghost marked = { false };
 
-    fn is_valid(slots: &Slots<'_>, _row: usize) -> bool {
+    fn is_valid(slots: &IntegerSlots<'_>, _row: usize) -> bool {
         true
     }
 }
 
 /// Bits tell which numbers are valid.
 #[derive(Clone, Copy, Drop)]
-pub(crate) struct Marked;
+pub(crate) struct MarkedValidity;
 
-impl Validity for Marked {
+impl ValidRows for MarkedValidity {
     ghost marked = { true };
 
-    fn is_valid(slots: &Slots<'_>, row: usize) -> bool {
-        match slots.validity {
+    fn is_valid(slots: &IntegerSlots<'_>, row: usize) -> bool {
+        match slots.validity.bits() {
             None => unreachable!(),
             Some(bits) => bits.get(slots.first + row),
         }
@@ -153,13 +149,13 @@ impl Validity for Marked {
 
 /// The packed numbers of a column of whole numbers.
 #[tactic(auto, using(crate::proofs::Slotted::room_of, crate::proofs::Slotted::integer_cell))]
-pub fn integer_slots<'a>(column: &'a Column, cells: &Integers<'a>) -> Slots<'a>
+pub fn integer_slots<'a>(column: &'a Column, cells: &Integers<'a>) -> IntegerSlots<'a>
     requires { column.now.layout ≡ IntegersLayout cells.now }
     ensures room { HaveRoom result column.now.len }
     ensures cells { (row : ℕ) → slot_of column.now row ≡ slot_cell result row }
 {
     let _count = (column.len(), cells.len());
-    Slots {
+    IntegerSlots {
         kind: cells.integer_type(),
         values: cells.values(),
         validity: cells.validity(),
@@ -170,7 +166,7 @@ pub fn integer_slots<'a>(column: &'a Column, cells: &Integers<'a>) -> Slots<'a>
 /// The packed indices of a column, and the dictionary into which they lead.
 #[derive(Clone, Copy, Drop)]
 pub struct Entries<'a> {
-    pub slots: Slots<'a>,
+    pub slots: IntegerSlots<'a>,
     pub dictionary: &'a Dictionary,
 }
 
@@ -184,7 +180,7 @@ pub fn entry_slots<'a>(column: &'a Column, cells: &Indices<'a>) -> Entries<'a>
 {
     let _count = column.len();
     Entries {
-        slots: Slots {
+        slots: IntegerSlots {
             kind: cells.index_type(),
             values: cells.values(),
             validity: cells.validity(),

@@ -6,19 +6,19 @@ ghost use Rattle.typed_plan.specs.declared.plan.Aggregate.TheVariants.{Sum as Su
 ghost use Rattle.group_slots.specs.Counting.{AreWithin, CanCount, stepped};
 ghost use Rattle.group_slots.specs.Slots.{AreSlots};
 
-use crate::part::{Part, add_each};
-use crate::pieces::{MOST_PIECES, blank_pieces, fill_pieces, join_pieces};
-use crate::slots::{Marked, Number, Slots, Validity, Whole, integer_slots};
+use crate::partial_sums::{MOST_PIECES, blank_pieces, fill_pieces, join_pieces};
+use crate::row_groups::{RowGroups, add_each};
+use crate::slots::{IntegerSlots, MarkedValidity, Number, ValidRows, WholeValidity, integer_slots};
 use crate::tally::Tally;
 use arrays::{Cells, Layout};
-use arrow_schema::IntegerType;
+use arrow_types::IntegerType;
 use typed_plan::Aggregate;
 
 // Of how many rows for each group sums are made in pieces.
 const LEAST_ROWS: usize = 4;
 
 /// Adds the number of each row to the tally of its group.
-pub(crate) fn sum_rows(tallies: &mut [Tally], column: usize, part: &Part<'_>)
+pub(crate) fn sum_rows(tallies: &mut [Tally], column: usize, part: &RowGroups<'_>)
     requires there { CanCount (SumOf column) part.now.batch.now.columns }
     requires within { All (λ row. row < part.now.batch.now.rows) part.now.rows.now }
     requires grouped { All (λ group. group < length tallies.old) part.now.groups.now }
@@ -38,7 +38,7 @@ pub(crate) fn sum_rows(tallies: &mut [Tally], column: usize, part: &Part<'_>)
 }
 
 // Adds the number of each row to the tally of its group, where these are the numbers of the column.
-fn sum_kind(tallies: &mut [Tally], column: usize, slots: &Slots<'_>, part: &Part<'_>)
+fn sum_kind(tallies: &mut [Tally], column: usize, slots: &IntegerSlots<'_>, part: &RowGroups<'_>)
     requires there { CanCount (SumOf column) part.now.batch.now.columns }
     requires slots { AreSlots slots.now column part.now.batch.now }
     requires within { All (λ row. row < part.now.batch.now.rows) part.now.rows.now }
@@ -64,7 +64,12 @@ fn sum_kind(tallies: &mut [Tally], column: usize, slots: &Slots<'_>, part: &Part
 
 // Adds the number of each row to the tally of its group, where these are the numbers of the column,
 // of a type.
-fn sum_slots<N: Number>(tallies: &mut [Tally], column: usize, slots: &Slots<'_>, part: &Part<'_>)
+fn sum_slots<N: Number>(
+    tallies: &mut [Tally],
+    column: usize,
+    slots: &IntegerSlots<'_>,
+    part: &RowGroups<'_>,
+)
     requires kind { slots.now.kind ≡ N.kind }
     requires slots { AreSlots slots.now column part.now.batch.now }
     requires within { All (λ row. row < part.now.batch.now.rows) part.now.rows.now }
@@ -76,18 +81,18 @@ fn sum_slots<N: Number>(tallies: &mut [Tally], column: usize, slots: &Slots<'_>,
         part.now.groups.now part.now.rows.now tallies.old (length part.now.rows.now) }
     ensures small { AreWithin (part.now.fed + length part.now.rows.now) tallies.new }
 {
-    match slots.validity {
-        None => sum_valid::<N, Whole>(tallies, column, slots, part),
-        Some(_) => sum_valid::<N, Marked>(tallies, column, slots, part),
+    match slots.validity.bits() {
+        None => sum_valid::<N, WholeValidity>(tallies, column, slots, part),
+        Some(_) => sum_valid::<N, MarkedValidity>(tallies, column, slots, part),
     }
 }
 
 // The same, by which numbers are valid: in pieces, where each of few groups has some rows.
-fn sum_valid<N: Number, V: Validity>(
+fn sum_valid<N: Number, V: ValidRows>(
     tallies: &mut [Tally],
     column: usize,
-    slots: &Slots<'_>,
-    part: &Part<'_>,
+    slots: &IntegerSlots<'_>,
+    part: &RowGroups<'_>,
 )
     requires kind { slots.now.kind ≡ N.kind }
     requires marked { is_some slots.now.validity.now ≡ V.marked }
@@ -110,11 +115,11 @@ fn sum_valid<N: Number, V: Validity>(
 // The same in pieces, of few groups. The table of pieces is large, so that it stays out of its
 // callers.
 #[inline(never)]
-fn sum_in_pieces<N: Number, V: Validity>(
+fn sum_in_pieces<N: Number, V: ValidRows>(
     tallies: &mut [Tally],
     column: usize,
-    slots: &Slots<'_>,
-    part: &Part<'_>,
+    slots: &IntegerSlots<'_>,
+    part: &RowGroups<'_>,
 )
     requires groups { length tallies.old ≤ 1024 }
     requires kind { slots.now.kind ≡ N.kind }
@@ -138,11 +143,11 @@ fn sum_in_pieces<N: Number, V: Validity>(
 }
 
 // The same, tally by tally.
-fn sum_each<N: Number, V: Validity>(
+fn sum_each<N: Number, V: ValidRows>(
     tallies: &mut [Tally],
     column: usize,
-    slots: &Slots<'_>,
-    part: &Part<'_>,
+    slots: &IntegerSlots<'_>,
+    part: &RowGroups<'_>,
 )
     requires kind { slots.now.kind ≡ N.kind }
     requires marked { is_some slots.now.validity.now ≡ V.marked }

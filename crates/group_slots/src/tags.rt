@@ -6,11 +6,10 @@ ghost use Rattle.byteorder.specs.Endian.{little_from};
 ghost use Rattle.scan_base.specs.declared.value.Value.{Value as Cell};
 ghost use Rattle.scan_base.specs.declared.value.Value.TheVariants.{Text as TextOf};
 ghost use Rattle.arrays.specs.declared.layout.Layout.TheVariants.{Texts as TextsLayout};
-ghost use Rattle.arrays.specs.Validity.{is_valid};
-ghost use Rattle.group_slots.specs.Tagged.{value_tagged};
+ghost use Rattle.group_slots.specs.TaggedValues.{value_tagged};
 ghost use Rattle.group_slots.specs.Slots.{HaveRoom, number_tag};
 
-use crate::slots::{Entries, Number, Slots};
+use crate::slots::{Entries, IntegerSlots, Number};
 use arrays::{Cells, Column, TextsRef};
 use byteorder::{ByteOrder, LittleEndian};
 use std::marker::PhantomData;
@@ -48,7 +47,7 @@ pub trait Tags {
 /// Tags of so many packed numbers of a type.
 #[derive(Drop)]
 pub struct NumberTags<'a, N: Number> {
-    pub slots: Slots<'a>,
+    pub slots: IntegerSlots<'a>,
     pub rows: usize,
     pub of: PhantomData<N>,
     ghost kind: { slots.kind ≡ N.kind },
@@ -56,7 +55,7 @@ pub struct NumberTags<'a, N: Number> {
 }
 
 impl<'a, N: Number> Tags for NumberTags<'a, N> {
-    ghost use Rattle.group_slots.specs.Tagged.{value_tagged};
+    ghost use Rattle.group_slots.specs.TaggedValues.{value_tagged};
     ghost use Rattle.group_slots.specs.Slots.{slot_cell};
 
     ghost count = { λ t. t.rows };
@@ -82,7 +81,7 @@ pub struct IndexTags<'a, N: Number> {
 }
 
 impl<'a, N: Number> Tags for IndexTags<'a, N> {
-    ghost use Rattle.group_slots.specs.Tagged.{entry_tagged};
+    ghost use Rattle.group_slots.specs.TaggedValues.{entry_tagged};
     ghost use Rattle.group_slots.specs.Slots.{entry_cell};
 
     ghost count = { λ t. t.rows };
@@ -124,7 +123,7 @@ pub struct TextTags<'a> {
 
 impl<'a> Tags for TextTags<'a> {
     ghost use Rattle.arrays.specs.Texts.{texts_slot};
-    ghost use Rattle.group_slots.specs.Tagged.{value_tagged};
+    ghost use Rattle.group_slots.specs.TaggedValues.{value_tagged};
 
     ghost count = { λ t. t.rows };
 
@@ -134,7 +133,8 @@ impl<'a> Tags for TextTags<'a> {
 
     fn tag(&self, row: usize) -> Tag {
         let place = self.first + row;
-        if !self.is_valid(place) {
+        let _count = self.texts.len();
+        if !self.texts.validity().is_valid(place) {
             return Tag { key: 0, kind: NULL };
         }
         let (begin, end) = self.texts.bounds(place, place + 1);
@@ -154,20 +154,6 @@ pub fn text_tags<'a>(column: &'a Column, texts: TextsRef<'a>) -> TextTags<'a>
         texts,
         first: column.first(),
         rows,
-    }
-}
-
-impl<'a> TextTags<'a> {
-    // Whether the text at a place is valid: each is, where there are no bits.
-    fn is_valid(&self, place: usize) -> bool
-        requires { place < self.now.texts.len }
-        ensures { result ≡ is_valid self.now.texts.validity place }
-    {
-        let _count = self.texts.len();
-        match self.texts.validity() {
-            None => true,
-            Some(bits) => bits.get(place),
-        }
     }
 }
 

@@ -4,7 +4,7 @@ ghost use Rattle.std.specs.Prelude.{◌≡◌, ◌≤◌, ◌<◌, ◌+◌, ◌+
 ghost use Rattle.scan_base.specs.Limits.{most_rows};
 ghost use Rattle.scan_base.specs.declared.value.Value.TheVariants as value;
 ghost use Rattle.arrays.specs.Batch.{row_of};
-ghost use Rattle.array_select.specs.Built.{value_or_null};
+ghost use Rattle.array_select.specs.ColumnValues.{value_or_null};
 ghost use Rattle.arrays.specs.Column.{slot_of};
 ghost use Rattle.group_slots.specs.Counting.{IsIntegers, IsShort};
 
@@ -25,7 +25,7 @@ impl Tally {
     ghost use Rattle.group_slots.specs.Tallies.{no_rows, added, both, summed};
     ghost use Rattle.group_slots.specs.Slots.{number_or_null};
     ghost use Rattle.group_slots.specs.Counting.{IsSmall, IsShort, CanCount};
-    ghost use Rattle.group_slots.specs.Held.{count_tally};
+    ghost use Rattle.group_slots.specs.HeldTallies.{count_tally};
 
     /// Of no rows.
     pub(crate) fn new() -> Tally

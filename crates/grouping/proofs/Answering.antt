@@ -4,26 +4,30 @@ use Rattle.std.specs.Prelude.{◌==◌}
 use Rattle.std.proofs.lemmas.List.{get_or_default, take_all, map-append, map_more}
 use Rattle.scan_base.specs.declared.value.Value.{Value}
 use Rattle.scan_base.specs.declared.value.Value.TheVariants.{Null, Int}
-use Rattle.arrow_schema.specs.declared.data_type.DataType.{DataType}
+use Rattle.arrow_types.specs.declared.data_type.DataType.{DataType}
 use Rattle.scan_base.specs.Predicate.{cell_in}
 use Rattle.arrays.specs.declared.layout.Layout.TheVariants as layout
 use Rattle.array_select.specs.declared.of_slots.SlotRef.{SlotRef}
 use Rattle.arrays.specs.Batch.{AreLong, BatchAt, row_of}
 use Rattle.array_select.specs.OfSlots.{slot_value}
-use Rattle.array_select.specs.Built.{value_or_null}
+use Rattle.array_select.specs.ColumnValues.{value_or_null}
 use Rattle.arrays.specs.Column.{ColumnAt, slot_of}
-use Rattle.arrays.specs.Typed.{AreOf, IsOfType}
-use Rattle.arrays.specs.Written.{text_bytes}
-use Rattle.typed_plan.specs.Typed.{type_at}
+use Rattle.arrays.specs.TypedLayouts.{AreOf, IsOfType}
+use Rattle.arrays.specs.WrittenSlots.{text_bytes}
+use Rattle.typed_plan.specs.TypedPlans.{type_at}
 use Rattle.group_slots.specs.declared.tally.Tally.{Tally}
 use Rattle.group_slots.proofs.Slotted.{cell_slot}
 use Rattle.grouping.specs.declared.key.Place.{Place}
 use Rattle.grouping.specs.Answers.{IsThere}
-use Rattle.grouping.specs.Fed.{AreTyped, batch_at}
+use Rattle.grouping.specs.FedRows.{AreTyped, batch_at}
 use Rattle.array_select.specs.Fitting.{has_texts}
-use Rattle.grouping.specs.inside.Answering.{count_or_none, first_cell, sum_or_none}
+use Rattle.grouping.specs.inside.Answering.{first_cell, sum_or_none}
 use Rattle.grouping.proofs.Feeding.{as_many}
-use Rattle.array_select.proofs.Short.{no_text}
+use Rattle.array_select.proofs.Light.{no_text}
+
+-- a count, as a number of a column
+abbrev pub count_or_none : ℕ → Option ℤ
+count_or_none count = Some (pos count)
 
 pub if_ok : {T E : Type 0} (P Q : T → Type 0) → ((x : T) → P x → Q x) → (r : Result T E) → IfOk r P → IfOk r Q
 if_ok P Q f (Ok x) h = f x h

@@ -10,9 +10,9 @@ use Rattle.group_slots.specs.declared.tally.Tally.{Tally}
 use Rattle.group_slots.specs.Tallies.{no_rows}
 use Rattle.group_slots.specs.Adding.{IsKept, lists_of}
 use Rattle.group_slots.specs.Counting.{IsSmall, counted_in}
-use Rattle.group_slots.specs.Held.{AreBlank, tallies_in}
-use Rattle.grouping.specs.Fed.{GroupsAt, Holds, AreTallied}
-use Rattle.grouping.specs.Found.{first_found}
+use Rattle.group_slots.specs.HeldTallies.{AreBlank, tallies_in}
+use Rattle.grouping.specs.FedRows.{GroupsAt, Holds, AreTallied}
+use Rattle.grouping.specs.FoundKeys.{first_found}
 use Rattle.grouping.specs.inside.Placing.{found_by}
 
 blank_at : (tallies : List ItemTallies) (groups : ℕ) → All (λ (list : ItemTallies). AreBlank groups (tallies_in list)) tallies →

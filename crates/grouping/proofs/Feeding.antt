@@ -4,21 +4,21 @@ use Rattle.std.specs.List.{list_all}
 use Rattle.std.proofs.lemmas.Bool.{and_parts}
 use Rattle.std.proofs.lemmas.List.{get_or_default, length-append, length-map}
 use borrow.Author.Tests.{ltb-true}
-use Rattle.arrow_schema.specs.declared.data_type.DataType.{DataType}
+use Rattle.arrow_types.specs.declared.data_type.DataType.{DataType}
 use Rattle.scan_base.specs.declared.fault.Fault.{Fault}
-use Rattle.arrow_schema.specs.declared.data_type.DataType.TheVariants.{Integer, Utf8, Bool as Flag, Decimal128, Date, Dictionary}
+use Rattle.arrow_types.specs.declared.data_type.DataType.TheVariants.{Integer, Utf8, Bool as Flag, Decimal128, Date, Dictionary}
 use Rattle.arrays.specs.Batch.{BatchAt, row_of}
 use Rattle.arrays.specs.Column.{ColumnAt}
-use Rattle.arrays.specs.Typed.{AreOf, IsOfType}
+use Rattle.arrays.specs.TypedLayouts.{AreOf, IsOfType}
 use Rattle.table_versions.specs.Table.{Row}
 use Rattle.typed_plan.specs.Class.{can_sum}
-use Rattle.typed_plan.specs.Typed.{has_item, type_at}
+use Rattle.typed_plan.specs.TypedPlans.{has_item, type_at}
 use Rattle.typed_plan.specs.declared.plan.Aggregate.{Aggregate}
 use Rattle.typed_plan.specs.declared.plan.Aggregate.TheVariants.{Key, CountRows, Count, Sum}
 use Rattle.group_slots.specs.Counting.{CanCount, IsIntegers}
 use Rattle.group_slots.specs.Adding.{CanCountAll, IsAdded}
-use Rattle.grouping.specs.Fed.{AreTyped, GroupsAt, Holds, HasItems, AreTallied, HasFed, Feeds}
-use Rattle.grouping.specs.Found.{found_in, found_then, first_found}
+use Rattle.grouping.specs.FedRows.{AreTyped, GroupsAt, Holds, HasItems, AreTallied, HasFed, Feeds}
+use Rattle.grouping.specs.FoundKeys.{found_in, found_then, first_found}
 use Rattle.grouping.specs.inside.Adding.{IsGrown}
 use Rattle.grouping.specs.inside.Placing.{ArePlaced, IsBatchAt}
 use Rattle.grouping.proofs.Finding.{found_more}

@@ -11,12 +11,12 @@ use Rattle.scan_base.specs.declared.value.Value.{Value}
 use Rattle.arrays.specs.Batch.{row_of}
 use Rattle.arrays.specs.Column.{ColumnAt}
 use Rattle.table_versions.specs.Table.{Row}
-use Rattle.typed_plan.specs.Grouped.{same_key}
+use Rattle.typed_plan.specs.GroupedRows.{same_key}
 use Rattle.first_rows.specs.declared.key.RowKey.{RowKey}
-use Rattle.grouping.specs.declared.table.Chosen.{Chosen}
-use Rattle.grouping.specs.Fed.{batch_at}
-use Rattle.grouping.specs.Found.{key_in, place_in, found_then}
-use Rattle.first_rows.specs.Keys.{key_self}
+use Rattle.grouping.specs.declared.table.ChosenRows.{ChosenRows}
+use Rattle.grouping.specs.FedRows.{batch_at}
+use Rattle.grouping.specs.FoundKeys.{key_in, place_in, found_then}
+use Rattle.first_rows.proofs.Keys.{key_self}
 use Rattle.grouping.specs.inside.Placing.{ArePlaced, IsFinding, IsFirst, found_by}
 use Rattle.first_rows.specs.RowKeys.{key_of, same_first}
 
@@ -125,7 +125,7 @@ more_placed keys columns found rows groups count key is so =
     }
 
 -- one row more
-pub step : (chosen : Chosen) (before : List RowKey) (count : ℕ) (firsts : List RowKey) (groups : List ℕ) (first : RowKey) →
+pub step : (chosen : ChosenRows) (before : List RowKey) (count : ℕ) (firsts : List RowKey) (groups : List ℕ) (first : RowKey) →
     IsFinding chosen before count firsts groups → count < length chosen.rows.now → first.columns.now ≡ chosen.columns.now →
     first.batch.now ≡ chosen.batch.now → first.number ≡ chosen.number → first.row ≡ get_or chosen.rows.now count 0 →
     IsFinding chosen before (count + 1) (insert_key same_first firsts first) (groups ++ place_in (map key_of firsts) (key_of first) ∷ [])
@@ -162,7 +162,7 @@ found_alone [] firsts rows empty = one rows
 found_alone (key ∷ keys) firsts rows empty = let no_key : nat_eq (length (key ∷ keys)) 0 ≡ false = ne_eqb _ _ (λ (h : length (key ∷ keys) ≡ 0). omega arith) in cc
 
 -- the same, by what stands then
-pub step_more : (chosen : Chosen) (before firsts then : List RowKey) (groups after : List ℕ) (group : ℕ) (first : RowKey) →
+pub step_more : (chosen : ChosenRows) (before firsts then : List RowKey) (groups after : List ℕ) (group : ℕ) (first : RowKey) →
     IsFinding chosen before (length groups) firsts groups → length groups < length chosen.rows.now → first.columns.now ≡ chosen.columns.now →
     first.batch.now ≡ chosen.batch.now → first.number ≡ chosen.number → first.row ≡ get_or chosen.rows.now (length groups) 0 →
     then ≡ insert_key same_first firsts first → group ≡ place_in (map key_of firsts) (key_of first) → after ≡ groups ++ group ∷ [] →

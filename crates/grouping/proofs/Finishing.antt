@@ -4,7 +4,7 @@ use Rattle.std.specs.Prelude.{◌==◌}
 use Rattle.std.specs.List.{range_with_len}
 use Rattle.std.proofs.lemmas.List.{get_or-map, get_or-take, get_or-drop, get_or_default, get_or_append_left, get_or_push, length-take-le, length-drop, length-map}
 use Rattle.std.proofs.lemmas.List.FromFn.{get_or-map-range_with_len, length-map-range_with_len}
-use Rattle.std.proofs.lemmas.List.Elements.{All-map, All-take, All-drop}
+use Rattle.std.proofs.lemmas.List.Elements.{All-map}
 use Rattle.std.proofs.lemmas.Option.{unwrap_or-slice_get}
 use borrow.Author.Tests.{ltb-true, ltb-false}
 use Rattle.std.specs.declared.alloc.AllocError.{AllocError}
@@ -12,16 +12,16 @@ use Rattle.scan_base.specs.Limits.{most_rows}
 use Rattle.scan_base.specs.Predicate.{cell_in}
 use Rattle.scan_base.specs.declared.value.Value.{Value}
 use Rattle.scan_base.specs.declared.value.Value.TheVariants.{Null, Int}
-use Rattle.arrow_schema.specs.Answer.{copied_type}
-use Rattle.arrow_schema.specs.declared.data_type.DataType.{DataType}
-use Rattle.arrow_schema.specs.declared.data_type.DataType.TheVariants.{Integer, Decimal128}
-use Rattle.arrow_schema.specs.declared.data_type.IntegerType.TheVariants.{Int64}
+use Rattle.arrow_types.specs.Answer.{copied_type}
+use Rattle.arrow_types.specs.declared.data_type.DataType.{DataType}
+use Rattle.arrow_types.specs.declared.data_type.DataType.TheVariants.{Integer, Decimal128}
+use Rattle.arrow_types.specs.declared.data_type.IntegerType.TheVariants.{Int64}
 use Rattle.arrays.specs.Batch.{BatchAt, rows_of}
 use Rattle.arrays.specs.Column.{ColumnAt, slot_of, values_of}
-use Rattle.arrays.specs.Typed.{AreOf, IsOfType}
-use Rattle.arrays.specs.Written.{text_bytes, texts_joined}
+use Rattle.arrays.specs.TypedLayouts.{AreOf, IsOfType}
+use Rattle.arrays.specs.WrittenSlots.{text_bytes, texts_joined}
 use Rattle.table_versions.specs.Table.{Row}
-use Rattle.typed_plan.specs.Typed.{has_item, item_type, type_at}
+use Rattle.typed_plan.specs.TypedPlans.{has_item, item_type, type_at}
 use Rattle.typed_plan.specs.declared.plan.Aggregate.{Aggregate}
 use Rattle.typed_plan.specs.declared.plan.Aggregate.TheVariants.{Key, CountRows, Count, Sum}
 use Rattle.group_slots.specs.declared.item_tallies.ItemTallies.{ItemTallies}
@@ -29,21 +29,20 @@ use Rattle.group_slots.specs.declared.tally.Tally.{Tally}
 use Rattle.group_slots.specs.Tallies.{no_rows, item_value}
 use Rattle.group_slots.specs.Adding.{lists_of}
 use Rattle.group_slots.specs.Counting.{AreWithin}
-use Rattle.group_slots.specs.Held.{tallies_in}
+use Rattle.group_slots.specs.HeldTallies.{tallies_in}
 use Rattle.group_slots.proofs.Stepping.{one_within}
-use Rattle.grouping.specs.declared.batches.Answer.{Answer}
+use Rattle.grouping.specs.declared.batches.GroupRows.{GroupRows}
 use Rattle.grouping.specs.declared.key.Place.{Place}
-use Rattle.grouping.specs.Answered.{cell_at, row_at, answer_rows}
-use Rattle.grouping.specs.Answers.{IsThere, keys_at, row_in}
-use Rattle.grouping.specs.Fed.{GroupsAt}
-use Rattle.grouping.specs.Found.{key_in}
-use Rattle.array_select.specs.Room.{text_bytes_of}
-use Rattle.batch_room.specs.Light.{Fits}
-use Rattle.batch_room.specs.Room.{most_batch_cells, share_among, HasRoom}
-use Rattle.batch_room.proofs.Light.{plain_fit}
-use Rattle.batch_room.proofs.Shares.{fewer_cells, shared_texts}
+use Rattle.grouping.specs.AnswerRows.{cell_at, group_row, answer_rows}
+use Rattle.grouping.specs.Answers.{keys_at, placed_row}
+use Rattle.grouping.specs.FedRows.{GroupsAt}
+use Rattle.grouping.specs.FoundKeys.{key_in}
+use Rattle.array_select.specs.Room.{text_bytes_of, most_batch_cells, share_among, HasRoom}
+use Rattle.array_select.specs.Fitting.{Fits}
+use Rattle.array_select.proofs.Light.{plain_fit}
+use Rattle.array_select.proofs.Shares.{fewer_cells, shared_texts}
 use Rattle.grouping.specs.inside.Answering.{first_cell}
-use Rattle.grouping.specs.inside.Finishing.{groups_in, CanAnswer, item_cells, AllFit, IsItemColumn, IsBatchOf, IsNextOf}
+use Rattle.grouping.specs.inside.Finishing.{groups_in, CanAnswer, item_cells, GroupsFit, IsItemColumn, IsGroupBatch, IsNextOf}
 use Rattle.grouping.proofs.Batching.{ranged_any, rows_of_cells}
 use Rattle.grouping.proofs.Feeding.{has_each}
 use Rattle.first_rows.proofs.KeyCells.{key_there}
@@ -71,13 +70,13 @@ part_values xs h f from many within same =
 -- ---- the column of an item
 
 -- these are the tallies of an item, one for each group, and each counts no more rows than there may be
-pub record AreTallies (answer : Answer) (item : ℕ) (tallies : List Tally) : Type 0 where
+pub record AreTallies (answer : GroupRows) (item : ℕ) (tallies : List Tally) : Type 0 where
   pub whole : tallies ≡ get_or (groups_in answer).tallies item []
   pub long : length tallies ≡ length (groups_in answer).found
   pub few : All (λ (tally : Tally). tally.count ≤ most_rows) tallies
 
 -- the item at a place has tallies
-pub item_tallies : (answer : Answer) (item : ℕ) (d : ItemTallies) → CanAnswer answer → item < length answer.items.now →
+pub item_tallies : (answer : GroupRows) (item : ℕ) (d : ItemTallies) → CanAnswer answer → item < length answer.items.now →
     AreTallies answer item (tallies_in (get_or answer.tallies.now item d))
 item_tallies answer item d can there =
     let slice = tallies_in (get_or answer.tallies.now item d) in
@@ -126,7 +125,7 @@ count_type keys types item (inl is) = ap (λ (item : Aggregate). copied_type (it
 count_type keys types item (inr (column, is)) = ap (λ (item : Aggregate). copied_type (item_type keys types item)) is
 
 -- the column of counts is that of an item that counts
-pub counted_column : (answer : Answer) (item from to : ℕ) (slice : List Tally) (column : ColumnAt) → AreTallies answer item slice →
+pub counted_column : (answer : GroupRows) (item from to : ℕ) (slice : List Tally) (column : ColumnAt) → AreTallies answer item slice →
     (get_or answer.items.now item (Key 0) ≡ CountRows) ⊎ ((counted : ℕ) × (get_or answer.items.now item (Key 0) ≡ Count counted)) →
     from ≤ to → to ≤ length (groups_in answer).found →
     values_of column ≡ map (λ (tally : Tally). Int (pos tally.count)) (take (to - from) (drop from slice)) → IsOfType (Integer Int64) column.layout → column.len ≡ to - from →
@@ -136,7 +135,7 @@ counted_column answer item from to slice column are is ordered within values typ
     (count_value (get_or answer.items.now item (Key 0)) is) (count_type answer.keys.now answer.types.now (get_or answer.items.now item (Key 0)) is) values typed long
 
 -- the column of sums is that of an item that sums
-pub summed_column : (answer : Answer) (item from to summed : ℕ) (slice : List Tally) (column : ColumnAt) → AreTallies answer item slice →
+pub summed_column : (answer : GroupRows) (item from to summed : ℕ) (slice : List Tally) (column : ColumnAt) → AreTallies answer item slice →
     get_or answer.items.now item (Key 0) ≡ Sum summed → from ≤ to → to ≤ length (groups_in answer).found →
     values_of column ≡ map (λ (tally : Tally). if tally.count == 0 then Null else Int tally.sum) (take (to - from) (drop from slice)) →
     IsOfType Decimal128 column.layout → column.len ≡ to - from →
@@ -152,25 +151,25 @@ key_cell : (batches : List BatchAt) (keys : List ℕ) (firsts : List Place) (pla
     cell_in (get_or (keys_at batches keys firsts) group []) place ≡ first_cell batches (get_or keys place 0) (get_or firsts group d)
 key_cell batches [] firsts place group d low there = absurd (omega arith)
 key_cell batches (key ∷ keys) firsts place group d low there =
-    let row = row_in batches (get_or firsts group d) in
-    ap (λ (found : List Value). cell_in found place) (get_or-map (λ (first : Place). key_in (key ∷ keys) (row_in batches first)) firsts group d [] there)
+    let row = placed_row batches (get_or firsts group d) in
+    ap (λ (found : List Value). cell_in found place) (get_or-map (λ (first : Place). key_in (key ∷ keys) (placed_row batches first)) firsts group d [] there)
     ∙ unwrap_or-slice_get (map (cell_in row) (key ∷ keys)) place Null
     ∙ get_or-map (cell_in row) (key ∷ keys) place 0 Null low
 
 -- with a key there is a first row of each group
 firsts_long : (batches : List BatchAt) (keys : List ℕ) (firsts : List Place) (place : ℕ) → place < length keys → length (keys_at batches keys firsts) ≡ length firsts
 firsts_long batches [] firsts place low = absurd (omega arith)
-firsts_long batches (key ∷ keys) firsts place low = length-map firsts (λ (first : Place). key_in (key ∷ keys) (row_in batches first))
+firsts_long batches (key ∷ keys) firsts place low = length-map firsts (λ (first : Place). key_in (key ∷ keys) (placed_row batches first))
 
 -- an item that gives a key gives the cells of first rows in a column that is there
-pub record IsKeyAt (answer : Answer) (item place : ℕ) : Type 0 where
+pub record IsKeyAt (answer : GroupRows) (item place : ℕ) : Type 0 where
   pub there : place < length answer.keys.now
   pub column : get_or answer.keys.now place 0 < length answer.types.now
   pub long : length (groups_in answer).found ≡ length answer.firsts.now
   pub cells : (from many : ℕ) → from + many ≤ length answer.firsts.now →
       map (first_cell answer.batches.now (get_or answer.keys.now place 0)) (take many (drop from answer.firsts.now)) ≡ item_cells (groups_in answer) item from many
 
-pub key_at : (answer : Answer) (item place : ℕ) → CanAnswer answer → item < length answer.items.now → get_or answer.items.now item (Key 0) ≡ Key place →
+pub key_at : (answer : GroupRows) (item place : ℕ) → CanAnswer answer → item < length answer.items.now → get_or answer.items.now item (Key 0) ≡ Key place →
     IsKeyAt answer item place
 key_at answer item place can there is =
     let keys = answer.keys.now in
@@ -191,7 +190,7 @@ key_at answer item place can there is =
     }
 
 -- the column of a key's cells is that of the item
-pub first_column : (answer : Answer) (item place from to : ℕ) (part : List Place) (column : ColumnAt) → IsKeyAt answer item place →
+pub first_column : (answer : GroupRows) (item place from to : ℕ) (part : List Place) (column : ColumnAt) → IsKeyAt answer item place →
     get_or answer.items.now item (Key 0) ≡ Key place → from ≤ to → to ≤ length (groups_in answer).found →
     part ≡ take (to - from) (drop from answer.firsts.now) → values_of column ≡ map (first_cell answer.batches.now (get_or answer.keys.now place 0)) part →
     IsOfType (copied_type (type_at answer.types.now (get_or answer.keys.now place 0))) column.layout → column.len ≡ length part →
@@ -205,12 +204,6 @@ first_column answer item place from to part column key is ordered within cut val
       typed = subst (λ (item : Aggregate). IsOfType (copied_type (item_type keys answer.types.now item)) column.layout) (sym is) typed;
       long = long ∙ ap length cut ∙ part_long firsts from (to - from) inside;
     }
-
--- part of the first rows are there
-pub part_there : (batches : List BatchAt) (firsts part : List Place) (from many : ℕ) → part ≡ take many (drop from firsts) → All (IsThere batches) firsts →
-    All (IsThere batches) part
-part_there batches firsts part from many cut there =
-    subst (λ (part : List Place). All (IsThere batches) part) (sym cut) (All-take (IsThere batches) many (drop from firsts) (All-drop (IsThere batches) from firsts there))
 
 -- ---- items that give no key
 
@@ -276,7 +269,7 @@ are_items h (item ∷ items) [] long each = absurd (omega arith)
 -- the columns of all items are a batch
 pub batch_made : (groups : GroupsAt) (from many : ℕ) (columns : List ColumnAt) → length columns ≡ length groups.items →
     ((i : ℕ) (d : ColumnAt) → i < length groups.items → IsItemColumn groups i from many (get_or columns i d)) →
-    IsBatchOf groups from many (record { columns = columns; rows = many })
+    IsGroupBatch groups from many (record { columns = columns; rows = many })
 batch_made groups from many columns long each =
     let cell : ℕ → ℕ → Value = λ row item. cell_at groups (from + row) item in
     let none : from + 0 ≡ from = omega arith in
@@ -291,8 +284,8 @@ batch_made groups from many columns long each =
           ∙ ap (λ (values : List Value). get_or values row Null) is.values
           ∙ get_or-map-range_with_len (λ group. cell_at groups group item) from many row (from + row) Null there refl)
           ∙ ap (λ (n : ℕ). map (λ (row : ℕ). map (cell row) (range_with_len 0 n)) (range_with_len 0 many)) long
-          ∙ shifted (row_at groups) from 0 many
-          ∙ ap (λ (a : ℕ). map (row_at groups) (range_with_len a many)) none;
+          ∙ shifted (group_row groups) from 0 many
+          ∙ ap (λ (a : ℕ). map (group_row groups) (range_with_len a many)) none;
       many_rows = refl;
       typed = are_items (item_type groups.keys groups.types) groups.items columns long (λ i d low. (each i d low).typed);
       many_columns = long;
@@ -300,7 +293,7 @@ batch_made groups from many columns long each =
     }
 
 -- it has room where its texts are light
-pub room_made : (groups : GroupsAt) (from most count : ℕ) (batch : BatchAt) → AllFit groups from most (length groups.items) count → IsBatchOf groups from count batch →
+pub room_made : (groups : GroupsAt) (from most count : ℕ) (batch : BatchAt) → GroupsFit groups from most (length groups.items) count → IsGroupBatch groups from count batch →
     (1 < most → most * length groups.items ≤ most_batch_cells) → HasRoom batch
 room_made groups from most count batch fit is cells =
     let wide = is.many_columns in
@@ -319,16 +312,16 @@ room_made groups from most count batch fit is cells =
     }
 
 -- the next batch has so many groups
-pub next_made : (groups : GroupsAt) (from most count many : ℕ) (made : Result BatchAt AllocError) → many ≡ count → AllFit groups from most (length groups.items) count →
-    (1 < most → most * length groups.items ≤ most_batch_cells) → IfOk made (IsBatchOf groups from many) → IfOk made (IsNextOf groups from most)
+pub next_made : (groups : GroupsAt) (from most count many : ℕ) (made : Result BatchAt AllocError) → many ≡ count → GroupsFit groups from most (length groups.items) count →
+    (1 < most → most * length groups.items ≤ most_batch_cells) → IfOk made (IsGroupBatch groups from many) → IfOk made (IsNextOf groups from most)
 next_made groups from most count many (Err refused) same fit cells is = tt
 next_made groups from most count many (Ok batch) same fit cells is =
-    let so : IsBatchOf groups from count batch = subst (λ (n : ℕ). IsBatchOf groups from n batch) same is in
+    let so : IsGroupBatch groups from count batch = subst (λ (n : ℕ). IsGroupBatch groups from n batch) same is in
     let size = so.many_rows in
     record {
       some = omega (arith, size, fit.some);
       few = omega (arith, size, fit.within);
-      is = subst (λ (n : ℕ). IsBatchOf groups from n batch) (sym size) so;
+      is = subst (λ (n : ℕ). IsGroupBatch groups from n batch) (sym size) so;
       room = room_made groups from most count batch fit so cells;
     }
 
@@ -367,9 +360,9 @@ next_given groups from most batch within next =
     let seam : from + many ≡ 0 + (from + many) = omega arith in
     let rest : many + (all - (from + many)) ≡ all - from = omega (arith, few) in
     let start : 0 + from ≡ from = omega arith in
-    range_left (row_at groups) 0 from all low
-    ∙ ap (λ (a : ℕ). map (row_at groups) (range_with_len a (all - from))) start
-    ∙ ap (λ (m : ℕ). map (row_at groups) (range_with_len from m)) (sym rest)
-    ∙ sym (range_two (row_at groups) from many (all - (from + many)) (0 + (from + many)) seam)
-    ∙ ap (λ (rows : List Row). rows ++ map (row_at groups) (range_with_len (0 + (from + many)) (all - (from + many)))) (sym next.is.rows)
-    ∙ ap (λ (rows : List Row). rows_of batch ++ rows) (sym (range_left (row_at groups) 0 (from + many) all few))
+    range_left (group_row groups) 0 from all low
+    ∙ ap (λ (a : ℕ). map (group_row groups) (range_with_len a (all - from))) start
+    ∙ ap (λ (m : ℕ). map (group_row groups) (range_with_len from m)) (sym rest)
+    ∙ sym (range_two (group_row groups) from many (all - (from + many)) (0 + (from + many)) seam)
+    ∙ ap (λ (rows : List Row). rows ++ map (group_row groups) (range_with_len (0 + (from + many)) (all - (from + many)))) (sym next.is.rows)
+    ∙ ap (λ (rows : List Row). rows_of batch ++ rows) (sym (range_left (group_row groups) 0 (from + many) all few))

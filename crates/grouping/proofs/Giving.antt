@@ -9,11 +9,11 @@ use Rattle.scan_base.specs.Predicate.{cell_in}
 use Rattle.arrays.specs.Batch.{BatchAt, row_of}
 use Rattle.grouping.specs.declared.key.Place.{Place}
 use Rattle.first_rows.specs.declared.key.RowKey.{RowKey}
-use Rattle.grouping.specs.Answered.{answer_rows, row_at}
+use Rattle.grouping.specs.AnswerRows.{answer_rows, group_row}
 use Rattle.array_select.specs.Room.{most_batch_rows}
-use Rattle.grouping.specs.Answers.{AnswersAt, Finishes, GivesGroups, IsOver, IsThere, answers_ahead, groups_at, keys_at, row_in}
-use Rattle.grouping.specs.Fed.{GroupsAt, AreTyped}
-use Rattle.grouping.specs.Found.{key_in}
+use Rattle.grouping.specs.Answers.{AnswersAt, Finishes, GivesGroups, HasFirstRows, IsThere, answers_ahead, groups_at, keys_at, placed_row}
+use Rattle.grouping.specs.FedRows.{GroupsAt, AreTyped}
+use Rattle.grouping.specs.FoundKeys.{key_in}
 use Rattle.first_rows.specs.RowKeys.{key_of}
 use Rattle.grouping.specs.inside.Finishing.{IsNextOf, group_count}
 use Rattle.grouping.specs.inside.Placing.{IsFirst, found_by, place_of}
@@ -22,26 +22,22 @@ use Rattle.grouping.proofs.Held.{held_answers}
 
 -- ---- how many groups there are
 
-pub keys_long : (batches : List BatchAt) (keys : List ℕ) (firsts : List Place) → length (keys_at batches keys firsts) ≡ group_count keys (length firsts)
-keys_long batches [] firsts = refl
-keys_long batches (key ∷ keys) firsts = length-map firsts (λ (first : Place). key_in (key ∷ keys) (row_in batches first))
-
 pub found_long : (keys : List ℕ) (firsts : List RowKey) → length (found_by keys firsts) ≡ group_count keys (length (map place_of firsts))
 found_long [] firsts = refl
 found_long (key ∷ keys) firsts = length-map firsts key_of ∙ sym (length-map firsts place_of)
 
 -- ---- where first rows stand
 
-key_same : (batches : List BatchAt) (keys : List ℕ) (first : RowKey) → IsFirst batches keys first → key_in keys (row_in batches (place_of first)) ≡ key_of first
+key_same : (batches : List BatchAt) (keys : List ℕ) (first : RowKey) → IsFirst batches keys first → key_in keys (placed_row batches (place_of first)) ≡ key_of first
 key_same batches keys first is =
     ap (λ (batch : BatchAt). map (cell_in (row_of batch.columns first.row)) keys) (sym is.stands.same)
     ∙ ap (map (cell_in (row_of first.batch.now.columns first.row))) (sym is.keyed)
 
 keys_all : (batches : List BatchAt) (keys : List ℕ) (firsts : List RowKey) → All (IsFirst batches keys) firsts →
-    map (λ (place : Place). key_in keys (row_in batches place)) (map place_of firsts) ≡ map key_of firsts
+    map (λ (place : Place). key_in keys (placed_row batches place)) (map place_of firsts) ≡ map key_of firsts
 keys_all batches keys [] all = refl
 keys_all batches keys (first ∷ firsts) all =
-    ap (λ (key : List Value). key ∷ map (λ (place : Place). key_in keys (row_in batches place)) (map place_of firsts)) (key_same batches keys first (all 0 first (omega arith)))
+    ap (λ (key : List Value). key ∷ map (λ (place : Place). key_in keys (placed_row batches place)) (map place_of firsts)) (key_same batches keys first (all 0 first (omega arith)))
     ∙ ap (λ (rest : List (List Value)). key_of first ∷ rest) (keys_all batches keys firsts (λ k d low. all (suc k) d (omega arith)))
 
 -- the keys of the groups are those of their first rows
@@ -84,7 +80,7 @@ finishes inside before firsts answers is none found typed all same =
 
 -- a batch of the next groups is given
 pub gives : (batches : List BatchAt) (before : AnswersAt) (groups : GroupsAt) (most : ℕ) (batch : BatchAt) → groups ≡ groups_at batches before →
-    IsOver batches before → before.given + most ≤ length groups.found → most ≤ most_batch_rows → IsNextOf groups before.given most batch →
+    HasFirstRows batches before → before.given + most ≤ length groups.found → most ≤ most_batch_rows → IsNextOf groups before.given most batch →
     GivesGroups batches before batch (record before { given = before.given + batch.rows })
 gives batches before groups most batch same over within few next =
     let here : IsNextOf (groups_at batches before) before.given most batch = subst (λ (groups : GroupsAt). IsNextOf groups before.given most batch) same next in
@@ -103,5 +99,5 @@ gives batches before groups most batch same over within few next =
 pub none_left : (batches : List BatchAt) (before : AnswersAt) (groups : GroupsAt) → groups ≡ groups_at batches before → length groups.found ≤ before.given →
     answers_ahead batches before ≡ []
 none_left batches before groups same all =
-    let long = length-map-range_with_len (row_at (groups_at batches before)) 0 (length (groups_at batches before).found) in
+    let long = length-map-range_with_len (group_row (groups_at batches before)) 0 (length (groups_at batches before).found) in
     drop_all before.given (answer_rows (groups_at batches before)) (omega (arith, long, all, ap (λ (groups : GroupsAt). length groups.found) same))

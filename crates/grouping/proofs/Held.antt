@@ -8,15 +8,15 @@ use Rattle.scan_base.specs.declared.value.Value.{Value}
 use Rattle.scan_base.specs.declared.value.Value.TheVariants.{Null, Bool as Flag, Int, Text}
 use Rattle.scan_base.specs.Predicate.{cell_in}
 use Rattle.table_versions.specs.Table.{Row}
-use Rattle.typed_plan.specs.Grouped.{Group, with_row, same_key, present, plus}
+use Rattle.typed_plan.specs.GroupedRows.{Group, with_row, same_key, present, plus}
 use Rattle.typed_plan.specs.Plan.{answered, groups_by}
 use Rattle.typed_plan.specs.declared.plan.Aggregate.{Aggregate}
 use Rattle.typed_plan.specs.declared.plan.Aggregate.TheVariants.{Key, CountRows, Count, Sum}
 use Rattle.group_slots.specs.declared.tally.Tally.{Tally}
 use Rattle.group_slots.specs.Tallies.{no_rows, added, counted, summed, tally_of, item_value}
-use Rattle.grouping.specs.Answered.{cell_at, row_at, HeldAnswersAreGroups}
-use Rattle.grouping.specs.Found.{key_in, place_in, found_in, first_found, share}
-use Rattle.first_rows.specs.Keys.{same_key_laws}
+use Rattle.grouping.specs.AnswerRows.{cell_at, group_row, HeldAnswersAreGroups}
+use Rattle.grouping.specs.FoundKeys.{key_in, place_in, found_in, first_found, share}
+use Rattle.first_rows.proofs.Keys.{same_key_laws}
 use Rattle.grouping.proofs.Finding.{found_more, place_inserted}
 use Rattle.grouping.proofs.Sharing.{share_more, share_kept, share_none, all_found}
 use borrow.Author.Tests.{eq-eqb, ne_eqb, eqb-true, eqb-false}
@@ -225,14 +225,14 @@ held_answers groups rows held =
     ap (item_value (get_or groups.found group []) (get_or groups.items item (Key 0))) ((held.tallied item there).each group low)
     ∙ item_answered (get_or groups.found group []) (f group) (get_or groups.items item (Key 0)) in
     let row : (group : ℕ) → group < length groups.found →
-    row_at groups group ≡ map (answered (record { key = get_or groups.found group []; rows = f group })) groups.items =
+    group_row groups group ≡ map (answered (record { key = get_or groups.found group []; rows = f group })) groups.items =
     λ group low. ranged groups.items (Key 0) (cell_at groups group) (answered (record { key = get_or groups.found group []; rows = f group })) 0
     (λ item there. let same : 0 + item ≡ item = omega arith in ap (cell_at groups group) same ∙ cell group item low there) in
-    ap (λ n. map (row_at groups) (range_with_len 0 n)) (sym (made_long groups.found f))
-    ∙ ranged all none (row_at groups) (λ (group : Group). map (answered group) groups.items) 0
+    ap (λ n. map (group_row groups) (range_with_len 0 n)) (sym (made_long groups.found f))
+    ∙ ranged all none (group_row groups) (λ (group : Group). map (answered group) groups.items) 0
     (λ place low.
     let there : place < length groups.found = omega (arith, made_long groups.found f) in
     let same : 0 + place ≡ place = omega arith in
-    ap (row_at groups) same ∙ row place there ∙ ap (λ (group : Group). map (answered group) groups.items) (sym (made_at groups.found f place none there)))
+    ap (group_row groups) same ∙ row place there ∙ ap (λ (group : Group). map (answered group) groups.items) (sym (made_at groups.found f place none there)))
     ∙ ap (map (λ (group : Group). map (answered group) groups.items))
     (sym (grouped groups.keys rows ∙ ap (λ found. made found (share groups.keys found rows)) (sym held.found)))

@@ -4,7 +4,7 @@ use Rattle.std.proofs.lemmas.List.{length-map, map-set}
 use Rattle.group_slots.specs.declared.tally.Tally.{Tally}
 use Rattle.group_slots.specs.Tallies.{no_rows, both}
 use Rattle.group_slots.specs.Counting.{counted_in}
-use Rattle.group_slots.specs.Held.{count_tally, count_tallies}
+use Rattle.group_slots.specs.HeldTallies.{count_tally, count_tallies}
 use Rattle.group_slots.proofs.Counted.{count_at, count_small}
 use Rattle.grouping.proofs.JoiningAll.{IsJoining, few_both, step as join_step}
 

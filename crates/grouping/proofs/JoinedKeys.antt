@@ -12,11 +12,11 @@ use Rattle.std.specs.Prelude.{Option}
 use Rattle.arrays.specs.Batch.{BatchAt}
 use Rattle.coded_keys.specs.declared.numbers.SeenNumber.{SeenNumber}
 use Rattle.coded_keys.specs.Numbers.{AreNumbers}
-use Rattle.grouping.specs.Fed.{batch_at}
-use Rattle.typed_plan.specs.Grouped.{same_key}
+use Rattle.grouping.specs.FedRows.{batch_at}
+use Rattle.typed_plan.specs.GroupedRows.{same_key}
 use Rattle.first_rows.specs.declared.key.RowKey.{RowKey}
-use Rattle.grouping.specs.Found.{key_in, place_in, found_in, found_then, first_found}
-use Rattle.first_rows.specs.Keys.{key_sound}
+use Rattle.grouping.specs.FoundKeys.{key_in, place_in, found_in, found_then, first_found}
+use Rattle.first_rows.proofs.Keys.{key_sound}
 use Rattle.first_rows.specs.RowKeys.{key_of, same_first}
 use Rattle.grouping.specs.inside.Merging.{AreJoined, FirstsJoin}
 use Rattle.grouping.specs.inside.Placing.{IsFirst, found_by}

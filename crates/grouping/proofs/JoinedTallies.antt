@@ -12,9 +12,9 @@ use Rattle.typed_plan.specs.declared.plan.Aggregate.{Aggregate}
 use Rattle.group_slots.specs.declared.tally.Tally.{Tally}
 use Rattle.group_slots.specs.Tallies.{no_rows, added, both, tally_of}
 use Rattle.group_slots.proofs.Both.{both_assoc, both_none, both_turned, fold_both}
-use Rattle.grouping.specs.Fed.{AreTallied}
-use Rattle.grouping.specs.Found.{key_in, place_in, found_in, found_then, first_found, share}
-use Rattle.grouping.specs.inside.Merging.{AreJoined, IsJoined, joined}
+use Rattle.grouping.specs.FedRows.{AreTallied}
+use Rattle.grouping.specs.FoundKeys.{key_in, place_in, found_in, found_then, first_found, share}
+use Rattle.grouping.specs.inside.Merging.{AreJoined, AreTalliesJoined, joined_tallies}
 use Rattle.grouping.proofs.JoinedKeys.{place_key}
 use Rattle.grouping.proofs.Sharing.{all_found, filter_alike, filter_none, old_tally, share_more}
 
@@ -110,7 +110,7 @@ joins_all groups group bound place low = rw (lt-ltb place bound low) (by (nat_eq
 
 -- ---- tallies of groups
 
-pub joined_long : (groups : List ℕ) (others tallies : List Tally) (count : ℕ) → length (joined groups others tallies count) ≡ length tallies
+pub joined_long : (groups : List ℕ) (others tallies : List Tally) (count : ℕ) → length (joined_tallies groups others tallies count) ≡ length tallies
 joined_long groups others tallies zero = refl
 joined_long groups others tallies (suc count) = length-set _ _ _ ∙ joined_long groups others tallies count
 
@@ -122,7 +122,7 @@ joining keys found groups more group bound = filter (λ row. joins groups group 
 joined_at : (item : Aggregate) (keys : List ℕ) (found : List (List Value)) (groups : List ℕ) (others tallies : List Tally) (more : List Row) (count : ℕ) →
     count ≤ length groups → ((k : ℕ) → k < length groups → get_or others k no_rows ≡ tally_of item (share keys found more k)) →
     ((k : ℕ) → k < length groups → get_or groups k 0 < length tallies) → (group : ℕ) →
-    get_or (joined groups others tallies count) group no_rows ≡ both (get_or tallies group no_rows) (tally_of item (joining keys found groups more group count))
+    get_or (joined_tallies groups others tallies count) group no_rows ≡ both (get_or tallies group no_rows) (tally_of item (joining keys found groups more group count))
 joined_at item keys found groups others tallies more zero low tallied there group =
     sym (ap (λ (rows : List Row). both (get_or tallies group no_rows) (tally_of item rows))
     (filter_none (λ row. joins groups group 0 (place_in found (key_in keys row))) more (λ k d below. joins_none groups group _))
@@ -131,7 +131,7 @@ joined_at item keys found groups others tallies more (suc count) low tallied the
     by (joined_at item keys found groups others tallies more count (omega arith) tallied there group) (nat_eq (get_or groups count 0) group) refl
   where
     before : List Tally
-    before = joined groups others tallies count
+    before = joined_tallies groups others tallies count
 
     here : ℕ
     here = get_or groups count 0
@@ -144,11 +144,11 @@ joined_at item keys found groups others tallies more (suc count) low tallied the
 
     by : get_or before group no_rows ≡ both start (tally_of item (joining keys found groups more group count)) →
         (t : Bool) → nat_eq here group ≡ t →
-        get_or (joined groups others tallies (suc count)) group no_rows ≡ both start (tally_of item (joining keys found groups more group (suc count)))
+        get_or (joined_tallies groups others tallies (suc count)) group no_rows ≡ both start (tally_of item (joining keys found groups more group (suc count)))
     by so true e =
         let same : here ≡ group = eqb-true here group e in
         let mine = tally_of item (joining keys found groups more group count) in
-        ap (λ (place : ℕ). get_or (joined groups others tallies (suc count)) place no_rows) (sym same)
+        ap (λ (place : ℕ). get_or (joined_tallies groups others tallies (suc count)) place no_rows) (sym same)
         ∙ get_or-set_same before here (both (get_or before here no_rows) (get_or others count no_rows)) no_rows inside
         ∙ ap (λ (place : ℕ). both (get_or before place no_rows) (get_or others count no_rows)) same
         ∙ ap (λ (tally : Tally). both tally (get_or others count no_rows)) so
@@ -181,7 +181,7 @@ joining_all keys merged groups more group are =
 -- tallies of rows, with those of others, are those of all
 pub both_tallied : (keys : List ℕ) (rows more : List Row) (item : Aggregate) (before others after : List Tally) (merged : List (List Value)) (groups : List ℕ) →
     merged ≡ found_then keys (found_in keys rows) more → AreJoined merged (found_in keys more) groups (length (found_in keys more)) →
-    IsJoined groups others (length merged) before after →
+    AreTalliesJoined groups others (length merged) before after →
     AreTallied keys (found_in keys rows) rows item before → AreTallied keys (found_in keys more) more item others →
     AreTallied keys merged (rows ++ more) item after
 both_tallied keys rows more item before others after merged groups is are joins tallied other = record {

@@ -9,17 +9,17 @@ use Rattle.group_slots.specs.declared.tally.Tally.{Tally}
 use Rattle.group_slots.specs.Tallies.{no_rows, both}
 use Rattle.group_slots.specs.Adding.{IsKept, lists_of}
 use Rattle.group_slots.specs.Counting.{AreWithin, IsSmall, counted_in}
-use Rattle.group_slots.specs.Held.{tallies_in}
+use Rattle.group_slots.specs.HeldTallies.{tallies_in}
 use Rattle.group_slots.proofs.AddingAll.{item_left}
 use Rattle.group_slots.proofs.Stepping.{one_within, set_within}
-use Rattle.grouping.specs.inside.Merging.{AllJoined, IsJoined, joined}
+use Rattle.grouping.specs.inside.Merging.{AllJoined, AreTalliesJoined, joined_tallies}
 use Rattle.grouping.proofs.JoinedTallies.{joined_long}
 
 -- ---- the tallies of one item
 
 -- the invariant of the loop over other groups
 pub record IsJoining (groups : List ℕ) (others before : List Tally) (k : ℕ) (tallies : List Tally) : Type 0 where
-  pub is : tallies ≡ joined groups others before k
+  pub is : tallies ≡ joined_tallies groups others before k
   pub small : AreWithin (counted_in before + counted_in (take k others)) tallies
   pub long : length tallies ≡ length before
 
@@ -89,17 +89,17 @@ item_at items place old fed many more d e start tallies others low left same kep
 -- one item more
 pub more : (groups : List ℕ) (others : List (List Tally)) (found most : ℕ) (before after : List (List Tally)) (place : ℕ) (new : List Tally) →
     AllJoined groups others found most before after place → place < length after →
-    IsJoined groups (get_or others place []) found (get_or after place []) new → AreWithin most new →
+    AreTalliesJoined groups (get_or others place []) found (get_or after place []) new → AreWithin most new →
     AllJoined groups others found most before (slice_set after place new) (place + 1)
 more groups others found most before after place new so there joins within =
     let now = slice_set after place new in
     let here : get_or now place [] ≡ new = get_or-set_same after place new [] there in
     let other : (item : ℕ) → item ≢ place → get_or now item [] ≡ get_or after item [] = λ item differs. get_or-set_other after place item new [] differs in
     record {
-      joined = below_more (λ item. IsJoined groups (get_or others item []) found (get_or before item []) (get_or now item [])) place
-          (λ item low. subst (IsJoined groups (get_or others item []) found (get_or before item [])) (sym (other item (λ (q : item ≡ place). omega arith))) (so.joined item low))
-          (subst (IsJoined groups (get_or others place []) found (get_or before place [])) (sym here)
-          (subst (λ old. IsJoined groups (get_or others place []) found old new) (so.left place (omega arith)) joins));
+      joined = below_more (λ item. AreTalliesJoined groups (get_or others item []) found (get_or before item []) (get_or now item [])) place
+          (λ item low. subst (AreTalliesJoined groups (get_or others item []) found (get_or before item [])) (sym (other item (λ (q : item ≡ place). omega arith))) (so.joined item low))
+          (subst (AreTalliesJoined groups (get_or others place []) found (get_or before place [])) (sym here)
+          (subst (λ old. AreTalliesJoined groups (get_or others place []) found old new) (so.left place (omega arith)) joins));
       small = below_more (λ item. AreWithin most (get_or now item [])) place
           (λ item low. subst (AreWithin most) (sym (other item (λ (q : item ≡ place). omega arith))) (so.small item low))
           (subst (AreWithin most) (sym here) within);

@@ -9,11 +9,11 @@ use Rattle.std.proofs.lemmas.List.{get_or_default}
 use Rattle.std.proofs.lemmas.List.Elements.{All-set}
 use Rattle.indexmap.specs.IndexSet.{insert_key}
 use Rattle.scan_base.specs.declared.value.Value.{Value}
-use Rattle.typed_plan.specs.Grouped.{same_key}
+use Rattle.typed_plan.specs.GroupedRows.{same_key}
 use Rattle.first_rows.specs.declared.key.RowKey.{RowKey}
-use Rattle.grouping.specs.declared.known.Known.{Known}
+use Rattle.grouping.specs.declared.known_keys.KnownKey.{KnownKey}
 use Rattle.table_versions.specs.Table.{Row}
-use Rattle.grouping.specs.Found.{found_then, key_in, place_in}
+use Rattle.grouping.specs.FoundKeys.{found_then, key_in, place_in}
 use Rattle.first_rows.specs.RowKeys.{key_of, same_first}
 use Rattle.grouping.specs.inside.Knowing.{AreKnown, AreNothing, IsKnown, nothing}
 use Rattle.grouping.proofs.Finding.{any_map, insert_map, more_there, place_inserted, place_new, place_stays}
@@ -30,15 +30,15 @@ found_before firsts first low = by (list_any (λ b. same_key (key_of first) (key
         absurd (omega arith)
 
 -- where nothing is said, all that is said is true
-pub nothing_known : (meaning : ℕ → ℕ → Value) (found : List (List Value)) (count : ℕ) (entries : List Known) → AreNothing count entries →
+pub nothing_known : (meaning : ℕ → ℕ → Value) (found : List (List Value)) (count : ℕ) (entries : List KnownKey) → AreNothing count entries →
     AreKnown meaning found entries
 nothing_known meaning found count entries nothings = λ k d low.
     let is : get_or entries k d ≡ nothing = get_or_default entries k d nothing low ∙ nothings.each k (omega (arith, low, nothings.long)) in
-    let none : (get_or entries k d).kind ≡ 0 = ap (λ (entry : Known). entry.kind) is in
+    let none : (get_or entries k d).kind ≡ 0 = ap (λ (entry : KnownKey). entry.kind) is in
     record { place = λ some. absurd (some none); there = λ some. absurd (some none) }
 
 -- what is known stays so where a key is found
-pub known_stays : (meaning : ℕ → ℕ → Value) (found : List (List Value)) (entries : List Known) (key : List Value) →
+pub known_stays : (meaning : ℕ → ℕ → Value) (found : List (List Value)) (entries : List KnownKey) (key : List Value) →
     AreKnown meaning found entries → AreKnown meaning (insert_key same_key found key) entries
 known_stays meaning found entries key known = λ k d low.
     let entry = get_or entries k d in
@@ -51,7 +51,7 @@ known_stays meaning found entries key known = λ k d low.
     }
 
 -- one key more is known
-pub known_more : (meaning : ℕ → ℕ → Value) (found : List (List Value)) (entries : List Known) (key : List Value) (at : ℕ) (entry : Known) →
+pub known_more : (meaning : ℕ → ℕ → Value) (found : List (List Value)) (entries : List KnownKey) (key : List Value) (at : ℕ) (entry : KnownKey) →
     AreKnown meaning found entries → (entry.kind ≢ 0 → meaning entry.kind entry.key ∷ [] ≡ key) → entry.group ≡ place_in found key →
     AreKnown meaning (insert_key same_key found key) (slice_set entries at entry)
 known_more meaning found entries key at entry known is group =
@@ -65,14 +65,14 @@ known_more meaning found entries key at entry known is group =
     (known_stays meaning found entries key known)
 
 -- what is known stays so where more keys are found
-pub known_after : (meaning : ℕ → ℕ → Value) (keys : List ℕ) (found : List (List Value)) (rows : List Row) (entries : List Known) →
+pub known_after : (meaning : ℕ → ℕ → Value) (keys : List ℕ) (found : List (List Value)) (rows : List Row) (entries : List KnownKey) →
     AreKnown meaning found entries → AreKnown meaning (found_then keys found rows) entries
 known_after meaning keys found [] entries known = known
 known_after meaning keys found (row ∷ rows) entries known =
     known_after meaning keys (insert_key same_key found (key_in keys row)) rows entries (known_stays meaning found entries (key_in keys row) known)
 
 -- a first row that is inserted leaves what is known, with its own key
-pub known_inserted : (meaning : ℕ → ℕ → Value) (firsts after : List RowKey) (first : RowKey) (entries : List Known) (at : ℕ) (entry : Known) (value : Value) →
+pub known_inserted : (meaning : ℕ → ℕ → Value) (firsts after : List RowKey) (first : RowKey) (entries : List KnownKey) (at : ℕ) (entry : KnownKey) (value : Value) →
     AreKnown meaning (map key_of firsts) entries → after ≡ insert_key same_first firsts first → key_of first ≡ value ∷ [] →
     (entry.kind ≢ 0 → meaning entry.kind entry.key ≡ value) → entry.group ≡ place_in (map key_of firsts) (key_of first) →
     AreKnown meaning (map key_of after) (slice_set entries at entry)
@@ -81,7 +81,7 @@ known_inserted meaning firsts after first entries at entry value known inserted 
     (known_more meaning (map key_of firsts) entries (key_of first) at entry known (λ some. ap (λ (v : Value). v ∷ []) (says some) ∙ sym is) group)
 
 -- a row whose key stands in an entry opens no group
-pub known_hit : (meaning : ℕ → ℕ → Value) (firsts : List RowKey) (first : RowKey) (entries : List Known) (at : ℕ) (d : Known) (kind key : ℕ) (value : Value) →
+pub known_hit : (meaning : ℕ → ℕ → Value) (firsts : List RowKey) (first : RowKey) (entries : List KnownKey) (at : ℕ) (d : KnownKey) (kind key : ℕ) (value : Value) →
     AreKnown meaning (map key_of firsts) entries → at < length entries → key_of first ≡ value ∷ [] →
     (kind ≢ 0 → meaning kind key ≡ value) →
     (not (kind == 0) && (((get_or entries at d).kind == kind) && ((get_or entries at d).key == key))) ≡ true →
@@ -101,7 +101,7 @@ known_hit meaning firsts first entries at d kind key value known there is says s
     sym (found_before firsts first (omega (arith, place, now.there its)))
 
 -- and it has the entry's group
-pub known_place : (meaning : ℕ → ℕ → Value) (firsts : List RowKey) (first : RowKey) (entries : List Known) (at : ℕ) (d : Known) (kind key : ℕ) (value : Value) →
+pub known_place : (meaning : ℕ → ℕ → Value) (firsts : List RowKey) (first : RowKey) (entries : List KnownKey) (at : ℕ) (d : KnownKey) (kind key : ℕ) (value : Value) →
     AreKnown meaning (map key_of firsts) entries → at < length entries → key_of first ≡ value ∷ [] →
     (kind ≢ 0 → meaning kind key ≡ value) →
     (not (kind == 0) && (((get_or entries at d).kind == kind) && ((get_or entries at d).key == key))) ≡ true →
@@ -118,7 +118,7 @@ known_place meaning firsts first entries at d kind key value known there is says
     let its : entry.kind ≢ 0 = λ (none : entry.kind ≡ 0). some (sym same_kind ∙ none) in
     (known at d there).place its ∙ ap (place_in (map key_of firsts)) of_it
 
-pub known_found : (meaning : ℕ → ℕ → Value) (keys : List ℕ) (before after : List (List Value)) (rows : List Row) (entries : List Known) →
+pub known_found : (meaning : ℕ → ℕ → Value) (keys : List ℕ) (before after : List (List Value)) (rows : List Row) (entries : List KnownKey) →
     after ≡ found_then keys before rows → AreKnown meaning before entries → AreKnown meaning after entries
 known_found meaning keys before after rows entries is known =
     subst (λ (found : List (List Value)). AreKnown meaning found entries) (sym is) (known_after meaning keys before rows entries known)

@@ -1,27 +1,23 @@
 -- Texts of an item that are light, of fewer groups too.
-use Rattle.std.proofs.Common.{◌≤◌, ◌<◌, ℕ, ◌+◌, length, subst, arith, below_more}
+use Rattle.std.proofs.Common.{◌≤◌, ℕ, ◌+◌, length, subst, arith, below_more}
 use Rattle.std.proofs.lemmas.List.FromFn.{take-map-range_with_len, length-map-range_with_len}
-use Rattle.batch_room.specs.Light.{AreLight, Fits}
-use Rattle.batch_room.specs.Room.{share_among}
-use Rattle.batch_room.proofs.Light.{lighter}
-use Rattle.grouping.specs.Answered.{cell_at}
-use Rattle.grouping.specs.Fed.{GroupsAt}
-use Rattle.grouping.specs.inside.Finishing.{AllFit, AreLightIn, item_cells}
-
--- of no item all fit
-pub none_fit : (groups : GroupsAt) (from most : ℕ) → 0 < most → AllFit groups from most 0 most
-none_fit groups from most some = record { some = some; within = omega arith; light = λ item low. absurd (omega (arith, low)) }
+use Rattle.array_select.specs.Fitting.{AreLight, Fits}
+use Rattle.array_select.specs.Room.{share_among}
+use Rattle.array_select.proofs.Light.{lighter}
+use Rattle.grouping.specs.AnswerRows.{cell_at}
+use Rattle.grouping.specs.FedRows.{GroupsAt}
+use Rattle.grouping.specs.inside.Finishing.{GroupsFit, IsItemLight, item_cells}
 
 -- one item more, which may leave fewer groups
-pub fit_more : (groups : GroupsAt) (from most items count fewer : ℕ) → AllFit groups from most items count →
-    Fits (share_among (length groups.items)) (item_cells groups items from count) fewer → AllFit groups from most (items + 1) fewer
+pub fit_more : (groups : GroupsAt) (from most items count fewer : ℕ) → GroupsFit groups from most items count →
+    Fits (share_among (length groups.items)) (item_cells groups items from count) fewer → GroupsFit groups from most (items + 1) fewer
 fit_more groups from most items count fewer fit fits =
     let share = share_among (length groups.items) in
     let within : fewer ≤ count = let all = fits.within in omega (arith, all, length-map-range_with_len (λ group. cell_at groups group items) from count) in
     record {
       some = fits.some;
       within = omega (arith, within, fit.within);
-      light = below_more (AreLightIn groups from fewer) items
+      light = below_more (IsItemLight groups from fewer) items
           (λ item low. subst (AreLight share) (take-map-range_with_len (λ group. cell_at groups group item) from count fewer within)
           (lighter share fewer (item_cells groups item from count) (fit.light item low)))
           (subst (AreLight share) (take-map-range_with_len (λ group. cell_at groups group items) from count fewer within) fits.light);

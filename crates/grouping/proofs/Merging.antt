@@ -5,10 +5,10 @@ use Rattle.indexmap.specs.IndexSet.{insert_all}
 use Rattle.scan_base.specs.declared.fault.Fault.{Fault}
 use Rattle.scan_base.specs.declared.value.Value.{Value}
 use Rattle.table_versions.specs.Table.{Row}
-use Rattle.typed_plan.specs.Grouped.{same_key}
+use Rattle.typed_plan.specs.GroupedRows.{same_key}
 use Rattle.typed_plan.specs.declared.plan.Aggregate.TheVariants.{Key}
-use Rattle.grouping.specs.Fed.{AreTallied, GroupsAt, HasMerged, Holds, IsAlike, Merges}
-use Rattle.grouping.specs.Found.{first_found, found_in}
+use Rattle.grouping.specs.FedRows.{AreTallied, GroupsAt, HasMerged, Holds, IsAlike, Merges}
+use Rattle.grouping.specs.FoundKeys.{first_found, found_in}
 use Rattle.grouping.specs.inside.Merging.{AreJoined, IsMerged}
 use Rattle.grouping.proofs.Finding.{found_more}
 use Rattle.grouping.proofs.JoinedKeys.{joined_then}

@@ -11,10 +11,10 @@ use Rattle.arrays.specs.Texts.{TextsAt, texts_slot}
 use Rattle.arrays.specs.declared.layout.Layout.{Layout}
 use Rattle.arrays.specs.declared.layout.Layout.TheVariants.{Texts}
 use Rattle.group_slots.specs.declared.slots.Entries.{Entries}
-use Rattle.group_slots.specs.declared.slots.Slots.{Slots}
+use Rattle.group_slots.specs.declared.slots.IntegerSlots.{IntegerSlots}
 use Rattle.group_slots.specs.Slots.{HaveRoom, entry_cell, slot_cell}
 use Rattle.group_slots.proofs.Slotted.{cell_slot}
-use Rattle.grouping.specs.Found.{key_in}
+use Rattle.grouping.specs.FoundKeys.{key_in}
 use Rattle.grouping.specs.inside.Knowing.{AreEntryKeys, AreKeys, AreTagged}
 use Rattle.first_rows.proofs.KeyCells.{key_there}
 
@@ -53,7 +53,7 @@ one_long : (keys : List ℕ) (batch : BatchAt) (found : ColumnAt) → IsOnly key
 one_long keys batch found only = ap (λ (c : ColumnAt). c.len) only.is ∙ only.long (get_or keys 0 0) found only.there
 
 -- its numbers are the keys
-pub are_keys : (keys : List ℕ) (batch : BatchAt) (found : ColumnAt) (slots : Slots) → IsOnly keys batch found →
+pub are_keys : (keys : List ℕ) (batch : BatchAt) (found : ColumnAt) (slots : IntegerSlots) → IsOnly keys batch found →
     HaveRoom slots found.len → ((row : ℕ) → slot_of found row ≡ slot_cell slots row) → AreKeys slots keys batch
 are_keys keys batch found slots only room cells = record {
   room = subst (HaveRoom slots) (one_long keys batch found only) room;

@@ -6,18 +6,18 @@ use Rattle.scan_base.specs.declared.value.Value.{Value}
 use Rattle.scan_base.specs.declared.value.Value.TheVariants.{Int}
 use Rattle.group_slots.specs.declared.tally.Tally.{Tally}
 use Rattle.group_slots.specs.Tallies.{no_rows}
-use Rattle.group_slots.specs.Held.{count_tally, count_tallies, padded}
+use Rattle.group_slots.specs.HeldTallies.{count_tally, count_tallies, padded}
 use Rattle.group_slots.proofs.Padded.{padded_long, padded_same}
-use Rattle.grouping.specs.inside.Merging.{IsJoined, joined}
+use Rattle.grouping.specs.inside.Merging.{AreTalliesJoined, joined_tallies}
 
 -- others are joined to them
 pub padded_joined : (groups : List ℕ) (others : List Tally) (found : ℕ) (before middle after : List Tally) → length before ≤ found →
-    middle ≡ padded found before → after ≡ joined groups others middle (length groups) → IsJoined groups others found before after
+    middle ≡ padded found before → after ≡ joined_tallies groups others middle (length groups) → AreTalliesJoined groups others found before after
 padded_joined groups others found before middle after fits is made = record {
   padded = padded found before;
   long = padded_long found before fits;
   same = padded_same found before fits;
-  is = made ∙ ap (λ (tallies : List Tally). joined groups others tallies (length groups)) is;
+  is = made ∙ ap (λ (tallies : List Tally). joined_tallies groups others tallies (length groups)) is;
 }
 
 -- a part of counts is that of their tallies

@@ -13,14 +13,14 @@ use Rattle.arrays.specs.Batch.{row_of}
 use Rattle.arrays.specs.Column.{ColumnAt}
 use Rattle.table_versions.specs.Table.{Row}
 use Rattle.typed_plan.specs.declared.plan.Aggregate.{Aggregate}
-use Rattle.typed_plan.specs.Grouped.{same_key}
+use Rattle.typed_plan.specs.GroupedRows.{same_key}
 use Rattle.group_slots.specs.declared.tally.Tally.{Tally}
 use Rattle.group_slots.specs.Tallies.{no_rows, added, tally_of}
 use Rattle.group_slots.specs.Counting.{stepped}
 use Rattle.group_slots.specs.Adding.{IsAdded}
 use Rattle.group_slots.proofs.Stepping.{stepped_long}
-use Rattle.grouping.specs.Found.{key_in, place_in, found_then, found_in, first_found, share}
-use Rattle.grouping.specs.Fed.{AreTallied}
+use Rattle.grouping.specs.FoundKeys.{key_in, place_in, found_then, found_in, first_found, share}
+use Rattle.grouping.specs.FedRows.{AreTallied}
 use Rattle.grouping.specs.inside.Placing.{ArePlaced}
 use Rattle.grouping.proofs.Finding.{place_stays, place_inserted, more_there}
 

@@ -2,24 +2,23 @@
 use Rattle.std.specs.Prelude.{◌≡◌, ◌≤◌, ◌<◌, ℕ, All, List, [], ◌∷◌, ◌++◌, length, map, drop, Option}
 use Rattle.std.specs.Prelude.{Some, None, Result, Ok, Err}
 use Rattle.std.specs.declared.alloc.AllocError.{AllocError}
-use Rattle.arrow_schema.specs.declared.data_type.DataType.{DataType}
-use Rattle.arrow_schema.specs.Answer.{copied_type}
+use Rattle.arrow_types.specs.declared.data_type.DataType.{DataType}
+use Rattle.arrow_types.specs.Answer.{copied_type}
 use Rattle.arrays.specs.Batch.{BatchAt, row_of, rows_of}
-use Rattle.arrays.specs.Typed.{AreOf}
-use Rattle.array_select.specs.Room.{most_batch_rows}
-use Rattle.batch_room.specs.Room.{HasRoom}
+use Rattle.arrays.specs.TypedLayouts.{AreOf}
+use Rattle.array_select.specs.Room.{most_batch_rows, HasRoom}
 use Rattle.scan_base.specs.declared.fault.Fault.{Fault}
 use Rattle.scan_base.specs.declared.fault.Fault.TheVariants.{OutOfMemory}
 use Rattle.scan_base.specs.declared.value.Value.{Value}
 use Rattle.table_versions.specs.Table.{Row}
 use Rattle.typed_plan.specs.declared.plan.Aggregate.{Aggregate}
 use Rattle.typed_plan.specs.Plan.{answered, groups_by}
-use Rattle.typed_plan.specs.Typed.{item_type}
+use Rattle.typed_plan.specs.TypedPlans.{item_type}
 use Rattle.group_slots.specs.declared.tally.Tally.{Tally}
 use Rattle.grouping.specs.declared.key.Place.{Place}
-use Rattle.grouping.specs.Answered.{answer_rows}
-use Rattle.grouping.specs.Fed.{GroupsAt, Holds, AreTyped, batch_at}
-use Rattle.grouping.specs.Found.{key_in}
+use Rattle.grouping.specs.AnswerRows.{answer_rows}
+use Rattle.grouping.specs.FedRows.{GroupsAt, Holds, AreTyped, batch_at}
+use Rattle.grouping.specs.FoundKeys.{key_in}
 
 -- The types of the columns of the rows that were grouped, the numbers of those that are the key,
 -- the items that are wanted of each group, where the first row of each group stands, for each item
@@ -33,14 +32,14 @@ pub record AnswersAt : Type 0 where
   pub given : ℕ
 
 -- the row at a place
-abbrev pub row_in : List BatchAt → Place → Row
-row_in batches place = row_of (batch_at batches place.batch).columns place.row
+abbrev pub placed_row : List BatchAt → Place → Row
+placed_row batches place = row_of (batch_at batches place.batch).columns place.row
 
 -- the keys of groups, by their first rows; without columns there is one key
 abbrev pub keys_at : List BatchAt → List ℕ → List Place → List (List Value)
 keys_at batches [] firsts = [] ∷ []
 keys_at batches (key ∷ keys) firsts =
-    map (λ first. key_in (key ∷ keys) (row_in batches first)) firsts
+    map (λ first. key_in (key ∷ keys) (placed_row batches first)) firsts
 
 -- the groups that are answered
 abbrev pub groups_at : List BatchAt → AnswersAt → GroupsAt
@@ -70,7 +69,7 @@ pub record IsThere (batches : List BatchAt) (place : Place) : Type 0 where
   pub row : place.row < (batch_at batches place.batch).rows
 
 -- the batches are of the types, and have the first rows
-pub record IsOver (batches : List BatchAt) (answers : AnswersAt) : Type 0 where
+pub record HasFirstRows (batches : List BatchAt) (answers : AnswersAt) : Type 0 where
   pub typed : AreTyped answers.types batches
   pub there : All (IsThere batches) answers.firsts
 
@@ -82,7 +81,7 @@ pub record GivesGroups (batches : List BatchAt) (before : AnswersAt) (batch : Ba
   pub few : batch.rows ≤ most_batch_rows
   pub typed : AreOf (answer_types before) batch.columns
   pub room : HasRoom batch
-  pub over : IsOver batches after
+  pub over : HasFirstRows batches after
   pub types : answer_types after ≡ answer_types before
 
 -- The next batch of the answer, or none where no group is left. Where memory is refused the same
@@ -96,7 +95,7 @@ GivesAnswer batches before (Err _) after = after ≡ before
 -- the answer is of the groups' batches and items, and has the items of each group of the rows held,
 -- by first appearance
 pub record IsAnswerOf (groups : GroupsAt) (answers : AnswersAt) : Type 0 where
-  pub over : IsOver groups.batches answers
+  pub over : HasFirstRows groups.batches answers
   pub types : answer_types answers
       ≡ map copied_type (map (item_type groups.keys groups.types) groups.items)
   pub ahead : (rows : List Row) → Holds groups rows →

@@ -1,5 +1,5 @@
-pub mod Answered
+pub mod AnswerRows
 pub mod Answers
-pub mod Fed
-pub mod Found
+pub mod FedRows
+pub mod FoundKeys
 pub mod inside

@@ -2,7 +2,7 @@
 pub mod Adding
 pub mod Answering
 pub mod Finishing
-pub mod Kept
+pub mod GroupState
 pub mod Knowing
 pub mod Merging
 pub mod Placing

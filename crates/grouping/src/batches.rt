@@ -3,28 +3,27 @@
 ghost use Rattle.std.specs.Prelude.{◌≡◌, ◌≤◌, ◌<◌, ◌-◌, ◌+◌, ◌*◌, ◌^◌, ℕ, All, IfOk, length, map};
 ghost use Rattle.std.specs.Prelude.{take, drop};
 ghost use Rattle.array_select.specs.OfSlots.{slot_value, IsSlotOf};
-ghost use Rattle.arrays.specs.Written.{texts_joined};
-ghost use Rattle.batch_room.specs.Light.{Fits};
-ghost use Rattle.batch_room.specs.Room.{most_batch_cells, share_among};
-ghost use Rattle.typed_plan.specs.Typed.{type_at};
+ghost use Rattle.arrays.specs.WrittenSlots.{texts_joined};
+ghost use Rattle.array_select.specs.Fitting.{Fits};
+ghost use Rattle.array_select.specs.Room.{most_batch_cells, share_among};
+ghost use Rattle.typed_plan.specs.TypedPlans.{type_at};
 ghost use Rattle.grouping.specs.Answers.{IsThere};
 ghost use Rattle.grouping.specs.inside.Answering.{first_cell};
-ghost use Rattle.grouping.specs.inside.Finishing.{groups_in, AllFit, CanAnswer, IsItemColumn};
-ghost use Rattle.grouping.specs.inside.Finishing.{IsBatchOf, IsNextOf, item_cells};
+ghost use Rattle.grouping.specs.inside.Finishing.{groups_in, GroupsFit, CanAnswer, IsItemColumn};
+ghost use Rattle.grouping.specs.inside.Finishing.{IsGroupBatch, IsNextOf, item_cells};
 
-use crate::answer::{count_column, sum_column};
+use crate::answer_columns::{count_column, sum_column};
 use crate::key::Place;
-use array_select::{SlotRef, column_of_slots, has_texts};
+use array_select::{SlotRef, column_of_slots, fitting, has_texts, share_among};
 use arrays::{Batch, Column};
-use arrow_schema::DataType;
-use batch_room::{fitting, share_among};
+use arrow_types::DataType;
 use group_slots::ItemTallies;
 use std::alloc::{AllocError, Global};
 use typed_plan::Aggregate;
 
 /// What was grouped, and what is kept of the groups.
 #[derive(Clone, Copy, Drop)]
-pub(crate) struct Answer<'a> {
+pub(crate) struct GroupRows<'a> {
     pub(crate) batches: &'a [Batch],
     pub(crate) types: &'a [DataType],
     pub(crate) keys: &'a [usize],
@@ -42,7 +41,7 @@ fn part<T>(elements: &[T], from: usize, to: usize) -> &[T]
     &elements[from..to]
 }
 
-impl<'a> Answer<'a> {
+impl<'a> GroupRows<'a> {
     /// How many groups there are.
     pub(crate) fn groups(&self) -> usize
         ensures { result ≡ length (groups_in self.now).found }
@@ -76,7 +75,8 @@ impl<'a> Answer<'a> {
         requires can { CanAnswer self.now }
         requires some { 0 < most }
         requires within { from + most ≤ length (groups_in self.now).found }
-        ensures { IfOk result (AllFit (groups_in self.now) from most (length self.now.items.now)) }
+        ensures { IfOk result
+            (GroupsFit (groups_in self.now) from most (length self.now.items.now)) }
     {
         let mut count = most;
         for item in 0..self.items.len() {
@@ -139,7 +139,7 @@ impl<'a> Answer<'a> {
         requires within { to ≤ length (groups_in self.now).found }
         requires named { (item : ℕ) → item < length self.now.items.now →
             length (texts_joined (item_cells (groups_in self.now) item from (to - from))) < 2 ^ 31 }
-        ensures { IfOk result (IsBatchOf (groups_in self.now) from (to - from)) }
+        ensures { IfOk result (IsGroupBatch (groups_in self.now) from (to - from)) }
     {
         let mut columns = Vec::with_capacity(alloc, self.items.len())?;
         for item in 0..self.items.len() {

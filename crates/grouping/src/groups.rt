@@ -5,19 +5,19 @@ ghost use Rattle.std.specs.Option.{ForNone};
 ghost use Rattle.scan_base.specs.Limits.{most_rows};
 ghost use Rattle.arrays.specs.Batch.{row_of};
 ghost use Rattle.grouping.specs.Answers.{Finishes};
-ghost use Rattle.grouping.specs.Fed.{AreTyped, HasItems, IsAlike, IsNew, Feeds, Merges, batch_at};
+ghost use Rattle.grouping.specs.FedRows.{AreTyped, HasItems, IsAlike, IsNew, Feeds, Merges};
+ghost use Rattle.grouping.specs.FedRows.{batch_at};
 
-use crate::answers::Answers;
-use crate::kept::{Kept, add, blank, found_count};
-use crate::known::SPREAD;
-use crate::seen::SeenBatch;
-use crate::table::Chosen;
+use crate::group_answers::Answers;
+use crate::group_state::{GroupState, add, blank, found_count};
+use crate::known_keys::SPREAD;
+use crate::seen_batch::SeenBatch;
+use crate::table::ChosenRows;
 use array_select::Selection;
 use arrays::Batch;
-use arrow_schema::DataType;
+use arrow_types::DataType;
 use first_rows::FirstRows;
-use hash_seed::HashSeed;
-use scan_base::Fault;
+use scan_base::{Fault, HashSeed};
 use std::alloc::{AllocError, Global};
 use std::marker::Model;
 use typed_plan::Aggregate;
@@ -39,7 +39,7 @@ pub struct Grouping<'t> {
 /// says of which rows they are.
 pub struct Groups<'t> {
     shape: Grouping<'t>,
-    kept: Kept<'t>,
+    kept: GroupState<'t>,
     refused: Option<Fault>,
 }
 
@@ -69,8 +69,8 @@ fn have_numbers(shape: &Grouping<'_>) -> bool {
 
 impl<'t> Model for Groups<'t> {
     ghost use Rattle.group_slots.specs.Adding.{lists_of};
-    ghost use Rattle.grouping.specs.Fed.{GroupsAt};
-    ghost use Rattle.grouping.specs.inside.Kept.{IsGroups};
+    ghost use Rattle.grouping.specs.FedRows.{GroupsAt};
+    ghost use Rattle.grouping.specs.inside.GroupState.{IsGroups};
     ghost use Rattle.grouping.specs.inside.Placing.{found_by};
 
     ghost Value = { GroupsAt };
@@ -106,7 +106,7 @@ impl<'t> Groups<'t> {
         let tallies = blank(alloc, shape.items.len(), groups)?;
         Ok(Groups {
             shape,
-            kept: Kept {
+            kept: GroupState {
                 firsts,
                 tallies,
                 count: 0,
@@ -135,7 +135,7 @@ impl<'t> Groups<'t> {
             return Err(fault);
         }
         self.kept.seen.turn_to(number);
-        let chosen = Chosen {
+        let chosen = ChosenRows {
             number,
             batch: &self.shape.batches[number],
             columns: self.shape.keys,

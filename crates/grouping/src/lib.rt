@@ -1,18 +1,18 @@
 //! Groups of rows by first appearance, with their counts and sums.
 #![tactic(auto)]
 
-mod answer;
-pub mod answers;
+mod answer_columns;
 mod batches;
-mod coded;
+mod coded_groups;
+pub mod group_answers;
+mod group_state;
 pub mod groups;
-mod joined;
-mod kept;
 mod key;
-mod known;
+mod known_keys;
 pub mod laws;
-mod seen;
+mod other_groups;
+mod seen_batch;
 mod table;
 
-pub use crate::answers::Answers;
+pub use crate::group_answers::Answers;
 pub use crate::groups::{Grouping, Groups};

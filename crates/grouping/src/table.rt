@@ -4,21 +4,22 @@ ghost use Rattle.std.specs.Prelude.{◌≡◌, ◌<◌, All, IfOk, IsTrue, OnOk,
 ghost use Rattle.std.specs.List.{list_all};
 ghost use Rattle.indexmap.specs.IndexSet.{insert_key};
 ghost use Rattle.arrays.specs.Batch.{row_of};
-ghost use Rattle.group_slots.specs.Tagged.{entry_tagged, value_tagged};
-ghost use Rattle.grouping.specs.Found.{found_then, place_in};
+ghost use Rattle.group_slots.specs.TaggedValues.{entry_tagged, value_tagged};
+ghost use Rattle.grouping.specs.FoundKeys.{found_then, place_in};
 ghost use Rattle.grouping.specs.inside.Knowing.{AreEntryKeys, AreKeys, AreKnown, AreTagged};
 ghost use Rattle.grouping.specs.inside.Placing.{ArePlaced, FirstsStay};
 ghost use Rattle.first_rows.specs.RowKeys.{key_of, same_first};
 
-use crate::coded::groups_unseen;
-use crate::known::{
-    Known, index_count, index_spread, know_nothing, known_group, push_known, short_group,
+use crate::coded_groups::groups_unseen;
+use crate::known_keys::{
+    KnownKey, index_count, index_spread, know_nothing, known_group, push_known, short_group,
 };
 use arrays::{Batch, Layout};
-use arrow_schema::IntegerType;
+use arrow_types::IntegerType;
 use first_rows::{FirstRows, RowKey};
 use group_slots::{
-    Entries, IndexTags, Number, NumberTags, Slots, Tags, entry_slots, integer_slots, text_tags,
+    Entries, IndexTags, IntegerSlots, Number, NumberTags, Tags, entry_slots, integer_slots,
+    text_tags,
 };
 use std::alloc::{AllocError, Global};
 use std::marker::PhantomData;
@@ -26,7 +27,7 @@ use std::marker::PhantomData;
 /// Rows of a batch, its number, the columns whose values are their keys, and by which number keys
 /// are spread over the places of those that are known. No contract rests on that one.
 #[derive(Clone, Copy, Drop)]
-pub(crate) struct Chosen<'t, 'r> {
+pub(crate) struct ChosenRows<'t, 'r> {
     pub(crate) number: usize,
     pub(crate) batch: &'t Batch,
     pub(crate) columns: &'t [usize],
@@ -43,8 +44,8 @@ pub(crate) struct Chosen<'t, 'r> {
 pub(crate) fn groups_of<'t>(
     alloc: Global,
     firsts: &mut FirstRows<'t>,
-    known: &mut [Known],
-    chosen: &Chosen<'t, '_>,
+    known: &mut [KnownKey],
+    chosen: &ChosenRows<'t, '_>,
 ) -> Result<Vec<u32>, AllocError>
     requires there { IsTrue (list_all
         (λ column. nat_lt column (length chosen.now.batch.now.columns)) chosen.now.columns.now) }
@@ -86,9 +87,9 @@ pub(crate) fn groups_of<'t>(
 fn groups_of_numbers<'t>(
     alloc: Global,
     firsts: &mut FirstRows<'t>,
-    known: &mut [Known],
-    slots: &Slots<'_>,
-    chosen: &Chosen<'t, '_>,
+    known: &mut [KnownKey],
+    slots: &IntegerSlots<'_>,
+    chosen: &ChosenRows<'t, '_>,
 ) -> Result<Vec<u32>, AllocError>
     requires there { IsTrue (list_all
         (λ column. nat_lt column (length chosen.now.batch.now.columns)) chosen.now.columns.now) }
@@ -124,9 +125,9 @@ fn groups_of_numbers<'t>(
 fn groups_of_kind<'t, N: Number>(
     alloc: Global,
     firsts: &mut FirstRows<'t>,
-    known: &mut [Known],
-    slots: &Slots<'_>,
-    chosen: &Chosen<'t, '_>,
+    known: &mut [KnownKey],
+    slots: &IntegerSlots<'_>,
+    chosen: &ChosenRows<'t, '_>,
 ) -> Result<Vec<u32>, AllocError>
     requires there { IsTrue (list_all
         (λ column. nat_lt column (length chosen.now.batch.now.columns)) chosen.now.columns.now) }
@@ -158,7 +159,7 @@ fn groups_of_entries<'t>(
     alloc: Global,
     firsts: &mut FirstRows<'t>,
     entries: &Entries<'_>,
-    chosen: &Chosen<'t, '_>,
+    chosen: &ChosenRows<'t, '_>,
 ) -> Result<Vec<u32>, AllocError>
     requires there { IsTrue (list_all
         (λ column. nat_lt column (length chosen.now.batch.now.columns)) chosen.now.columns.now) }
@@ -178,7 +179,7 @@ fn groups_of_entries<'t>(
         index_count(entries.dictionary.len(), chosen.rows.len()),
     )?;
     let spread = index_spread(entries.dictionary.len(), fresh.len(), firsts.seed());
-    let chosen = &Chosen {
+    let chosen = &ChosenRows {
         number: chosen.number,
         batch: chosen.batch,
         columns: chosen.columns,
@@ -202,9 +203,9 @@ fn groups_of_entries<'t>(
 fn groups_of_indices<'t, N: Number>(
     alloc: Global,
     firsts: &mut FirstRows<'t>,
-    known: &mut [Known],
+    known: &mut [KnownKey],
     entries: &Entries<'_>,
-    chosen: &Chosen<'t, '_>,
+    chosen: &ChosenRows<'t, '_>,
 ) -> Result<Vec<u32>, AllocError>
     requires there { IsTrue (list_all
         (λ column. nat_lt column (length chosen.now.batch.now.columns)) chosen.now.columns.now) }
@@ -234,9 +235,9 @@ fn groups_of_indices<'t, N: Number>(
 fn groups_by<'t, T: Tags>(
     alloc: Global,
     firsts: &mut FirstRows<'t>,
-    known: &mut [Known],
+    known: &mut [KnownKey],
     tags: &T,
-    chosen: &Chosen<'t, '_>,
+    chosen: &ChosenRows<'t, '_>,
 ) -> Result<Vec<u32>, AllocError>
     requires there { IsTrue (list_all
         (λ column. nat_lt column (length chosen.now.batch.now.columns)) chosen.now.columns.now) }
@@ -277,7 +278,7 @@ fn groups_by<'t, T: Tags>(
 pub(crate) fn groups_one_by_one<'t>(
     alloc: Global,
     firsts: &mut FirstRows<'t>,
-    chosen: &Chosen<'t, '_>,
+    chosen: &ChosenRows<'t, '_>,
 ) -> Result<Vec<u32>, AllocError>
     requires there { IsTrue (list_all
         (λ column. nat_lt column (length chosen.now.batch.now.columns)) chosen.now.columns.now) }

@@ -14,7 +14,7 @@ use Rattle.grpc_frame.specs.declared.record.Record.{Record}
 use Rattle.grpc_frame.specs.declared.record.Record.TheVariants.{Open, Message, End, Status}
 use Rattle.grpc_frame.specs.declared.head.RecordKind.TheVariants as kinds
 use Rattle.grpc_frame.specs.Records.{Received, spelling, IsRecord, place_after, Leads, IsKindAt, Flaw, wrong_kind, long_path, wrong_flag, long_message, bad_text, IsFlaw, shown_by, fault_of, Breaks}
-use Rattle.grpc_frame.specs.Head.{head_by, head_of, open_head, message_head, status_head}
+use Rattle.grpc_frame.specs.Head.{head_by, head_of, open_head, message_head_in, status_head_in}
 use Rattle.grpc_frame.specs.Front.{Faulty, Whole, front_by, front_of}
 use Rattle.std.proofs.lemmas.Str.{is_utf8-from_IsUtf8}
 use Rattle.scan_base.proofs.Texts.{is_utf8_false}
@@ -44,27 +44,27 @@ open_refused b c n rest e large =
     let above : nat_lt 256 n ≡ true = lt-ltb 256 n large in
     rw (head, e, above) refl
 
-message_read : (b c d f n : ℕ) (rest : List ℕ) → from_be_bytes w32 (b ∷ c ∷ d ∷ f ∷ []) ≡ n → n ≤ 16777216 → message_head (2 ∷ 0 ∷ b ∷ c ∷ d ∷ f ∷ rest) ≡ Ok (Some (record { kind = kinds.Message; len = 6; content_len = n }))
+message_read : (b c d f n : ℕ) (rest : List ℕ) → from_be_bytes w32 (b ∷ c ∷ d ∷ f ∷ []) ≡ n → n ≤ 16777216 → message_head_in (2 ∷ 0 ∷ b ∷ c ∷ d ∷ f ∷ rest) ≡ Ok (Some (record { kind = kinds.Message; len = 6; content_len = n }))
 message_read b c d f n rest e small =
     let flagged : nat_lt (length (2 ∷ 0 ∷ b ∷ c ∷ d ∷ f ∷ rest)) 2 ≡ false = le-ltb _ 2 (omega arith) in
     let head : nat_lt (length (2 ∷ 0 ∷ b ∷ c ∷ d ∷ f ∷ rest)) 6 ≡ false = le-ltb _ 6 (omega arith) in
     let within : nat_lt 16777216 n ≡ false = le-ltb 16777216 n small in
     rw (flagged, head, e, within) refl
 
-message_refused : (b c d f n : ℕ) (rest : List ℕ) → from_be_bytes w32 (b ∷ c ∷ d ∷ f ∷ []) ≡ n → 16777216 < n → message_head (2 ∷ 0 ∷ b ∷ c ∷ d ∷ f ∷ rest) ≡ Err MessageTooLarge
+message_refused : (b c d f n : ℕ) (rest : List ℕ) → from_be_bytes w32 (b ∷ c ∷ d ∷ f ∷ []) ≡ n → 16777216 < n → message_head_in (2 ∷ 0 ∷ b ∷ c ∷ d ∷ f ∷ rest) ≡ Err MessageTooLarge
 message_refused b c d f n rest e large =
     let flagged : nat_lt (length (2 ∷ 0 ∷ b ∷ c ∷ d ∷ f ∷ rest)) 2 ≡ false = le-ltb _ 2 (omega arith) in
     let head : nat_lt (length (2 ∷ 0 ∷ b ∷ c ∷ d ∷ f ∷ rest)) 6 ≡ false = le-ltb _ 6 (omega arith) in
     let above : nat_lt 16777216 n ≡ true = lt-ltb 16777216 n large in
     rw (flagged, head, e, above) refl
 
-flag_refused : (flag : ℕ) (rest : List ℕ) → flag ≢ 0 → message_head (2 ∷ flag ∷ rest) ≡ Err BadFrame
+flag_refused : (flag : ℕ) (rest : List ℕ) → flag ≢ 0 → message_head_in (2 ∷ flag ∷ rest) ≡ Err BadFrame
 flag_refused flag rest ne =
     let flagged : nat_lt (length (2 ∷ flag ∷ rest)) 2 ≡ false = le-ltb _ 2 (omega arith) in
     let other : (flag == 0) ≡ false = ne_eqb flag 0 ne in
     rw (flagged, other) refl
 
-status_read : (code b c n : ℕ) (rest : List ℕ) → from_be_bytes w16 (b ∷ c ∷ []) ≡ n → status_head (4 ∷ code ∷ b ∷ c ∷ rest) ≡ Ok (Some (record { kind = kinds.Status code; len = 4; content_len = n }))
+status_read : (code b c n : ℕ) (rest : List ℕ) → from_be_bytes w16 (b ∷ c ∷ []) ≡ n → status_head_in (4 ∷ code ∷ b ∷ c ∷ rest) ≡ Ok (Some (record { kind = kinds.Status code; len = 4; content_len = n }))
 status_read code b c n rest e =
     let head : nat_lt (length (4 ∷ code ∷ b ∷ c ∷ rest)) 4 ≡ false = le-ltb _ 4 (omega arith) in
     rw (head, e) refl
@@ -93,7 +93,7 @@ open_again b c n content rest e l small =
     rw (front_kind BetweenCalls 1 (b ∷ c ∷ (content ++ rest)), open_read b c n (content ++ rest) e small, long, p.0, p.1) refl
 
 message_front : (place : Place) (b c d f n : ℕ) (content rest : List ℕ) → from_be_bytes w32 (b ∷ c ∷ d ∷ f ∷ []) ≡ n → length content ≡ n → n ≤ 16777216
-    → front_by (at place (2 ∷ 0 ∷ b ∷ c ∷ d ∷ f ∷ (content ++ rest))) (message_head (2 ∷ 0 ∷ b ∷ c ∷ d ∷ f ∷ (content ++ rest))) ≡ Whole (Message content) (at place rest)
+    → front_by (at place (2 ∷ 0 ∷ b ∷ c ∷ d ∷ f ∷ (content ++ rest))) (message_head_in (2 ∷ 0 ∷ b ∷ c ∷ d ∷ f ∷ (content ++ rest))) ≡ Whole (Message content) (at place rest)
 message_front place b c d f n content rest e l small =
     let p = content_6 2 0 b c d f content rest n l in
     let long : nat_lt (length (2 ∷ 0 ∷ b ∷ c ∷ d ∷ f ∷ (content ++ rest))) (6 + n) ≡ false = le-ltb _ (6 + n) (omega (arith, length-append content rest)) in
@@ -158,7 +158,7 @@ open_here BetweenCalls is = refl
 open_here InsideCall is = elim is [ inl e ↦ absurd (omega arith) | inr e ↦ absurd (omega arith) ]
 open_here InAnswer is = elim is [ inl e ↦ absurd (omega arith) | inr e ↦ absurd (omega arith) ]
 
-message_here : (place : Place) (bytes : List ℕ) → IsKindAt place 2 → head_by place 2 bytes ≡ message_head bytes
+message_here : (place : Place) (bytes : List ℕ) → IsKindAt place 2 → head_by place 2 bytes ≡ message_head_in bytes
 message_here BetweenCalls bytes is = absurd (omega arith)
 message_here InsideCall bytes is = refl
 message_here InAnswer bytes is = refl

@@ -2,6 +2,7 @@ mod Texts
 pub mod Growing
 pub mod Tapes
 pub mod Sending
+pub mod Outgoing
 mod Found
 mod Again
 mod Stands

@@ -14,7 +14,7 @@ use Rattle.grpc_frame.specs.declared.record.Record.TheVariants.{Open, Message}
 use Rattle.grpc_frame.specs.declared.head.Head.{Head}
 use Rattle.grpc_frame.specs.declared.head.RecordKind.TheVariants as kinds
 use Rattle.grpc_frame.specs.Records.{Received, place_after, Leads, IsKindAt, wrong_kind, long_path, wrong_flag, long_message, bad_text, Breaks}
-use Rattle.grpc_frame.specs.Head.{AreBytes, head_by, head_of, open_head, message_head, status_head}
+use Rattle.grpc_frame.specs.Head.{AreBytes, head_by, head_of, open_head, message_head_in, status_head_in}
 use Rattle.grpc_frame.specs.Front.{Front, Wanting, Faulty, Whole, record_front, content_in, rest_behind, front_by, front_of}
 use Rattle.grpc_frame.proofs.Again.{at, front_kind}
 use Rattle.std.proofs.lemmas.Str.{IsUtf8-from_is_utf8, is_utf8-from_IsUtf8}
@@ -116,14 +116,14 @@ message_whole place b c d f n rest moves spelled small room =
     }
 
 length_is : (place : Place) (bytes : List ℕ) → IsKindAt place 2 → ((message : List ℕ) → place_after place (Message message) ≡ Some place) → AreBytes (2 ∷ 0 ∷ bytes)
-    → FrontIs (at place (2 ∷ 0 ∷ bytes)) (front_by (at place (2 ∷ 0 ∷ bytes)) (message_head (2 ∷ 0 ∷ bytes)))
+    → FrontIs (at place (2 ∷ 0 ∷ bytes)) (front_by (at place (2 ∷ 0 ∷ bytes)) (message_head_in (2 ∷ 0 ∷ bytes)))
 length_is place [] here moves fits = tt
 length_is place (b ∷ []) here moves fits = tt
 length_is place (b ∷ c ∷ []) here moves fits = tt
 length_is place (b ∷ c ∷ d ∷ []) here moves fits = tt
 length_is place (b ∷ c ∷ d ∷ f ∷ rest) here moves fits = sized (from_be_bytes w32 (b ∷ c ∷ d ∷ f ∷ [])) refl
   where
-    sized : (n : ℕ) → n ≡ from_be_bytes w32 (b ∷ c ∷ d ∷ f ∷ []) → FrontIs (at place (2 ∷ 0 ∷ b ∷ c ∷ d ∷ f ∷ rest)) (front_by (at place (2 ∷ 0 ∷ b ∷ c ∷ d ∷ f ∷ rest)) (message_head (2 ∷ 0 ∷ b ∷ c ∷ d ∷ f ∷ rest)))
+    sized : (n : ℕ) → n ≡ from_be_bytes w32 (b ∷ c ∷ d ∷ f ∷ []) → FrontIs (at place (2 ∷ 0 ∷ b ∷ c ∷ d ∷ f ∷ rest)) (front_by (at place (2 ∷ 0 ∷ b ∷ c ∷ d ∷ f ∷ rest)) (message_head_in (2 ∷ 0 ∷ b ∷ c ∷ d ∷ f ∷ rest)))
     sized n e =
         let bl : b < 256 = fits 2 in
         let cl : c < 256 = fits 3 in
@@ -149,7 +149,7 @@ length_is place (b ∷ c ∷ d ∷ f ∷ rest) here moves fits = sized (from_be_
         ]
 
 message_is : (place : Place) (bytes : List ℕ) → IsKindAt place 2 → ((message : List ℕ) → place_after place (Message message) ≡ Some place) → AreBytes (2 ∷ bytes)
-    → FrontIs (at place (2 ∷ bytes)) (front_by (at place (2 ∷ bytes)) (message_head (2 ∷ bytes)))
+    → FrontIs (at place (2 ∷ bytes)) (front_by (at place (2 ∷ bytes)) (message_head_in (2 ∷ bytes)))
 message_is place [] here moves fits = tt
 message_is place (flag ∷ bytes) here moves fits =
     elim (eqb_tells flag 0) [
@@ -193,13 +193,13 @@ status_whole code b c n rest al spelled small room = by (is_utf8 (take n rest)) 
       fault_is = refl;
     })
 
-status_is : (bytes : List ℕ) → AreBytes (4 ∷ bytes) → FrontIs (at InAnswer (4 ∷ bytes)) (front_by (at InAnswer (4 ∷ bytes)) (status_head (4 ∷ bytes)))
+status_is : (bytes : List ℕ) → AreBytes (4 ∷ bytes) → FrontIs (at InAnswer (4 ∷ bytes)) (front_by (at InAnswer (4 ∷ bytes)) (status_head_in (4 ∷ bytes)))
 status_is [] fits = tt
 status_is (code ∷ []) fits = tt
 status_is (code ∷ b ∷ []) fits = tt
 status_is (code ∷ b ∷ c ∷ rest) fits = sized (from_be_bytes w16 (b ∷ c ∷ [])) refl
   where
-    sized : (n : ℕ) → n ≡ from_be_bytes w16 (b ∷ c ∷ []) → FrontIs (at InAnswer (4 ∷ code ∷ b ∷ c ∷ rest)) (front_by (at InAnswer (4 ∷ code ∷ b ∷ c ∷ rest)) (status_head (4 ∷ code ∷ b ∷ c ∷ rest)))
+    sized : (n : ℕ) → n ≡ from_be_bytes w16 (b ∷ c ∷ []) → FrontIs (at InAnswer (4 ∷ code ∷ b ∷ c ∷ rest)) (front_by (at InAnswer (4 ∷ code ∷ b ∷ c ∷ rest)) (status_head_in (4 ∷ code ∷ b ∷ c ∷ rest)))
     sized n e =
         let bl : b < 256 = fits 2 in
         let cl : c < 256 = fits 3 in

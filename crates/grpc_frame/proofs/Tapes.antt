@@ -1,8 +1,7 @@
 -- Tapes that advance.
-use Rattle.std.proofs.Common.{◌≡◌, ℕ, ◌+◌, List, [], ◌++◌, take, drop, Option, Some, sym, ap, ◌∙◌, append_assoc, append-nil, take-add, take-append-drop}
+use Rattle.std.proofs.Common.{ℕ, ◌+◌, List, [], ◌++◌, take, drop, Some, sym, ap, ◌∙◌, append_assoc, append-nil, take-add, take-append-drop}
 use Rattle.std.proofs.lemmas.List.{drop-drop}
-use Rattle.std.specs.Io.KnownBytes.{Consumes, Keeps}
-use Rattle.std.proofs.KnownBytes.{Consumes-kept, Consumes-nil, Consumes-trans}
+use Rattle.std.proofs.KnownBytes.{Consumes-nil, Consumes-trans}
 use Rattle.grpc_frame.specs.Ends.{Tape, tape_of, Advances}
 
 -- nothing was read
@@ -17,15 +16,6 @@ Advances-trans a b c bytes more p q = record {
 }
 
 -- a read failed, or one gave these bytes, and just so they are noted
-
-pub not_read : (given given' : List ℕ) (left left' : Option (List ℕ)) → given' ≡ given → Keeps left left' → Advances (tape_of given left) (tape_of given' left') []
-not_read given given' left left' same keeps = record {
-  gave = same ∙ sym (append-nil given);
-  took = Consumes-kept left left left' [] (Consumes-nil left) keeps;
-}
-
-pub was_read : (given given' : List ℕ) (left left' : Option (List ℕ)) (bytes : List ℕ) → given' ≡ given ++ bytes → Consumes left left' bytes → Advances (tape_of given left) (tape_of given' left') bytes
-was_read given given' left left' bytes gave took = record { gave = gave; took = took }
 
 -- of bytes that are given in order, so many more were given
 pub given_more : (place count : ℕ) (bytes : List ℕ) → Advances (tape_of (take place bytes) (Some (drop place bytes))) (tape_of (take (place + count) bytes) (Some (drop (place + count) bytes))) (take count (drop place bytes))

@@ -2,7 +2,7 @@
 use Rattle.std.specs.Prelude.{◌≡◌, ◌≢◌, [], Option, Some, None, Result, Ok, Err}
 use Rattle.scan_base.specs.declared.fault.Fault.{Fault}
 use Rattle.scan_base.specs.declared.fault.Fault.TheVariants.{OutOfMemory}
-use Rattle.scan_base.specs.Fault.{grpc_number, code_of, text_of}
+use Rattle.scan_base.specs.Fault.{grpc_number, code_of, fault_text}
 use Rattle.grpc_frame.specs.declared.record.Record.{Record}
 use Rattle.grpc_frame.specs.declared.record.Record.TheVariants.{Status}
 use Rattle.grpc_frame.specs.Records.{Received, Leads, Breaks, IsCut}
@@ -35,4 +35,4 @@ KeepsProfile (Err fault) old new =
 -- the Status that answers a call: code 0 and no text, or the fault's code and text
 abbrev pub status_of : Option Fault → Record
 status_of None = Status 0 []
-status_of (Some fault) = Status (grpc_number (code_of fault)) (text_of fault)
+status_of (Some fault) = Status (grpc_number (code_of fault)) (fault_text fault)

@@ -34,8 +34,8 @@ open_head bytes =
     else (if nat_lt most_path_bytes (len16_at 1 bytes) then Err BadFrame
     else Ok (Some (record { kind = kinds.Open; len = 3; content_len = len16_at 1 bytes })))
 
-abbrev pub message_head : List ℕ → Result (Option Head) Fault
-message_head bytes =
+abbrev pub message_head_in : List ℕ → Result (Option Head) Fault
+message_head_in bytes =
     if nat_lt (length bytes) 2 then Ok None
     else (if slice_index bytes 1 == 0 then
     (if nat_lt (length bytes) 6 then Ok None
@@ -46,8 +46,8 @@ message_head bytes =
 abbrev pub end_head : Result (Option Head) Fault
 end_head = Ok (Some (record { kind = kinds.End; len = 1; content_len = 0 }))
 
-abbrev pub status_head : List ℕ → Result (Option Head) Fault
-status_head bytes =
+abbrev pub status_head_in : List ℕ → Result (Option Head) Fault
+status_head_in bytes =
     if nat_lt (length bytes) 4 then Ok None
     else Ok (Some
     (record { kind = kinds.Status (slice_index bytes 1); len = 4; content_len = len16_at 2 bytes }))
@@ -56,10 +56,10 @@ status_head bytes =
 abbrev pub head_by : Place → ℕ → List ℕ → Result (Option Head) Fault
 head_by BetweenCalls kind bytes = if kind == 1 then open_head bytes else Err BadFrame
 head_by InsideCall kind bytes =
-    if kind == 2 then message_head bytes else (if kind == 3 then end_head else Err BadFrame)
+    if kind == 2 then message_head_in bytes else (if kind == 3 then end_head else Err BadFrame)
 head_by InAnswer kind bytes =
-    if kind == 2 then message_head bytes
-    else (if kind == 4 then status_head bytes else Err BadFrame)
+    if kind == 2 then message_head_in bytes
+    else (if kind == 4 then status_head_in bytes else Err BadFrame)
 
 -- the head of the record in front
 unfoldable pub head_of : Place → List ℕ → Result (Option Head) Fault

@@ -4,6 +4,7 @@ pub mod Front
 pub mod Calls
 pub mod Ends
 pub mod Sending
+pub mod Outgoing
 pub mod Arrivals
 pub mod Laws
 pub mod Memory

@@ -3,7 +3,7 @@
 ghost use Rattle.std.specs.Prelude.{◌≡◌, ◌≢◌, true, IsOk, IfOk, IfErr, IfSome};
 ghost use Rattle.std.specs.Str.{is_utf8};
 ghost use Rattle.scan_base.specs.declared.fault.Fault.TheVariants.{OutOfMemory};
-ghost use Rattle.grpc_frame.specs.Head.{open_head, message_head, status_head, head_of};
+ghost use Rattle.grpc_frame.specs.Head.{open_head, message_head_in, status_head_in, head_of};
 ghost use Rattle.grpc_frame.specs.Head.{AreBytes, HasBounds};
 ghost use Rattle.grpc_frame.specs.Front.{is_content, record_of, place_behind, FindsFront};
 
@@ -102,7 +102,7 @@ fn read_open(bytes: &[u8]) -> Result<Option<Head>, Fault>
 
 // The head of a Message: the kind byte, the flag and a length of four bytes.
 fn read_message(bytes: &[u8]) -> Result<Option<Head>, Fault>
-    ensures value { result ≡ message_head bytes.now }
+    ensures value { result ≡ message_head_in bytes.now }
     ensures kind { IfErr result (λ fault. fault ≢ OutOfMemory) }
     ensures small { IfOk result (λ o. IfSome o HasBounds) }
 {
@@ -128,7 +128,7 @@ fn read_message(bytes: &[u8]) -> Result<Option<Head>, Fault>
 
 // The head of a Status: the kind byte, the code and a length of two bytes.
 fn read_status(bytes: &[u8]) -> Result<Option<Head>, Fault>
-    ensures value { result ≡ status_head bytes.now }
+    ensures value { result ≡ status_head_in bytes.now }
     ensures kind { IsOk result }
     ensures small { IfOk result (λ o. IfSome o HasBounds) }
 {

@@ -12,10 +12,10 @@ ghost use Rattle.grpc_frame.specs.Arrivals.{CountsTransport, IsSound, work_left}
 ghost use Rattle.grpc_frame.specs.Records.{Breaks};
 ghost use Rattle.grpc_frame.specs.inside.Reads.{TakesIn};
 
-use crate::block::{BLOCK_LEN, Block, READ_LEN};
 use crate::ends::Input;
 use crate::head::{read_front, read_head};
 use crate::place::Place;
+use crate::read_buffer::{BLOCK_LEN, READ_LEN, ReadBuffer};
 use crate::record::Record;
 use scan_base::Fault;
 use std::alloc::Global;
@@ -27,7 +27,7 @@ const ROOM_LEN: usize = 32_768;
 /// What has come of a connection and is not taken yet. A contract sees those bytes and the place
 /// of the record in front.
 pub struct Inbox {
-    block: Block,
+    block: ReadBuffer,
     place: Place,
 }
 
@@ -52,7 +52,7 @@ impl Inbox {
         ensures { result ≡ record { bytes = []; place = BetweenCalls } }
     {
         Inbox {
-            block: Block::new(alloc),
+            block: ReadBuffer::new(alloc),
             place: Place::BetweenCalls,
         }
     }
@@ -62,7 +62,7 @@ impl Inbox {
         ensures { result ≡ record { bytes = []; place = InAnswer } }
     {
         Inbox {
-            block: Block::new(alloc),
+            block: ReadBuffer::new(alloc),
             place: Place::InAnswer,
         }
     }

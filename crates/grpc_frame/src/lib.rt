@@ -6,8 +6,7 @@
 #![tactic(auto)]
 
 mod arrivals;
-mod block;
-mod counted;
+mod counted_end;
 mod ends;
 mod head;
 mod inbox;
@@ -15,14 +14,17 @@ pub mod laws;
 mod memory;
 mod outbox;
 mod place;
+mod read_buffer;
 mod record;
+mod sender;
 mod transcript;
 mod write;
 
-pub use crate::counted::Counted;
+pub use crate::counted_end::CountedEnd;
 pub use crate::ends::{Input, Output};
 pub use crate::inbox::Inbox;
 pub use crate::memory::{MemoryInput, MemoryOutput};
 pub use crate::outbox::{MAX_GATHERED_LEN, Outbox};
 pub use crate::place::Place;
 pub use crate::record::{MAX_MESSAGE_LEN, MAX_PATH_LEN, Record};
+pub use crate::sender::Sender;

@@ -195,9 +195,23 @@ impl Outbox {
         writer.look()
     }
 
+    // The bytes.
+    pub(crate) fn as_slice(&self) -> &[u8]
+        ensures { result.now ≡ self.now }
+    {
+        &self.gathered
+    }
+
+    // Nothing is gathered any more.
+    pub(crate) fn clear(&mut self)
+        ensures { self.new ≡ [] }
+    {
+        self.gathered.clear();
+    }
+
     // Gathers the bytes where there is room, and memory, for all of them. It answers whether it
     // did.
-    fn gather(&mut self, part: &[u8]) -> bool
+    pub(crate) fn gather(&mut self, part: &[u8]) -> bool
         ensures yes { result ≡ true → self.new ≡ self.old ++ part.now }
         ensures no { result ≡ false → self.new ≡ self.old }
     {

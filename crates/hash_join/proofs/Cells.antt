@@ -9,7 +9,7 @@ use Rattle.scan_base.specs.declared.value.Value.TheVariants.{Null}
 use Rattle.scan_base.specs.Predicate.{cell_in}
 use Rattle.arrays.specs.Batch.{row_of}
 use Rattle.arrays.specs.Column.{ColumnAt, slot_of}
-use Rattle.hash_join.specs.Pairs.{key_in}
+use Rattle.hash_join.specs.Pairs.{key_values}
 
 -- a number that is within
 pub within_at : (width : ℕ) (numbers : List ℕ) (i : ℕ) → list_all (λ number. nat_lt number width) numbers ≡ true → i < length numbers →
@@ -38,17 +38,17 @@ same_there xs ys n had now i within = elim (cases_lt i n) [
 ]
 
 -- two rows have the same key where each part is the same
-pub same_parts : (key : List ℕ) (row other : List Value) → ((i : ℕ) → i < length key → get_or (key_in key row) i Null ≡ get_or (key_in key other) i Null) →
-    key_in key row ≡ key_in key other
+pub same_parts : (key : List ℕ) (row other : List Value) → ((i : ℕ) → i < length key → get_or (key_values key row) i Null ≡ get_or (key_values key other) i Null) →
+    key_values key row ≡ key_values key other
 same_parts key row other same =
-    ext_get_or Null (key_in key row) (key_in key other)
+    ext_get_or Null (key_values key row) (key_values key other)
     (length-map key (cell_in row) ∙ sym (length-map key (cell_in other)))
     (λ i within. same i (omega (arith, within, length-map key (cell_in row))))
 
 -- a part of a row's key is the slot of its column
 pub part_at : (columns : List ColumnAt) (key : List ℕ) (row i : ℕ) (column : ColumnAt) →
     list_all (λ number. nat_lt number (length columns)) key ≡ true → i < length key →
-    column ≡ get_or columns (get_or key i 0) column → slot_of column row ≡ get_or (key_in key (row_of columns row)) i Null
+    column ≡ get_or columns (get_or key i 0) column → slot_of column row ≡ get_or (key_values key (row_of columns row)) i Null
 part_at columns key row i column all h is =
     ap (λ (c : ColumnAt). slot_of c row) is
     ∙ sym (cell_at columns row (get_or key i 0) column (within_at (length columns) key i all h))

@@ -11,13 +11,13 @@ use Rattle.arrays.specs.Layout.{layout_slot}
 use Rattle.arrays.specs.Number.{integer_at, decimal_at}
 use Rattle.arrays.specs.Texts.{text_at}
 use Rattle.arrays.specs.Validity.{is_valid}
-use Rattle.hash_join.specs.Codes.{layout_code, column_code, value_number, layout_number, column_number, AreOne}
+use Rattle.hash_join.specs.Codes.{valid_layout_code, column_code, value_number, layout_number, column_number, AreOne}
 
 -- what a code leads to
 abbrev led : IndicesAt → ℤ → Value
 led cells code = unwrap_or (entry_at cells.dictionary code) Null
 
-slot_led : (cells : IndicesAt) (place : ℕ) (code : ℤ) → layout_code (layout.Indices cells) place ≡ Some code → layout_slot (layout.Indices cells) place ≡ led cells code
+slot_led : (cells : IndicesAt) (place : ℕ) (code : ℤ) → valid_layout_code (layout.Indices cells) place ≡ Some code → layout_slot (layout.Indices cells) place ≡ led cells code
 slot_led cells place code e = of (is_valid cells.validity place) refl
   where
     of : (valid : Bool) → is_valid cells.validity place ≡ valid → layout_slot (layout.Indices cells) place ≡ led cells code
@@ -29,7 +29,7 @@ slot_led cells place code e = of (is_valid cells.validity place) refl
         let f : ◌≡◌ {A = Option ℤ} None (Some code) = sym (ap (λ (b : Bool). if b then Some (integer_at cells.index cells.values place) else None) h) ∙ e in
         absurd cc
 
-same_coded : (of : Layout) (place other : ℕ) (code : ℤ) → layout_code of place ≡ Some code → layout_code of other ≡ Some code → layout_slot of place ≡ layout_slot of other
+same_coded : (of : Layout) (place other : ℕ) (code : ℤ) → valid_layout_code of place ≡ Some code → valid_layout_code of other ≡ Some code → layout_slot of place ≡ layout_slot of other
 same_coded (layout.Indices cells) place other code e f = slot_led cells place code e ∙ sym (slot_led cells other code f)
 same_coded (layout.Integers cells) place other code e f = cc
 same_coded (layout.Decimals cells) place other code e f = cc

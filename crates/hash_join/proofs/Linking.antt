@@ -1,5 +1,5 @@
 -- Chains as they are linked, from the last row down.
-use Rattle.std.proofs.Common.{◌≡◌, ◌≤◌, ◌<◌, ◌+◌, ℕ, Bool, true, false, List, length, get_or, Option, Some, None, inl, inr, refl, sym, ap, ◌∙◌, arith}
+use Rattle.std.proofs.Common.{◌≡◌, ◌≤◌, ◌<◌, ◌+◌, ℕ, Bool, true, false, List, get_or, Option, Some, None, inl, inr, refl, sym, ap, ◌∙◌, arith}
 use Rattle.std.proofs.lemmas.Bool.{cases_lt}
 use Rattle.std.proofs.lemmas.Bool.Decides.{eqb_tells}
 use Rattle.std.proofs.lemmas.List.{get_or-set_other, length-set}
@@ -57,18 +57,4 @@ module _ (buckets : ℕ → Option ℕ) (mask count : ℕ) (heads links : List �
           let g : b ≡ bucket = cc in
           rw (e, g) (rw (get_or-set_at links row row (get_or heads bucket 0) 0 refl (omega (arith, had.links_count))) (had.first bucket le_mask))
     ];
-  }
-
-  -- before any row is linked
-  pub link_end : length heads ≡ mask + 1 → length links ≡ count → ((b : ℕ) → b ≤ mask → get_or heads b 0 ≡ count) →
-      AreLinked buckets mask count heads links count
-  link_end many rows ends = record {
-    heads_count = many;
-    links_count = rows;
-    first = λ b le. record {
-      after = omega (arith, ends b le);
-      none = λ r from to. absurd (omega (arith, ends b le));
-      there = λ h. absurd (omega (arith, ends b le));
-    };
-    next = λ r b from to at. absurd (omega arith);
   }

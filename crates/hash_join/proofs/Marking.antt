@@ -1,11 +1,11 @@
 -- Bits of numbers that are marked: the one after them stays 0.
-use Rattle.std.proofs.Common.{◌≡◌, ◌≢◌, ◌<◌, ◌*◌, ◌/◌, ◌%◌, ◌^◌, ◌==◌, ℕ, false, List, length, get_or, replicate, inl, inr, sym, ap, ◌∙◌, arith}
+use Rattle.std.proofs.Common.{◌≡◌, ◌≢◌, ◌<◌, ◌*◌, ◌/◌, ◌%◌, ◌^◌, ◌==◌, ℕ, false, List, length, get_or, inl, inr, sym, ap, ◌∙◌, arith}
 use Rattle.std.specs.Int.{bit_at, w8}
 use Rattle.std.specs.Int.RustNames.{bit_or}
 use Rattle.std.proofs.Math.ListN.{set}
 use Rattle.std.proofs.lemmas.Bool.{cases_lt}
-use Rattle.std.proofs.lemmas.List.{get_or-set_same, get_or-set_other, get_or-replicate}
-use Rattle.std.proofs.lemmas.Nat.Bits.{bit_at_set_other, bit_at-zero}
+use Rattle.std.proofs.lemmas.List.{get_or-set_same, get_or-set_other}
+use Rattle.std.proofs.lemmas.Nat.Bits.{bit_at_set_other}
 use Rattle.bitmap.specs.Bits.{bit_of, bits_of}
 use Rattle.bitmap.proofs.Masks.{get_or-bits_of}
 
@@ -35,12 +35,6 @@ marked_other bytes place other byte there differ is =
         ∙ ap (λ (x : ℕ). bit_at x (other % 8)) (get_or-set_same bytes (place / 8) new 0 there)
         ∙ bit_at_set_other w8 byte (place % 8) low (other % 8) ne
         ∙ ap (λ (x : ℕ). bit_at x (other % 8)) (is ∙ ap (λ (k : ℕ). get_or bytes k 0) (sym e))
-
--- no bit is set at first
-pub unmarked : (bytes : List ℕ) (count place : ℕ) → bytes ≡ replicate count 0 → place / 8 < count → bit_of bytes place ≡ false
-unmarked bytes count place are there =
-    ap (λ (all : List ℕ). bit_of all place) are ∙ ap (λ (x : ℕ). bit_at x (place % 8) == 1) (get_or-replicate count (place / 8) 0 0 there)
-    ∙ ap (λ (x : ℕ). x == 1) (bit_at-zero (place % 8))
 
 -- the bit after the others is one of the list
 pub last_bit : (bytes : List ℕ) (len count : ℕ) → count < len → bit_of bytes count ≡ false → get_or (bits_of bytes 0 len) count false ≡ false

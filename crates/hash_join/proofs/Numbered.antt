@@ -4,10 +4,9 @@ use Rattle.std.specs.List.{list_all}
 use Rattle.std.proofs.lemmas.List.{get_or_read}
 use Rattle.arrays.specs.Batch.{BatchAt, row_of}
 use Rattle.hash_join.specs.declared.rights.Rights.{Rights}
-use Rattle.hash_join.specs.Pairs.{key_in, row_at}
-use Rattle.hash_join.specs.Places.{IsPlace}
+use Rattle.hash_join.specs.Pairs.{key_values, row_at}
+use Rattle.hash_join.proofs.Places.{IsPlace, place_there}
 use Rattle.hash_join.specs.Rights.{place_at, key_at, key_from, AreRights}
-use Rattle.hash_join.proofs.Places.{place_there}
 
 -- no columns and no rows
 abbrev pub nothing : BatchAt
@@ -39,9 +38,9 @@ module _ (rights : Rights) (number : ℕ) (place : ℕ × ℕ) (whole : AreRight
     pub columns_there : list_all (λ column. nat_lt column (length batch.columns)) rights.key.items ≡ true
     columns_there = rw at (whole.columns place.0 batch batch_there)
 
-    pub key_found : key_in rights.key.items (row_of batch.columns place.1) ≡ key_at rights number
-    key_found = ap (λ (b : BatchAt). key_in rights.key.items (row_of b.columns place.1)) batch_found
-        ∙ ap (λ (p : ℕ × ℕ). key_in rights.key.items (row_at rights.batches.items p)) found
+    pub key_found : key_values rights.key.items (row_of batch.columns place.1) ≡ key_at rights number
+    key_found = ap (λ (b : BatchAt). key_values rights.key.items (row_of b.columns place.1)) batch_found
+        ∙ ap (λ (p : ℕ × ℕ). key_values rights.key.items (row_at rights.batches.items p)) found
 
     -- it is the batch of the row's place
     pub batch_is : batch ≡ get_or rights.batches.items (place_at rights number).0 nothing

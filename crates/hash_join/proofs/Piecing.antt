@@ -7,11 +7,11 @@ use Rattle.bitmap.proofs.Masks.{range-append}
 use Rattle.std.proofs.lemmas.List.Elements.{filter-append, All-nil, All-cons, All-filter}
 use Rattle.hash_join.specs.declared.build.Probe.{Probe}
 use Rattle.hash_join.specs.declared.pair.Pair.{Pair}
-use Rattle.hash_join.specs.declared.pieces.Start.{Start}
+use Rattle.hash_join.specs.declared.left_pieces.Start.{Start}
 use Rattle.hash_join.specs.declared.search.Search.{Search}
 use Rattle.hash_join.specs.Walks.{pairs_past}
-use Rattle.hash_join.specs.Searches.{ahead_of, first_left, probe_at, start_at, walk_at, AreHeads, AreStarts, IsSearch, IsStart, Passes, Searches}
-use Rattle.hash_join.proofs.Searching.{can_walk, passed, skipped, stopped}
+use Rattle.hash_join.specs.Searches.{ahead_of, first_left, probe_at, start_at, walk_at, AreHeads, AreStarts, IsSearch, IsStart, Passes}
+use Rattle.hash_join.proofs.Searching.{Searches, can_walk, passed, skipped, stopped}
 use Rattle.hash_join.proofs.Walking.{lead_same}
 
 module _ (passes : ℕ → Bool) where

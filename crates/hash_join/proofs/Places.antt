@@ -6,7 +6,17 @@ use Rattle.std.proofs.lemmas.List.Elements.{All-append}
 use Rattle.std.proofs.lemmas.List.FromFn.{get_or-map-range_with_len, length-map-range_with_len}
 use Rattle.arrays.specs.Batch.{BatchAt}
 use Rattle.hash_join.specs.Pairs.{places}
-use Rattle.hash_join.specs.Places.{places_from, IsPlace}
+
+-- the places of the rows of a batch of this number, and of the batches after it
+abbrev pub places_from : ℕ → List BatchAt → List (ℕ × ℕ)
+places_from number [] = []
+places_from number (batch ∷ batches) =
+    map (λ row. (number, row)) (range_with_len 0 batch.rows) ++ places_from (number + 1) batches
+
+-- the place is that of a row
+pub record IsPlace (batches : List BatchAt) (place : ℕ × ℕ) : Type 0 where
+  pub batch : place.0 < length batches
+  pub row : place.1 < (get_or batches place.0 (record { columns = []; rows = 0 })).rows
 
 -- the place of a row in a batch
 abbrev pub in_batch : ℕ → ℕ → ℕ × ℕ

@@ -8,7 +8,14 @@ use Rattle.hash_join.specs.declared.pair.Pair.{Pair}
 use Rattle.hash_join.specs.declared.search.Search.{Search}
 use Rattle.hash_join.specs.Pairs.{pairs_of}
 use Rattle.hash_join.specs.Walks.{joins_at, pair_at, pairs_past, IsWalk}
-use Rattle.hash_join.specs.Searches.{build_of, ahead_of, probe_at, walk_at, IsSearch, Searches}
+use Rattle.hash_join.specs.Searches.{build_of, ahead_of, probe_at, walk_at, IsSearch}
+use Rattle.hash_join.specs.declared.build.Probe.{Probe}
+
+-- the pairs that are found, and those that are still to be found, are all
+pub record Searches (search : Search) (probe : Probe) (made whole : List Pair)
+    (most : ℕ) : Type 0 where
+  pub all : made ++ ahead_of search probe ≡ whole
+  pub few : length made ≤ most
 
 module _ (pairs : ℕ → ℕ → List Pair) where
   -- rows after the left one look from the first right row on
@@ -60,10 +67,6 @@ module _ (search : Search) (is : IsSearch search) where
   ahead_first row from h =
       first_left (pairs_of (build_of search.rights.now) search.left.batch.now search.left.key.now) search.left.batch.now.rows row from h
       ∙ ap (λ first. first ++ ahead_of search (probe_at (row + 1) 0)) (sym (past_is row from))
-
-  -- none are left after the last left row
-  pub none_ahead : (row from : ℕ) → search.left.batch.now.rows ≤ row → ahead_of search (probe_at row from) ≡ []
-  none_ahead row from h = let e : search.left.batch.now.rows - row ≡ 0 = omega arith in rw e refl
 
   -- rows that join nothing leave what is ahead as it is
   passed_over : (n row : ℕ) → row + n ≤ search.left.batch.now.rows → ((other : ℕ) → row ≤ other → other < row + n → pairs_past (walk_at search other) 0 ≡ []) →

@@ -28,20 +28,20 @@ use Rattle.hash_join.specs.declared.ranks.Ranks.{Ranks}
 use Rattle.hash_join.specs.declared.search.Search.{Search}
 use Rattle.hash_join.specs.declared.buckets.Buckets.{Buckets}
 use Rattle.hash_join.specs.declared.buckets.Buckets.TheVariants as parted
-use Rattle.hash_join.specs.declared.look.Told.{Told}
-use Rattle.hash_join.specs.declared.look.Told.TheVariants as known
+use Rattle.hash_join.specs.declared.number_look.BucketKind.{BucketKind}
+use Rattle.hash_join.specs.declared.number_look.BucketKind.TheVariants as known
 use Rattle.hash_join.specs.declared.product.Product.{Product}
 use Rattle.hash_join.specs.Looks.{ranks_told}
 use Rattle.hash_join.specs.Pairs.{keys_join}
 use Rattle.hash_join.specs.Ranks.{rank_at}
 use Rattle.hash_join.specs.Hashes.{hash_of, number_of, place_among, is_key, own_bucket, bucket_among, ranked_bucket, bucket_of, last_of, product_at, product_of, product_bucket, product_sum}
 use Rattle.hash_join.specs.Indices.{index_among}
-use Rattle.hash_join.specs.KeyRows.{key_of}
+use Rattle.hash_join.specs.KeyRows.{row_key}
 use Rattle.hash_join.specs.Chains.{stands, Leads}
 use Rattle.hash_join.specs.Walks.{in_chain, pairs_past, bucket_left}
 use Rattle.hash_join.specs.Rights.{key_at, bucket_at}
 use Rattle.hash_join.proofs.EqualKeys.{standing}
-use Rattle.hash_join.specs.Searches.{first_right, head_of, walk_at, AreKeysOf, HasBucket, IsHead, IsSearch, IsTold, TellsNumbers}
+use Rattle.hash_join.specs.Searches.{first_right, head_of, walk_at, AreKeysOf, HasBucket, IsHead, IsSearch, IsBucketKind, TellsNumbers}
 use Rattle.hash_join.proofs.Cells.{part_at}
 use Rattle.hash_join.proofs.Searching.{can_walk}
 use Rattle.hash_join.proofs.Ranking.{rank_tells, rank_within}
@@ -233,17 +233,17 @@ module _ (search : Search) (is : IsSearch search) where
       }
       by (Some bucket) e =
           head_leads (walk_at search row) (can_walk search is row h) bucket e
-          (bucket_within search.rights.now.buckets (key_of (walk_at search row).left) bucket e)
+          (bucket_within search.rights.now.buckets (row_key (walk_at search row).left) bucket e)
 
   -- the last of the ranks' buckets has no right row
   module _ (ranks : Ranks) (parts : search.rights.now.buckets ≡ parted.Ranked ranks)
       (empty : length search.rights.now.places.items ≤ get_or search.chains.now.heads.items ranks.last 0) where
     -- the bucket of a row whose key is a number
-    row_bucket : (row : ℕ) (number : ℤ) → key_of (walk_at search row).left ≡ Int number ∷ [] → bucket_left (walk_at search row) ≡ Some (bucket_among ranks (Some number))
-    row_bucket row number key = ap (λ b. bucket_of b (key_of (walk_at search row).left)) parts ∙ ap (ranked_bucket ranks) key
+    row_bucket : (row : ℕ) (number : ℤ) → row_key (walk_at search row).left ≡ Int number ∷ [] → bucket_left (walk_at search row) ≡ Some (bucket_among ranks (Some number))
+    row_bucket row number key = ap (λ b. bucket_of b (row_key (walk_at search row).left)) parts ∙ ap (ranked_bucket ranks) key
 
     -- a row whose number is no right key joins nothing
-    other_row : (row from : ℕ) (number : ℤ) → row < search.left.batch.now.rows → key_of (walk_at search row).left ≡ Int number ∷ [] → is_key ranks number ≡ false →
+    other_row : (row from : ℕ) (number : ℤ) → row < search.left.batch.now.rows → row_key (walk_at search row).left ≡ Int number ∷ [] → is_key ranks number ≡ false →
         pairs_past (walk_at search row) from ≡ []
     other_row row from number h key bit =
         let own : own_bucket ranks number ≡ None =
@@ -254,12 +254,12 @@ module _ (search : Search) (is : IsSearch search) where
         none_led (walk_at search row) (can_walk search is row h) ranks.last from bucket (omega (arith, last)) empty
 
     -- a row whose number is a right key joins each right row of its bucket
-    own_row : (row : ℕ) (number : ℤ) (told : ℕ) → key_of (walk_at search row).left ≡ Int number ∷ [] → own_bucket ranks number ≡ Some told → IsTold search row (known.Own told)
+    own_row : (row : ℕ) (number : ℤ) (told : ℕ) → row_key (walk_at search row).left ≡ Int number ∷ [] → own_bucket ranks number ≡ Some told → IsBucketKind search row (known.Own told)
     own_row row number told key e =
         let less = own_within ranks number told e in
-        let left : ranked_bucket ranks (key_of (walk_at search row).left) ≡ Some told =
+        let left : ranked_bucket ranks (row_key (walk_at search row).left) ≡ Some told =
         ap (ranked_bucket ranks) key ∙ ap (λ (b : Option ℕ). Some (unwrap_or b ranks.last)) e in
-        let bucket : bucket_left (walk_at search row) ≡ Some told = ap (λ b. bucket_of b (key_of (walk_at search row).left)) parts ∙ left in
+        let bucket : bucket_left (walk_at search row) ≡ Some told = ap (λ b. bucket_of b (row_key (walk_at search row).left)) parts ∙ left in
         let last : last_of search.rights.now.buckets ≡ ranks.last = ap last_of parts in (
           record { is = bucket; within = omega (arith, less, last) },
           λ right low stands_there.
@@ -267,19 +267,19 @@ module _ (search : Search) (is : IsSearch search) where
               let same : found.0 ≡ told = some_is (sym found.1 ∙ bucket) in
               let there : ranked_bucket ranks (key_at search.rights.now right) ≡ Some told =
               sym (ap (λ b. bucket_of b (key_at search.rights.now right)) parts) ∙ found.2 ∙ ap Some same in
-              told_joins ranks (key_of (walk_at search row).left) (key_at search.rights.now right) told left there less,
+              told_joins ranks (row_key (walk_at search row).left) (key_at search.rights.now right) told left there less,
         )
 
-    told_row : (row : ℕ) (number : ℤ) → key_of (walk_at search row).left ≡ Int number ∷ [] → IsTold search row (ranks_told ranks number)
+    told_row : (row : ℕ) (number : ℤ) → row_key (walk_at search row).left ≡ Int number ∷ [] → IsBucketKind search row (ranks_told ranks number)
     told_row row number key = by (is_key ranks number) refl
       where
-        by : (one : Bool) → is_key ranks number ≡ one → IsTold search row (if one then known.Own (rank_at ranks.keys (place_among ranks.span number)) else known.Nothing)
+        by : (one : Bool) → is_key ranks number ≡ one → IsBucketKind search row (if one then known.Own (rank_at ranks.keys (place_among ranks.span number)) else known.Nothing)
         by true one = own_row row number (rank_at ranks.keys (place_among ranks.span number)) key
             (ap (λ (b : Bool). if b then Some (rank_at ranks.keys (place_among ranks.span number)) else None) one)
         by false one = tt
 
     -- the head of the chain of a row whose key is a right key
-    own_head : (row : ℕ) (number : ℤ) → row < search.left.batch.now.rows → key_of (walk_at search row).left ≡ Int number ∷ [] → is_key ranks number ≡ true →
+    own_head : (row : ℕ) (number : ℤ) → row < search.left.batch.now.rows → row_key (walk_at search row).left ≡ Int number ∷ [] → is_key ranks number ≡ true →
         IsHead search true row (get_or search.chains.now.heads.items (bucket_among ranks (Some number)) 0)
     own_head row number h key one =
         let rank = rank_at ranks.keys (place_among ranks.span number) in
@@ -300,9 +300,9 @@ module _ (search : Search) (is : IsSearch search) where
   -- the chains of buckets by a product tell of numbers
   module _ (product : Product) (parts : search.rights.now.buckets ≡ parted.Multiplied product) where
     -- the bucket of a row whose key is a number
-    product_row : (row : ℕ) (number : ℤ) → key_of (walk_at search row).left ≡ Int number ∷ [] → HasBucket search row (product_at product number)
+    product_row : (row : ℕ) (number : ℤ) → row_key (walk_at search row).left ≡ Int number ∷ [] → HasBucket search row (product_at product number)
     product_row row number key = record {
-      is = ap (λ b. bucket_of b (key_of (walk_at search row).left)) parts ∙ ap (product_bucket product) key;
+      is = ap (λ b. bucket_of b (row_key (walk_at search row).left)) parts ∙ ap (product_bucket product) key;
       within = subst (λ (buckets : Buckets). product_at product number ≤ last_of buckets) (sym parts) (and_le_r (product_sum product (cast_unsigned w128 number) / 2 ^ product.shift) product.mask);
     }
 
@@ -325,27 +325,27 @@ module _ (search : Search) (is : IsSearch search) where
 
   module _ (cells : IntegersAt) (first : ℕ) (are : AreKeysOf search cells first) (row : ℕ) (h : row < search.left.batch.now.rows) where
     -- the key of a left row
-    key_is : key_of (walk_at search row).left ≡ where_valid cells.validity (λ at. Int (integer_at cells.integer cells.values at)) (first + row) ∷ []
+    key_is : row_key (walk_at search row).left ≡ where_valid cells.validity (λ at. Int (integer_at cells.integer cells.values at)) (first + row) ∷ []
     key_is =
         let columns = search.left.batch.now.columns in
         let column : ColumnAt = record { layout = layout.Integers cells; first = first; len = search.left.batch.now.rows } in
-        one_part (key_of (walk_at search row).left) (slot_of column row) (length-map search.left.key.now (cell_in (row_of columns row)) ∙ are.single)
+        one_part (row_key (walk_at search row).left) (slot_of column row) (length-map search.left.key.now (cell_in (row_of columns row)) ∙ are.single)
         (part_at columns search.left.key.now row 0 column is.columns (omega (arith, are.single)) (sym (are.slots column)))
 
     -- a row that is null joins nothing
     null_row : (from : ℕ) → is_valid cells.validity (first + row) ≡ false → pairs_past (walk_at search row) from ≡ []
     null_row from e =
-        let null : key_of (walk_at search row).left ≡ Null ∷ [] =
+        let null : row_key (walk_at search row).left ≡ Null ∷ [] =
         key_is ∙ ap (λ (valid : Bool). (if valid then Int (integer_at cells.integer cells.values (first + row)) else Null) ∷ []) e in
         let bucket : bucket_left (walk_at search row) ≡ None = ap (bucket_of search.rights.now.buckets) null ∙ null_bucket search.rights.now.buckets in
         none_joins (walk_at search row) (can_walk search is row h) from (length search.rights.now.places.items) bucket (omega arith)
         ∙ past_all (walk_at search row) (can_walk search is row h)
 
     -- the key of a row that is not
-    number_row : is_valid cells.validity (first + row) ≡ true → key_of (walk_at search row).left ≡ Int (integer_at cells.integer cells.values (first + row)) ∷ []
+    number_row : is_valid cells.validity (first + row) ≡ true → row_key (walk_at search row).left ≡ Int (integer_at cells.integer cells.values (first + row)) ∷ []
     number_row valid = key_is ∙ ap (λ (v : Bool). (if v then Int (integer_at cells.integer cells.values (first + row)) else Null) ∷ []) valid
 
-    module _ (passes : ℤ → Bool) (told : ℤ → Told) (head : ℤ → ℕ) (own : Bool) (tells : TellsNumbers search passes told head own) where
+    module _ (passes : ℤ → Bool) (told : ℤ → BucketKind) (head : ℤ → ℕ) (own : Bool) (tells : TellsNumbers search passes told head own) where
       -- a row that does not pass joins nothing
       pub row_stopped : (from : ℕ) → (is_valid cells.validity (first + row) && passes (integer_at cells.integer cells.values (first + row))) ≡ false → pairs_past (walk_at search row) from ≡ []
       row_stopped from e = by (is_valid cells.validity (first + row)) refl e
@@ -356,10 +356,10 @@ module _ (search : Search) (is : IsSearch search) where
           by false null bit = null_row from null
 
       -- what is told of a row is so
-      pub row_told : IsTold search row (if is_valid cells.validity (first + row) then told (integer_at cells.integer cells.values (first + row)) else known.Nothing)
+      pub row_told : IsBucketKind search row (if is_valid cells.validity (first + row) then told (integer_at cells.integer cells.values (first + row)) else known.Nothing)
       row_told = by (is_valid cells.validity (first + row)) refl
         where
-          by : (valid : Bool) → is_valid cells.validity (first + row) ≡ valid → IsTold search row (if valid then told (integer_at cells.integer cells.values (first + row)) else known.Nothing)
+          by : (valid : Bool) → is_valid cells.validity (first + row) ≡ valid → IsBucketKind search row (if valid then told (integer_at cells.integer cells.values (first + row)) else known.Nothing)
           by true valid = tells.holds row (integer_at cells.integer cells.values (first + row)) h (number_row valid)
           by false null = tt
 

@@ -10,12 +10,19 @@ use Rattle.scan_base.specs.Predicate.{cell_in}
 use Rattle.hash_join.specs.declared.pair.Pair.{Pair}
 use Rattle.hash_join.specs.declared.walk.Walk.{Walk}
 use Rattle.hash_join.specs.Pairs.{row_at}
-use Rattle.hash_join.specs.KeyRows.{key_of}
+use Rattle.hash_join.specs.KeyRows.{row_key}
 use Rattle.hash_join.specs.Rights.{place_at, key_at, bucket_at}
 use Rattle.hash_join.specs.Hashes.{last_of}
 use Rattle.hash_join.specs.Chains.{stands, Leads}
-use Rattle.hash_join.specs.Walks.{joins_at, pair_at, pairs_past, bucket_left, in_chain, IsWalk, JoinsChain, Follows}
+use Rattle.hash_join.specs.Walks.{joins_at, pair_at, pairs_past, bucket_left, in_chain, IsWalk, JoinsChain}
 use Rattle.hash_join.proofs.EqualKeys.{two_buckets, standing}
+
+-- the pairs that are found, and those that are still to be found with right rows from a row of the
+-- chain on, are all
+pub record Follows (walk : Walk) (at : ℕ) (made whole : List Pair) (most : ℕ) : Type 0 where
+  pub all : made ++ pairs_past walk at ≡ whole
+  pub there : at < length walk.rights.now.places.items → in_chain walk at ≡ true
+  pub few : length made ≤ most
 
 -- items that do not pass are left out
 skip : {X : Type 0} (p : X → Bool) (xs : List X) (d : X) (k a : ℕ) →
@@ -47,7 +54,7 @@ module _ (walk : Walk) (is : IsWalk walk) where
   misses : (row : ℕ) → in_chain walk row ≡ false → joins_at walk (place_at walk.rights.now row) ≡ false
   misses row apart =
       let rights = walk.rights.now in
-      two_buckets rights.buckets (key_of walk.left) (key_at rights row)
+      two_buckets rights.buckets (row_key walk.left) (key_at rights row)
       (length-map walk.left.key.now (cell_in (row_of walk.left.batch.now.columns walk.left.row)) ∙ is.alike
       ∙ sym (length-map rights.key.items (cell_in (row_at rights.batches.items (place_at rights row))))) apart
 
@@ -111,10 +118,6 @@ module _ (walk : Walk) (is : IsWalk walk) where
         there = lead.there;
         few = omega (arith, length-append made (pair_of_row row), one_at_most row);
       }
-
-  -- the chain rises
-  pub next_rises : (row : ℕ) → row < length walk.rights.now.places.items → in_chain walk row ≡ true → row < get_or walk.chains.now.links.items row 0
-  next_rises row lt here = omega (arith, (next_leads row lt here).after)
 
   -- a left row without a bucket joins nothing
   pub none_joins : (from past : ℕ) → bucket_left walk ≡ None → length walk.rights.now.places.items ≤ past → pairs_past walk from ≡ pairs_past walk past

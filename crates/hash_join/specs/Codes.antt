@@ -10,14 +10,14 @@ use Rattle.arrays.specs.Number.{integer_at}
 use Rattle.arrays.specs.Validity.{is_valid}
 
 -- the code at a place; none where it is not valid, or the slots have no codes
-abbrev pub layout_code : Layout → ℕ → Option ℤ
-layout_code (layout.Indices cells) place =
+abbrev pub valid_layout_code : Layout → ℕ → Option ℤ
+valid_layout_code (layout.Indices cells) place =
     if is_valid cells.validity place then Some (integer_at cells.index cells.values place) else None
-layout_code _ place = None
+valid_layout_code _ place = None
 
 -- the code of a slot of a column
 abbrev pub column_code : ColumnAt → ℕ → Option ℤ
-column_code column row = layout_code column.layout (column.first + row)
+column_code column row = valid_layout_code column.layout (column.first + row)
 
 -- the number that a value is, or that a truth value stands for; none of a text or a null
 abbrev pub value_number : Value → Option ℤ
@@ -27,7 +27,7 @@ value_number _ = None
 
 -- the code at a place, where the slots have codes, and else the number of its value
 abbrev pub layout_number : Layout → ℕ → Option ℤ
-layout_number (layout.Indices cells) place = layout_code (layout.Indices cells) place
+layout_number (layout.Indices cells) place = valid_layout_code (layout.Indices cells) place
 layout_number slots place = value_number (layout_slot slots place)
 
 -- the code or the number of a slot of a column

@@ -11,7 +11,7 @@ use Rattle.std.specs.declared.hash.DefaultHasher.{DefaultHasher}
 use Rattle.scan_base.specs.declared.value.Value.{Value}
 use Rattle.scan_base.specs.declared.value.Value.TheVariants.{Null, Bool as Flag, Int, Text}
 use Rattle.scan_base.specs.Value.{is_null}
-use Rattle.hash_join.specs.declared.buckets.Hashing.{Hashing}
+use Rattle.hash_join.specs.declared.buckets.BucketHash.{BucketHash}
 use Rattle.hash_join.specs.declared.product.Product.{Product}
 use Rattle.hash_join.specs.declared.spans.Span.{Span}
 use Rattle.hash_join.specs.declared.ranks.Ranks.{Ranks}
@@ -55,7 +55,7 @@ hash_of begun (value ∷ []) = value_hash begun value
 hash_of begun (value ∷ second ∷ values) = parts_hash begun begun (value ∷ second ∷ values)
 
 -- the bucket of a key by its hash: the last bits of it
-abbrev pub hashed_bucket : Hashing → List Value → Option ℕ
+abbrev pub hashed_bucket : BucketHash → List Value → Option ℕ
 hashed_bucket hashing key =
     option_map (λ hash. bit_and hash hashing.mask) (hash_of hashing.begun key)
 

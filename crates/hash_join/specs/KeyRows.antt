@@ -4,15 +4,15 @@ use Rattle.std.specs.List.{list_all}
 use Rattle.scan_base.specs.declared.value.Value.{Value}
 use Rattle.arrays.specs.Batch.{row_of}
 use Rattle.hash_join.specs.declared.key_row.KeyRow.{KeyRow}
-use Rattle.hash_join.specs.Pairs.{key_in}
+use Rattle.hash_join.specs.Pairs.{key_values}
 
 -- the values of the key in a row of the same batch
 abbrev pub key_beside : KeyRow → ℕ → List Value
-key_beside at row = key_in at.key.now (row_of at.batch.now.columns row)
+key_beside at row = key_values at.key.now (row_of at.batch.now.columns row)
 
 -- the values of the key
-abbrev pub key_of : KeyRow → List Value
-key_of at = key_beside at at.row
+abbrev pub row_key : KeyRow → List Value
+row_key at = key_beside at at.row
 
 -- the row is there, and the batch has the columns of the key
 pub record IsKeyRow (at : KeyRow) : Type 0 where

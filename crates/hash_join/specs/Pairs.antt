@@ -17,8 +17,8 @@ pub record BuildAt : Type 0 where
   pub key : List ℕ
 
 -- a row's values in these columns
-abbrev pub key_in : List ℕ → List Value → List Value
-key_in key row = map (cell_in row) key
+abbrev pub key_values : List ℕ → List Value → List Value
+key_values key row = map (cell_in row) key
 
 -- whether each value of a key is equal to that of the other; a null is equal to nothing
 abbrev pub keys_join : List Value → List Value → Bool
@@ -41,8 +41,8 @@ row_at batches place =
 abbrev pub pairs_of : BuildAt → BatchAt → List ℕ → ℕ → ℕ → List Pair
 pairs_of build left key row from =
     map (λ (place : ℕ × ℕ). record { left = row; batch = place.0; row = place.1 })
-    (filter (λ place. keys_join (key_in key (row_of left.columns row))
-    (key_in build.key (row_at build.batches place))) (drop from (places build.batches)))
+    (filter (λ place. keys_join (key_values key (row_of left.columns row))
+    (key_values build.key (row_at build.batches place))) (drop from (places build.batches)))
 
 -- the pairs that a probe has still to give: those of its left row from a right row on, and then
 -- those of the later left rows

@@ -7,7 +7,7 @@ use Rattle.scan_base.specs.declared.value.Value.{Value}
 use Rattle.arrays.specs.Batch.{BatchAt}
 use Rattle.hash_join.specs.declared.rights.Rights.{Rights}
 use Rattle.hash_join.specs.Hashes.{bucket_of, key_digest, last_of}
-use Rattle.hash_join.specs.Pairs.{key_in, places, row_at}
+use Rattle.hash_join.specs.Pairs.{key_values, places, row_at}
 
 -- the place of a row
 abbrev pub place_at : Rights → ℕ → ℕ × ℕ
@@ -15,7 +15,7 @@ place_at rights number = get_or rights.places.items number (0, 0)
 
 -- the key of the row at a place
 abbrev pub key_from : Rights → ℕ × ℕ → List Value
-key_from rights place = key_in rights.key.items (row_at rights.batches.items place)
+key_from rights place = key_values rights.key.items (row_at rights.batches.items place)
 
 -- the key of a row
 abbrev pub key_at : Rights → ℕ → List Value

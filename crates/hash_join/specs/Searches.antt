@@ -1,5 +1,5 @@
 -- Inside: a left batch whose rows look for their partners.
-use Rattle.std.specs.Prelude.{◌≡◌, ◌≤◌, ◌<◌, ◌+◌, ◌^◌, ◌++◌, ℕ, ℤ, Bool, true, false, List, [], ◌∷◌}
+use Rattle.std.specs.Prelude.{◌≡◌, ◌≤◌, ◌<◌, ◌+◌, ◌^◌, ℕ, ℤ, Bool, true, false, List, [], ◌∷◌}
 use Rattle.std.specs.Prelude.{Option, Some, None, IsTrue, length, get_or, nat_lt}
 use Rattle.std.specs.List.{list_all}
 use Rattle.hash_join.specs.declared.build.Probe.{Probe}
@@ -7,15 +7,15 @@ use Rattle.hash_join.specs.declared.pair.Pair.{Pair}
 use Rattle.hash_join.specs.declared.rights.Rights.{Rights}
 use Rattle.hash_join.specs.declared.chains.Chains.{Chains}
 use Rattle.hash_join.specs.declared.search.Search.{Search}
-use Rattle.hash_join.specs.declared.pieces.Start.{Start}
-use Rattle.hash_join.specs.declared.look.Told.{Told}
-use Rattle.hash_join.specs.declared.look.Told.TheVariants as known
+use Rattle.hash_join.specs.declared.left_pieces.Start.{Start}
+use Rattle.hash_join.specs.declared.number_look.BucketKind.{BucketKind}
+use Rattle.hash_join.specs.declared.number_look.BucketKind.TheVariants as known
 use Rattle.hash_join.specs.declared.walk.Walk.{Walk}
 use Rattle.arrays.specs.declared.layout.Layout.TheVariants as layout
 use Rattle.arrays.specs.Column.{ColumnAt}
 use Rattle.arrays.specs.Integers.{IntegersAt}
 use Rattle.scan_base.specs.declared.value.Value.TheVariants.{Int}
-use Rattle.hash_join.specs.KeyRows.{key_of}
+use Rattle.hash_join.specs.KeyRows.{row_key}
 use Rattle.hash_join.specs.Hashes.{last_of}
 use Rattle.hash_join.specs.Walks.{in_chain, pairs_past, bucket_left, JoinsChain}
 use Rattle.hash_join.specs.Pairs.{BuildAt, pairs_ahead}
@@ -68,13 +68,15 @@ pub record HasBucket (search : Search) (row bucket : ℕ) : Type 0 where
   pub within : bucket ≤ last_of search.rights.now.buckets
 
 -- what is told of a left row is so
-abbrev pub IsTold : Search → ℕ → Told → Type 0
-IsTold search row known.Nothing = Unit {0}
-IsTold search row (known.Shared bucket) = HasBucket search row bucket
-IsTold search row (known.Own bucket) = HasBucket search row bucket × JoinsChain (walk_at search row)
+abbrev pub IsBucketKind : Search → ℕ → BucketKind → Type 0
+IsBucketKind search row known.Nothing = Unit {0}
+IsBucketKind search row (known.Shared bucket) = HasBucket search row bucket
+IsBucketKind search row (known.Own bucket) =
+    HasBucket search row bucket × JoinsChain (walk_at search row)
 
-abbrev pub Tells : Search → (ℕ → Told) → Type 0
-Tells search told = (row : ℕ) → row < search.left.batch.now.rows → IsTold search row (told row)
+abbrev pub Tells : Search → (ℕ → BucketKind) → Type 0
+Tells search told = (row : ℕ) → row < search.left.batch.now.rows →
+    IsBucketKind search row (told row)
 
 -- the first row of a bucket's chain, and the number of right rows where there is no bucket
 abbrev pub head_of : Search → Option ℕ → ℕ
@@ -119,15 +121,15 @@ AreStarts search own to (start ∷ starts) =
     IsStart search own (first_left to starts) start × AreStarts search own to starts
 
 -- what is told of a number is so of each left row whose key it is
-pub record TellsNumbers (search : Search) (passes : ℤ → Bool) (told : ℤ → Told) (head : ℤ → ℕ)
+pub record TellsNumbers (search : Search) (passes : ℤ → Bool) (told : ℤ → BucketKind) (head : ℤ → ℕ)
     (own : Bool) : Type 0 where
   pub sound : (row from : ℕ) (number : ℤ) → row < search.left.batch.now.rows →
-      key_of (walk_at search row).left ≡ Int number ∷ [] → passes number ≡ false →
+      row_key (walk_at search row).left ≡ Int number ∷ [] → passes number ≡ false →
       pairs_past (walk_at search row) from ≡ []
   pub holds : (row : ℕ) (number : ℤ) → row < search.left.batch.now.rows →
-      key_of (walk_at search row).left ≡ Int number ∷ [] → IsTold search row (told number)
+      row_key (walk_at search row).left ≡ Int number ∷ [] → IsBucketKind search row (told number)
   pub heads : (row : ℕ) (number : ℤ) → row < search.left.batch.now.rows →
-      key_of (walk_at search row).left ≡ Int number ∷ [] → passes number ≡ true →
+      row_key (walk_at search row).left ≡ Int number ∷ [] → passes number ≡ true →
       IsHead search own row (head number)
 
 -- the left key is one column of integers
@@ -137,9 +139,3 @@ pub record AreKeysOf (search : Search) (cells : IntegersAt) (first : ℕ) : Type
       get_or search.left.batch.now.columns (get_or search.left.key.now 0 0) other
       ≡ record { layout = layout.Integers cells; first = first; len = search.left.batch.now.rows }
   pub there : first + search.left.batch.now.rows ≤ cells.len
-
--- the pairs that are found, and those that are still to be found, are all
-pub record Searches (search : Search) (probe : Probe) (made whole : List Pair)
-    (most : ℕ) : Type 0 where
-  pub all : made ++ ahead_of search probe ≡ whole
-  pub few : length made ≤ most

@@ -1,18 +1,18 @@
 -- Inside: a left row that looks for its partners along a chain.
-use Rattle.std.specs.Prelude.{◌≡◌, ◌≤◌, ◌<◌, ◌^◌, ◌++◌, ℕ, Bool, true, List, Option, length, map}
+use Rattle.std.specs.Prelude.{◌≡◌, ◌<◌, ◌^◌, ℕ, Bool, true, List, Option, length, map}
 use Rattle.std.specs.Prelude.{drop}
 use Rattle.std.specs.List.{filter}
 use Rattle.hash_join.specs.declared.pair.Pair.{Pair}
 use Rattle.hash_join.specs.declared.walk.Walk.{Walk}
 use Rattle.hash_join.specs.Pairs.{keys_join}
 use Rattle.hash_join.specs.Hashes.{bucket_of, key_digest}
-use Rattle.hash_join.specs.KeyRows.{key_beside, key_of, IsKeyRow}
+use Rattle.hash_join.specs.KeyRows.{key_beside, row_key, IsKeyRow}
 use Rattle.hash_join.specs.Rights.{key_from, place_at, bucket_at, AreRights}
 use Rattle.hash_join.specs.Chains.{stands, AreRepeats, HasLinked}
 
 -- whether the left row joins the right row at a place
 abbrev pub joins_at : Walk → ℕ × ℕ → Bool
-joins_at walk place = keys_join (key_of walk.left) (key_from walk.rights.now place)
+joins_at walk place = keys_join (row_key walk.left) (key_from walk.rights.now place)
 
 -- the pair of the left row with the right row at a place
 abbrev pub pair_at : Walk → ℕ × ℕ → Pair
@@ -25,7 +25,7 @@ pairs_past walk from =
 
 -- the bucket of the left row
 abbrev pub bucket_left : Walk → Option ℕ
-bucket_left walk = bucket_of walk.rights.now.buckets (key_of walk.left)
+bucket_left walk = bucket_of walk.rights.now.buckets (row_key walk.left)
 
 -- the digests of parts of the keys of left rows in the batch
 abbrev pub digest_left : Walk → ℕ → ℕ → Option ℕ
@@ -49,10 +49,3 @@ pub record IsWalk (walk : Walk) : Type 0 where
   pub alike : length walk.left.key.now ≡ length walk.rights.now.key.items
   pub small : walk.left.row < 2 ^ 32
   pub few : walk.left.batch.now.rows < 2 ^ 32
-
--- the pairs that are found, and those that are still to be found with right rows from a row of the
--- chain on, are all
-pub record Follows (walk : Walk) (at : ℕ) (made whole : List Pair) (most : ℕ) : Type 0 where
-  pub all : made ++ pairs_past walk at ≡ whole
-  pub there : at < length walk.rights.now.places.items → in_chain walk at ≡ true
-  pub few : length made ≤ most

@@ -1,18 +1,18 @@
 //! The rows of a left batch, none of which is passed over.
 
 ghost use Rattle.std.specs.Prelude.{false, true};
-ghost use Rattle.hash_join.specs.declared.look.Told.TheVariants as known;
+ghost use Rattle.hash_join.specs.declared.number_look.BucketKind.TheVariants as known;
 ghost use Rattle.hash_join.specs.Searches.{IsSearch};
 
 use crate::buckets::Buckets;
-use crate::compared::Compared;
 use crate::digests::Digests;
 use crate::key_codes::{any_codes, has_codes, most_codes};
 use crate::key_row::KeyRow;
-use crate::look::Told;
+use crate::number_look::BucketKind;
+use crate::pair_cache::PairCache;
 use crate::part_rows::BatchRows;
+use crate::row_cache::{BucketRows, CacheSizes, RowCache};
 use crate::search::Search;
-use crate::seen::{BucketRows, SeenRows, Wanted};
 use crate::sieve::Sieve;
 use std::alloc::{AllocError, Global};
 
@@ -93,35 +93,35 @@ impl<'a> Sieve for AllRows<'a> {
         }
     }
 
-    fn tell(&self, _row: usize) -> Told {
-        Told::Nothing
+    fn tell(&self, _row: usize) -> BucketKind {
+        BucketKind::Nothing
     }
 
-    fn seen_rows(&self, alloc: Global) -> Result<SeenRows, AllocError> {
+    fn seen_rows(&self, alloc: Global) -> Result<RowCache, AllocError> {
         let Buckets::Hashed(hashing) = &self.search.rights.buckets else {
-            return Ok(SeenRows::none(alloc));
+            return Ok(RowCache::none(alloc));
         };
         let (batch, key) = (self.search.left.batch, self.search.left.key);
         let rows = batch.rows();
-        let wanted = Wanted {
+        let wanted = CacheSizes {
             rows: if has_codes(batch, key) { rows } else { 0 },
             parts: key.len(),
             codes: most_codes(batch, key).min(rows),
         };
-        SeenRows::new(alloc, hashing, wanted)
+        RowCache::new(alloc, hashing, wanted)
     }
 
-    fn compared(&self, alloc: Global) -> Compared {
+    fn compared(&self, alloc: Global) -> PairCache {
         let (batch, key) = (self.search.left.batch, self.search.left.key);
         match &self.search.rights.buckets {
             Buckets::Hashed(hashing) if any_codes(batch, key) => {
-                Compared::new(alloc, hashing, batch.rows())
+                PairCache::new(alloc, hashing, batch.rows())
             }
-            _ => Compared::none(alloc),
+            _ => PairCache::none(alloc),
         }
     }
 
-    fn head(&self, row: usize, seen: &mut SeenRows) -> u32 {
+    fn head(&self, row: usize, seen: &mut RowCache) -> u32 {
         match seen.bucket(self, row) {
             None => self.search.rights.places.len() as u32,
             Some(bucket) => self.search.chains.heads[bucket],

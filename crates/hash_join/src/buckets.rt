@@ -4,8 +4,8 @@ ghost use Rattle.std.specs.Prelude.{◌≡◌, ◌≤◌, ◌<◌, ◌^◌, IfSo
 ghost use Rattle.scan_base.specs.Value.{value_of};
 ghost use Rattle.hash_join.specs.declared.buckets.Buckets.TheVariants as parted;
 ghost use Rattle.hash_join.specs.Hashes.{last_of, bucket_of, digest_of, hashed_bucket, key_digest};
-ghost use Rattle.hash_join.specs.KeyRows.{key_of, IsKeyRow};
-ghost use Rattle.hash_join.specs.Seen.{AreDigests};
+ghost use Rattle.hash_join.specs.KeyRows.{row_key, IsKeyRow};
+ghost use Rattle.hash_join.specs.RowCache.{AreDigests};
 
 use crate::digests::Digests;
 use crate::key_row::{KeyRow, text_digest};
@@ -17,7 +17,7 @@ use std::hash::DefaultHasher;
 
 // Buckets by the last bits, which the mask has, of a hash that begins with the hasher.
 #[derive(Clone, Copy, Drop)]
-pub(crate) struct Hashing {
+pub(crate) struct BucketHash {
     pub(crate) begun: DefaultHasher,
     pub(crate) mask: usize,
 }
@@ -25,7 +25,7 @@ pub(crate) struct Hashing {
 // How keys are parted into buckets.
 #[derive(Drop)]
 pub(crate) enum Buckets {
-    Hashed(Hashing),
+    Hashed(BucketHash),
     Multiplied(Product),
     Ranked(Ranks),
 }
@@ -45,7 +45,7 @@ impl Buckets {
     // The bucket of a row's key; none where a part of it is null.
     pub(crate) fn bucket(&self, row: &KeyRow<'_>) -> Option<usize>
         requires { IsKeyRow row.now }
-        ensures bucket { result ≡ bucket_of self.now (key_of row.now) }
+        ensures bucket { result ≡ bucket_of self.now (row_key row.now) }
         ensures within { IfSome result (λ bucket. bucket ≤ last_of self.now) }
     {
         match self {
@@ -67,10 +67,10 @@ impl Buckets {
         requires few { R.count rows.now < 2 ^ 32 }
         requires row { IsKeyRow row.now }
         requires parts { length row.now.key.now ≡ R.parts rows.now }
-        requires key { R.key rows.now number ≡ key_of row.now }
+        requires key { R.key rows.now number ≡ row_key row.now }
         requires seen { AreDigests (key_digest self.now (R.key rows.now))
             (R.count rows.now) digests.old.texts.items }
-        ensures bucket { result ≡ bucket_of self.now (key_of row.now) }
+        ensures bucket { result ≡ bucket_of self.now (row_key row.now) }
         ensures within { IfSome result (λ bucket. bucket ≤ last_of self.now) }
         ensures seen { AreDigests (key_digest self.now (R.key rows.now))
             (R.count rows.now) digests.new.texts.items }
@@ -85,10 +85,10 @@ impl Buckets {
     }
 }
 
-impl Hashing {
+impl BucketHash {
     fn bucket(&self, row: &KeyRow<'_>) -> Option<usize>
         requires { IsKeyRow row.now }
-        ensures bucket { result ≡ hashed_bucket self.now (key_of row.now) }
+        ensures bucket { result ≡ hashed_bucket self.now (row_key row.now) }
         ensures within { IfSome result (λ bucket. bucket ≤ self.now.mask) }
     {
         match row.hash_from(self.begun) {

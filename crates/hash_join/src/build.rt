@@ -6,15 +6,15 @@ ghost use Rattle.std.specs.List.{list_all};
 ghost use Rattle.scan_base.specs.Limits.{most_rows};
 ghost use Rattle.arrays.specs.Batch.{BatchAt};
 ghost use Rattle.hash_join.specs.Pairs.{places, pairs_ahead};
-ghost use Rattle.work_watch.specs.Told.{ToldAtLeast};
+ghost use Rattle.work_watch.specs.WatchedWork.{ToldAtLeast};
 
 use crate::chains::Chains;
-use crate::compared::{Compared, Made};
 use crate::pair::Pair;
+use crate::pair_cache::{PairCache, PairOutput};
 use crate::rights::Rights;
 use crate::search::Search;
 use arrays::Batch;
-use hash_seed::HashSeed;
+use scan_base::HashSeed;
 use std::alloc::{AllocError, Global};
 use std::marker::Model;
 use work_watch::{Watches, tell};
@@ -152,13 +152,13 @@ impl Build {
             chains: &self.chains,
             left: *left,
         };
-        let mut made = Made {
+        let mut made = PairOutput {
             pairs: Vec::new(alloc),
-            compared: Compared::none(alloc),
+            compared: PairCache::none(alloc),
         };
         let stop = search.push_pairs(probe, most, &mut made)?;
         *probe = stop;
-        let Made { pairs, compared: _ } = made;
+        let PairOutput { pairs, compared: _ } = made;
         Ok(pairs)
     }
 }

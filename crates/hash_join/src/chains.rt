@@ -3,18 +3,16 @@
 ghost use Rattle.std.specs.Prelude.{◌≡◌, ◌+◌, ◌≤◌, ◌<◌, IfOk, OnOk, false, length, replicate};
 ghost use Rattle.hash_join.specs.Rights.{AreRights};
 ghost use Rattle.hash_join.specs.Chains.{AreRepeats, HasChains};
-ghost use Rattle.hash_join.specs.Seen.{AreOpen, AreOpenRepeats};
-ghost use Rattle.work_watch.specs.Told.{ToldAtLeast};
+ghost use Rattle.hash_join.specs.RowCache.{AreOpen, AreOpenRepeats};
+ghost use Rattle.work_watch.specs.WatchedWork.{ToldAtLeast};
 
-use crate::compared::Compared;
+use crate::pair_cache::PairCache;
 use crate::right_rows::RightRows;
 use crate::rights::Rights;
-use crate::seen::SeenRows;
+use crate::row_cache::RowCache;
 use std::alloc::{AllocError, Global};
+use work_watch::pace::MOST_PIECE_ROWS;
 use work_watch::{Watches, tell};
-
-// After so many rows who watches may end the work.
-const WATCHED_ROWS: usize = 65_536;
 
 // For each bucket the first row of its chain, and for each row the next of its chain, in rising
 // order; the number of rows where there is none. A row with a null in its key stands in no chain.
@@ -111,7 +109,7 @@ fn no_repeats(alloc: Global, count: usize) -> Result<Vec<bool>, AllocError>
 struct OpenChains {
     heads: Vec<u32>,
     links: Vec<u32>,
-    seen: SeenRows,
+    seen: RowCache,
 }
 
 impl OpenChains {
@@ -145,7 +143,7 @@ impl OpenChains {
         let mut from = rights.places.len();
         while from > 0 {
             let to = from;
-            from = to.saturating_sub(WATCHED_ROWS);
+            from = to.saturating_sub(MOST_PIECE_ROWS);
             self.link_rows(rights, from, to);
             tell(watch, rights.weighted_rows(to - from))?;
         }
@@ -184,7 +182,7 @@ impl OpenChains {
 #[derive(Drop)]
 struct OpenRepeats {
     repeats: Vec<bool>,
-    compared: Compared,
+    compared: PairCache,
 }
 
 impl OpenRepeats {
@@ -209,7 +207,7 @@ impl OpenRepeats {
         let mut to = 0;
         while to < rows {
             let from = to;
-            to = rows.min(from + WATCHED_ROWS);
+            to = rows.min(from + MOST_PIECE_ROWS);
             self.look_at_rows(rights, links, from, to);
             tell(watch, rights.weighted_rows(to - from))?;
         }

@@ -5,10 +5,10 @@ ghost use Rattle.std.specs.Prelude.{Some, length};
 ghost use Rattle.hash_join.specs.declared.buckets.Buckets.{Buckets as BucketsAt};
 ghost use Rattle.hash_join.specs.declared.buckets.Buckets.TheVariants as parted;
 ghost use Rattle.hash_join.specs.Hashes.{hash_of, key_digest};
-ghost use Rattle.hash_join.specs.KeyRows.{key_of, IsKeyRow};
-ghost use Rattle.hash_join.specs.Seen.{AreDigests};
+ghost use Rattle.hash_join.specs.KeyRows.{row_key, IsKeyRow};
+ghost use Rattle.hash_join.specs.RowCache.{AreDigests};
 
-use crate::buckets::Hashing;
+use crate::buckets::BucketHash;
 use crate::key_row::{KeyRow, feed_part};
 use crate::part_rows::PartRows;
 use crate::product::Product;
@@ -77,7 +77,7 @@ impl Digests {
     // or to as many places as a table has at most.
     pub(crate) fn new(
         alloc: Global,
-        hashing: &Hashing,
+        hashing: &BucketHash,
         parts: usize,
         codes: usize,
     ) -> Result<Digests, AllocError>
@@ -102,7 +102,7 @@ impl Digests {
 
     // Makes more places where half of them were taken. They know nothing yet. Where memory is
     // refused, there are none from then on.
-    fn make_room(&mut self, hashing: &Hashing)
+    fn make_room(&mut self, hashing: &BucketHash)
         ensures { (digests : ℕ → ℕ → Option ℕ) (count : ℕ) → count < 2 ^ 32 →
             AreDigests digests count self.old.texts.items →
             AreDigests digests count self.new.texts.items }
@@ -124,7 +124,7 @@ impl Digests {
     // not looked at.
     pub(crate) fn hash<R: PartRows>(
         &mut self,
-        hashing: &Hashing,
+        hashing: &BucketHash,
         rows: &R,
         row: usize,
         at: &KeyRow<'_>,
@@ -133,10 +133,10 @@ impl Digests {
         requires few { R.count rows.now < 2 ^ 32 }
         requires at { IsKeyRow at.now }
         requires parts { length at.now.key.now ≡ R.parts rows.now }
-        requires key { R.key rows.now row ≡ key_of at.now }
+        requires key { R.key rows.now row ≡ row_key at.now }
         requires seen { AreDigests (key_digest (parted.Hashed hashing.now) (R.key rows.now))
             (R.count rows.now) self.old.texts.items }
-        ensures hash { result ≡ hash_of hashing.now.begun (key_of at.now) }
+        ensures hash { result ≡ hash_of hashing.now.begun (row_key at.now) }
         ensures seen { AreDigests (key_digest (parted.Hashed hashing.now) (R.key rows.now))
             (R.count rows.now) self.new.texts.items }
     {
@@ -162,7 +162,7 @@ impl Digests {
     // The digest of a part of a row's key, where it has a code.
     fn digest<R: PartRows>(
         &mut self,
-        hashing: &Hashing,
+        hashing: &BucketHash,
         rows: &R,
         row: usize,
         part: usize,

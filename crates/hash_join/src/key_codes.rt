@@ -6,10 +6,10 @@ ghost use Rattle.scan_base.specs.Value.{value_of};
 ghost use Rattle.arrays.specs.Batch.{BatchAt};
 ghost use Rattle.arrays.specs.Column.{slot_of};
 ghost use Rattle.arrays.specs.declared.layout.Layout.TheVariants as layout;
-ghost use Rattle.hash_join.specs.Codes.{column_code, column_number, layout_code, value_number};
+ghost use Rattle.hash_join.specs.Codes.{column_code, column_number, valid_layout_code};
+ghost use Rattle.hash_join.specs.Codes.{value_number};
 ghost use Rattle.hash_join.specs.Codes.{AreOne};
 
-use crate::key_element::{is_known, packed_number};
 use arrays::{Batch, Cells, Column, Indices, Layout};
 use scan_base::ValueRef;
 
@@ -41,11 +41,11 @@ pub(crate) fn number_at(column: &Column, row: usize) -> Option<i128>
 // The code of a slot, where it is valid.
 fn valid_code(cells: &Indices<'_>, place: usize) -> Option<i128>
     requires { place < cells.now.len }
-    ensures { result ≡ layout_code (layout.Indices cells.now) place }
+    ensures { result ≡ valid_layout_code (layout.Indices cells.now) place }
 {
     let _count = cells.len();
-    if is_known(cells.validity(), place) {
-        Some(packed_number(cells.index_type(), cells.values(), place))
+    if cells.validity().is_valid(place) {
+        Some(cells.index_at(place))
     } else {
         None
     }

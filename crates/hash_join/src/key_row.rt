@@ -10,10 +10,10 @@ ghost use Rattle.scan_base.specs.declared.value.Value.TheVariants.{Null};
 ghost use Rattle.hash_join.specs.Pairs.{keys_join};
 ghost use Rattle.hash_join.specs.Hashes.{fed, fed_part, hash_of, number_of, text_digest};
 ghost use Rattle.hash_join.specs.Hashes.{value_hash};
-ghost use Rattle.hash_join.specs.KeyRows.{key_beside, key_of, IsKeyRow};
+ghost use Rattle.hash_join.specs.KeyRows.{key_beside, row_key, IsKeyRow};
 
 use crate::key_codes::{code_at, have_one_code, have_one_number, number_at};
-use arrays::{Batch, Cells};
+use arrays::{Batch, Cells, is_null};
 use scan_base::{Comparison, Truth, ValueRef};
 use std::hash::{DefaultHasher, Hash, Hasher};
 
@@ -34,7 +34,7 @@ impl<'a> KeyRow<'a> {
     pub(crate) fn part(&self, number: usize) -> ValueRef<'a>
         requires row { IsKeyRow self.now }
         requires there { number < length self.now.key.now }
-        ensures { value_of result ≡ get_or (key_of self.now) number Null }
+        ensures { value_of result ≡ get_or (row_key self.now) number Null }
     {
         self.part_in(self.row, number)
     }
@@ -54,7 +54,7 @@ impl<'a> KeyRow<'a> {
     // Whether a part of the key is null.
     pub(crate) fn has_null(&self) -> bool
         requires { IsKeyRow self.now }
-        ensures { result ≡ list_any is_null (key_of self.now) }
+        ensures { result ≡ list_any is_null (row_key self.now) }
     {
         for number in 0..self.key.len() {
             if is_null(self.part(number)) {
@@ -67,7 +67,7 @@ impl<'a> KeyRow<'a> {
     // The number that is the key: none where the key has several parts, or one that is no number.
     pub(crate) fn number(&self) -> Option<i128>
         requires { IsKeyRow self.now }
-        ensures { result ≡ number_of (key_of self.now) }
+        ensures { result ≡ number_of (row_key self.now) }
     {
         if self.key.len() != 1 {
             return None;
@@ -111,7 +111,7 @@ impl<'a> KeyRow<'a> {
     pub(crate) fn has_code_of(&self, other: usize) -> bool
         requires row { IsKeyRow self.now }
         requires other { other < self.now.batch.now.rows }
-        ensures { result ≡ true → key_of self.now ≡ key_beside self.now other }
+        ensures { result ≡ true → row_key self.now ≡ key_beside self.now other }
     {
         if self.key.len() != 1 {
             return self.has_parts_of(other);
@@ -124,7 +124,7 @@ impl<'a> KeyRow<'a> {
     fn has_parts_of(&self, other: usize) -> bool
         requires row { IsKeyRow self.now }
         requires other { other < self.now.batch.now.rows }
-        ensures { result ≡ true → key_of self.now ≡ key_beside self.now other }
+        ensures { result ≡ true → row_key self.now ≡ key_beside self.now other }
     {
         for part in 0..self.key.len() {
             if !self.has_part_of(part, other) {
@@ -149,7 +149,7 @@ impl<'a> KeyRow<'a> {
         requires there { part < length self.now.key.now }
         requires other { other < self.now.batch.now.rows }
         ensures { result ≡ true →
-            get_or (key_of self.now) part Null ≡ get_or (key_beside self.now other) part Null }
+            get_or (row_key self.now) part Null ≡ get_or (key_beside self.now other) part Null }
     {
         let columns = self.batch.columns();
         have_one_number(&columns[self.key[part]], self.row, other)
@@ -158,7 +158,7 @@ impl<'a> KeyRow<'a> {
     // The hash of the key's values, begun with what a hasher has taken in; none where one is null.
     pub(crate) fn hash_from(&self, begun: DefaultHasher) -> Option<u64>
         requires { IsKeyRow self.now }
-        ensures { result ≡ hash_of begun (key_of self.now) }
+        ensures { result ≡ hash_of begun (row_key self.now) }
     {
         if self.key.len() == 1 {
             return hash_value(begun, self.part(0));
@@ -177,7 +177,7 @@ impl<'a> KeyRow<'a> {
         requires row { IsKeyRow self.now }
         requires other { IsKeyRow other.now }
         requires alike { length self.now.key.now ≡ length other.now.key.now }
-        ensures { result ≡ keys_join (key_of self.now) (key_of other.now) }
+        ensures { result ≡ keys_join (row_key self.now) (row_key other.now) }
     {
         for number in 0..self.key.len() {
             if !are_equal(self.part(number), other.part(number)) {
@@ -185,16 +185,6 @@ impl<'a> KeyRow<'a> {
             }
         }
         true
-    }
-}
-
-// Whether a value is null.
-fn is_null(value: ValueRef<'_>) -> bool
-    ensures { result ≡ is_null (value_of value.entry) }
-{
-    match value {
-        ValueRef::Null => true,
-        _ => false,
     }
 }
 

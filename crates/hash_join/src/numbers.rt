@@ -4,9 +4,8 @@ ghost use Rattle.std.specs.Prelude.{◌≡◌, ◌≤◌, ◌<◌, ◌^◌, All,
 ghost use Rattle.std.specs.List.{list_all};
 ghost use Rattle.arrays.specs.Batch.{BatchAt};
 
-use crate::key_element::{KeyElement, is_known};
-use arrays::{Batch, Cells, Column, Integers, Layout};
-use arrow_schema::IntegerType;
+use arrays::{Batch, Cells, Column, Integer, Integers, Layout};
+use arrow_types::IntegerType;
 
 // What takes numbers in.
 pub(crate) trait TakesNumbers {
@@ -15,7 +14,7 @@ pub(crate) trait TakesNumbers {
 
 // Slots of integers, from one up to, not with, another.
 #[derive(Drop)]
-struct Slots<'a> {
+struct NumberSlots<'a> {
     cells: Integers<'a>,
     from: usize,
     to: usize,
@@ -64,16 +63,16 @@ fn key_column<'a>(batch: &'a Batch, key: &[usize]) -> &'a Column
 }
 
 // The slots of a column of integers.
-fn slots_of(column: &Column) -> Option<Slots<'_>> {
+fn slots_of(column: &Column) -> Option<NumberSlots<'_>> {
     let from = column.first();
     let to = from + column.len();
     match column.layout() {
-        Layout::Integers(cells) => Some(Slots { cells, from, to }),
+        Layout::Integers(cells) => Some(NumberSlots { cells, from, to }),
         _ => None,
     }
 }
 
-impl<'a> Slots<'a> {
+impl<'a> NumberSlots<'a> {
     fn give<T: TakesNumbers>(&self, taker: &mut T) {
         match self.cells.integer_type() {
             IntegerType::Int8 => self.give_as::<i8, T>(taker),
@@ -87,14 +86,14 @@ impl<'a> Slots<'a> {
         }
     }
 
-    fn give_as<E: KeyElement, T: TakesNumbers>(&self, taker: &mut T)
-        requires { E.kind ≡ (self.now).cells.integer }
+    fn give_as<E: Integer, T: TakesNumbers>(&self, taker: &mut T)
+        requires { E.KIND ≡ (self.now).cells.integer }
     {
         let _count = self.cells.len();
         let values = self.cells.values();
         let validity = self.cells.validity();
         for place in self.from..self.to {
-            if is_known(validity, place) {
+            if validity.is_valid(place) {
                 taker.take(E::number_at(values, place));
             }
         }

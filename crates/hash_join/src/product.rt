@@ -3,7 +3,7 @@
 ghost use Rattle.std.specs.Prelude.{◌≡◌, ◌≤◌, ◌<◌, IfSome};
 
 use crate::key_row::KeyRow;
-use hash_seed::HashSeed;
+use scan_base::HashSeed;
 use std::hash::{BuildHasher, DefaultHasher, Hasher};
 
 // Buckets by the first bits of a sum: of the products of a number's halves with two secret numbers.
@@ -19,7 +19,7 @@ pub(crate) struct Product {
 
 impl Product {
     ghost use Rattle.hash_join.specs.Hashes.{product_at, product_bucket};
-    ghost use Rattle.hash_join.specs.KeyRows.{key_of, IsKeyRow};
+    ghost use Rattle.hash_join.specs.KeyRows.{row_key, IsKeyRow};
 
     // As many buckets as the bits of the mask name, by a product with what the seed hides.
     pub(crate) fn new(seed: HashSeed, mask: usize) -> Product
@@ -56,7 +56,7 @@ impl Product {
     #[tactic(auto, using(crate::proofs::EqualKeys::number_known))]
     pub(crate) fn bucket(&self, row: &KeyRow<'_>) -> Option<usize>
         requires { IsKeyRow row.now }
-        ensures bucket { result ≡ product_bucket self.now (key_of row.now) }
+        ensures bucket { result ≡ product_bucket self.now (row_key row.now) }
         ensures within { IfSome result (λ bucket. bucket ≤ self.now.mask) }
     {
         match row.number() {

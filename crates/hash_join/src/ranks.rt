@@ -32,7 +32,7 @@ impl Ranks {
     ghost use Rattle.arrays.specs.Batch.{BatchAt};
     ghost use Rattle.hash_join.specs.Hashes.{bucket_among, is_key, number_of, own_bucket};
     ghost use Rattle.hash_join.specs.Hashes.{ranked_bucket};
-    ghost use Rattle.hash_join.specs.KeyRows.{key_of, IsKeyRow};
+    ghost use Rattle.hash_join.specs.KeyRows.{row_key, IsKeyRow};
 
     // The ranks of the keys of these batches among the numbers of a span.
     pub(crate) fn of(
@@ -67,7 +67,7 @@ impl Ranks {
     #[tactic(auto, using(crate::proofs::EqualKeys::number_known))]
     pub(crate) fn bucket(&self, row: &KeyRow<'_>) -> Option<usize>
         requires { IsKeyRow row.now }
-        ensures bucket { result ≡ ranked_bucket self.now (key_of row.now) }
+        ensures bucket { result ≡ ranked_bucket self.now (row_key row.now) }
         ensures within { IfSome result (λ bucket. bucket ≤ self.now.last) }
     {
         match row.number() {

@@ -7,7 +7,7 @@ ghost use Rattle.hash_join.specs.Rights.{bucket_at, digest_at, key_at, AreRights
 use crate::digests::Digests;
 use crate::part_rows::PartRows;
 use crate::rights::Rights;
-use crate::seen::BucketRows;
+use crate::row_cache::BucketRows;
 use scan_base::ValueRef;
 
 // The rows of a right side by their numbers.

@@ -7,25 +7,25 @@ ghost use Rattle.scan_base.specs.Limits.{most_rows};
 ghost use Rattle.arrays.specs.Batch.{BatchAt};
 ghost use Rattle.hash_join.specs.Pairs.{places};
 ghost use Rattle.hash_join.specs.Hashes.{last_of};
-ghost use Rattle.hash_join.specs.KeyRows.{key_beside, key_of, IsKeyRow};
+ghost use Rattle.hash_join.specs.KeyRows.{key_beside, row_key, IsKeyRow};
 ghost use Rattle.scan_base.specs.declared.value.Value.TheVariants.{Null};
 ghost use Rattle.hash_join.specs.Rights.{key_at, key_from, bucket_at, digest_at, place_at};
 ghost use Rattle.hash_join.specs.Rights.{AreRights};
-ghost use Rattle.hash_join.specs.Compared.{HaveCompared};
-ghost use Rattle.hash_join.specs.Seen.{AreKept};
+ghost use Rattle.hash_join.specs.PairCache.{HaveCompared};
+ghost use Rattle.hash_join.specs.RowCache.{AreKept};
 
-use crate::buckets::{Buckets, Hashing};
-use crate::compared::Compared;
+use crate::buckets::{BucketHash, Buckets};
 use crate::key_codes::{any_batch_codes, any_has_codes, any_most_codes};
 use crate::key_row::KeyRow;
 use crate::numbers::are_numbers;
+use crate::pair_cache::PairCache;
 use crate::product::Product;
 use crate::ranks::Ranks;
 use crate::right_rows::RightRows;
-use crate::seen::{SeenRows, Wanted};
+use crate::row_cache::{CacheSizes, RowCache};
 use crate::spans::Span;
 use arrays::Batch;
-use hash_seed::HashSeed;
+use scan_base::HashSeed;
 use std::alloc::{AllocError, Global};
 use std::hash::BuildHasher;
 
@@ -73,7 +73,7 @@ impl Rights {
         let buckets = match Span::of(&batches, &key, places.len()) {
             Some(span) => Buckets::Ranked(Ranks::of(alloc, span, &batches, &key)?),
             None if are_numbers(&batches, &key) => Buckets::Multiplied(Product::new(seed, mask)),
-            None => Buckets::Hashed(Hashing {
+            None => Buckets::Hashed(BucketHash {
                 begun: seed.build_hasher(),
                 mask,
             }),
@@ -91,7 +91,7 @@ impl Rights {
         requires whole { AreRights self.now }
         requires within { number < length self.now.places.items }
         ensures row { IsKeyRow result }
-        ensures key { key_of result ≡ key_at self.now number }
+        ensures key { row_key result ≡ key_at self.now number }
         ensures others { (row : ℕ) →
             key_beside result row ≡ key_from self.now ((place_at self.now number).0, row) }
         ensures rows { result.batch.now.rows ≡ (get_or self.now.batches.items
@@ -124,27 +124,27 @@ impl Rights {
 
     // Tables for the buckets and the digests of rows that are seen, without a row yet. They have
     // places where keys are hashed, and some batch has codes.
-    pub(crate) fn seen_rows(&self, alloc: Global) -> Result<SeenRows, AllocError>
+    pub(crate) fn seen_rows(&self, alloc: Global) -> Result<RowCache, AllocError>
         requires { AreRights self.now }
         ensures { IfOk result (λ seen. AreKept (bucket_at self.now) (last_of self.now.buckets)
             (length self.now.places.items) (digest_at self.now) seen) }
     {
         let Buckets::Hashed(hashing) = &self.buckets else {
-            return Ok(SeenRows::none(alloc));
+            return Ok(RowCache::none(alloc));
         };
         let rows = self.places.len();
         let coded = any_has_codes(&self.batches, &self.key);
-        let wanted = Wanted {
+        let wanted = CacheSizes {
             rows: if coded { rows } else { 0 },
             parts: self.key.len(),
             codes: any_most_codes(&self.batches, &self.key).min(rows),
         };
-        SeenRows::new(alloc, hashing, wanted)
+        RowCache::new(alloc, hashing, wanted)
     }
 
     // Whether another row is there and surely has the same key: the same codes of dictionaries,
     // which takes no look at their texts, or the same values.
-    pub(crate) fn is_repeat(&self, number: usize, other: usize, compared: &mut Compared) -> bool
+    pub(crate) fn is_repeat(&self, number: usize, other: usize, compared: &mut PairCache) -> bool
         requires whole { AreRights self.now }
         requires within { number < length self.now.places.items }
         requires compared { HaveCompared self.now compared.old }
@@ -163,15 +163,15 @@ impl Rights {
 
     // A table for what is compared of two rows, without a pair yet. It has places where keys are
     // hashed, and some batch has codes.
-    pub(crate) fn compared(&self, alloc: Global) -> Compared
+    pub(crate) fn compared(&self, alloc: Global) -> PairCache
         requires { AreRights self.now }
         ensures { HaveCompared self.now result }
     {
         match &self.buckets {
             Buckets::Hashed(hashing) if any_batch_codes(&self.batches, &self.key) => {
-                Compared::new(alloc, hashing, self.places.len())
+                PairCache::new(alloc, hashing, self.places.len())
             }
-            _ => Compared::none(alloc),
+            _ => PairCache::none(alloc),
         }
     }
 

@@ -4,7 +4,7 @@ ghost use Rattle.std.specs.Prelude.{◌≡◌, ◌≤◌, ◌<◌, ◌++◌, ◌
 ghost use Rattle.hash_join.specs.declared.buckets.Buckets.TheVariants as parted;
 ghost use Rattle.hash_join.specs.Hashes.{last_of};
 ghost use Rattle.hash_join.specs.KeyRows.{IsKeyRow};
-ghost use Rattle.hash_join.specs.Compared.{HasCompared};
+ghost use Rattle.hash_join.specs.PairCache.{HasCompared};
 ghost use Rattle.hash_join.specs.Walks.{pairs_past};
 ghost use Rattle.hash_join.specs.Searches.{ahead_of, walk_at, AreHeads, AreKeysOf, IsSearch};
 ghost use Rattle.hash_join.specs.Searches.{Passes, Tells, TellsNumbers};
@@ -13,17 +13,16 @@ use crate::all_rows::AllRows;
 use crate::buckets::Buckets;
 use crate::build::{LeftSide, Probe};
 use crate::chains::Chains;
-use crate::compared::Made;
-use crate::key_element::KeyElement;
 use crate::key_row::KeyRow;
-use crate::look::{Look, ProductHeads, RankHeads, Told};
+use crate::number_look::{BucketKind, Look, ProductHeads, RankHeads};
+use crate::pair_cache::PairOutput;
 use crate::product::Product;
 use crate::ranks::Ranks;
 use crate::rights::Rights;
 use crate::sieve::{NumberRows, Sieve};
 use crate::walk::Walk;
-use arrays::{Cells, Integers, Layout};
-use arrow_schema::IntegerType;
+use arrays::{Cells, Integer, Integers, Layout};
+use arrow_types::IntegerType;
 use std::alloc::{AllocError, Global};
 use std::marker::PhantomData;
 
@@ -51,7 +50,7 @@ impl<'a> Search<'a> {
         &self,
         probe: &Probe,
         most: usize,
-        made: &mut Made,
+        made: &mut PairOutput,
     ) -> Result<Probe, AllocError>
         requires whole { IsSearch self.now }
         requires few { length made.old.pairs.items ≤ most }
@@ -90,7 +89,12 @@ impl<'a> Search<'a> {
     }
 
     // The same, where each row is looked up.
-    fn push_all(&self, probe: &Probe, most: usize, made: &mut Made) -> Result<Probe, AllocError>
+    fn push_all(
+        &self,
+        probe: &Probe,
+        most: usize,
+        made: &mut PairOutput,
+    ) -> Result<Probe, AllocError>
         requires whole { IsSearch self.now }
         requires few { length made.old.pairs.items ≤ most }
         ensures given { IfOk result (λ stop. made.new.pairs.items ++ ahead_of self.now stop
@@ -110,7 +114,7 @@ impl<'a> Search<'a> {
         ranks: &Ranks,
         probe: &Probe,
         most: usize,
-        made: &mut Made,
+        made: &mut PairOutput,
     ) -> Result<Probe, AllocError>
         requires whole { IsSearch self.now }
         requires parted { (self.now).rights.now.buckets ≡ parted.Ranked ranks.now }
@@ -137,7 +141,7 @@ impl<'a> Search<'a> {
         product: Product,
         probe: &Probe,
         most: usize,
-        made: &mut Made,
+        made: &mut PairOutput,
     ) -> Result<Probe, AllocError>
         requires whole { IsSearch self.now }
         requires parted { (self.now).rights.now.buckets ≡ parted.Multiplied product }
@@ -163,7 +167,7 @@ impl<'a> Search<'a> {
         look: &L,
         probe: &Probe,
         most: usize,
-        made: &mut Made,
+        made: &mut PairOutput,
     ) -> Result<Probe, AllocError>
         requires whole { IsSearch self.now }
         requires look { TellsNumbers self.now (L.passes look.now) (L.told look.now)
@@ -197,7 +201,7 @@ impl<'a> Search<'a> {
         keys: NumberKeys<'_, L>,
         probe: &Probe,
         most: usize,
-        made: &mut Made,
+        made: &mut PairOutput,
     ) -> Result<Probe, AllocError>
         requires whole { IsSearch self.now }
         requires keys { AreKeysOf self.now keys.cells keys.first }
@@ -223,18 +227,18 @@ impl<'a> Search<'a> {
     }
 
     // The same for integers of a type.
-    fn push_as<E: KeyElement, L: Look>(
+    fn push_as<E: Integer, L: Look>(
         &self,
         keys: NumberKeys<'_, L>,
         probe: &Probe,
         most: usize,
-        made: &mut Made,
+        made: &mut PairOutput,
     ) -> Result<Probe, AllocError>
         requires whole { IsSearch self.now }
         requires keys { AreKeysOf self.now keys.cells keys.first }
         requires look { TellsNumbers self.now (L.passes keys.look.now) (L.told keys.look.now)
             (L.head keys.look.now) (L.own keys.look.now) }
-        requires kind { E.kind ≡ keys.cells.integer }
+        requires kind { E.KIND ≡ keys.cells.integer }
         requires few { length made.old.pairs.items ≤ most }
         ensures given { IfOk result (λ stop. made.new.pairs.items ++ ahead_of self.now stop
             ≡ made.old.pairs.items ++ ahead_of self.now probe.now) }
@@ -259,7 +263,7 @@ impl<'a> Search<'a> {
         sieve: &S,
         probe: &Probe,
         most: usize,
-        made: &mut Made,
+        made: &mut PairOutput,
     ) -> Result<Probe, AllocError>
         requires whole { IsSearch self.now }
         requires all { (self.now).left.batch.now.rows ≤ S.count sieve.now }
@@ -295,7 +299,7 @@ impl<'a> Search<'a> {
         sieve: &S,
         probe: &Probe,
         most: usize,
-        made: &mut Made,
+        made: &mut PairOutput,
     ) -> Result<usize, AllocError>
         requires whole { IsSearch self.now }
         requires row { probe.now.left < (self.now).left.batch.now.rows }
@@ -325,9 +329,9 @@ impl<'a> Search<'a> {
             },
         };
         match sieve.tell(probe.left) {
-            Told::Nothing => walk.push_pairs(probe.from, most, made),
-            Told::Shared(bucket) => walk.push_bucket(bucket, probe.from, most, made),
-            Told::Own(bucket) => walk.push_chain(bucket, probe.from, most, &mut made.pairs),
+            BucketKind::Nothing => walk.push_pairs(probe.from, most, made),
+            BucketKind::Shared(bucket) => walk.push_bucket(bucket, probe.from, most, made),
+            BucketKind::Own(bucket) => walk.push_chain(bucket, probe.from, most, &mut made.pairs),
         }
     }
 

@@ -5,16 +5,16 @@ ghost use Rattle.std.specs.Prelude.{if◌then◌else◌, true};
 ghost use Rattle.arrays.specs.Integers.{AreIntegers};
 ghost use Rattle.arrays.specs.Number.{integer_at};
 ghost use Rattle.arrays.specs.Validity.{is_valid};
-ghost use Rattle.hash_join.specs.declared.look.Told.{Told as ToldOf};
-ghost use Rattle.hash_join.specs.declared.look.Told.TheVariants as known;
-ghost use Rattle.hash_join.specs.Seen.{AreKept};
+ghost use Rattle.hash_join.specs.declared.number_look.BucketKind.{BucketKind as ToldOf};
+ghost use Rattle.hash_join.specs.declared.number_look.BucketKind.TheVariants as known;
+ghost use Rattle.hash_join.specs.RowCache.{AreKept};
 ghost use Rattle.hash_join.specs.Words.{passing_word};
 
-use crate::compared::Compared;
-use crate::key_element::{KeyElement, is_known, known_word, number_word};
-use crate::look::{Look, Told};
-use crate::seen::SeenRows;
-use arrays::Integers;
+use crate::key_element::{known_word, number_word};
+use crate::number_look::{BucketKind, Look};
+use crate::pair_cache::PairCache;
+use crate::row_cache::RowCache;
+use arrays::{Integer, Integers};
 use std::alloc::{AllocError, Global};
 use std::marker::PhantomData;
 
@@ -49,22 +49,22 @@ pub(crate) trait Sieve {
         ensures { result ≡ passing_word (passes self.now) from rows };
 
     // What is known of the bucket of a row.
-    fn tell(&self, row: usize) -> Told
+    fn tell(&self, row: usize) -> BucketKind
         requires { row < count self.now }
         ensures { result ≡ told self.now row };
 
     // Tables for the buckets and the digests of rows that are seen, without a row yet.
-    fn seen_rows(&self, alloc: Global) -> Result<SeenRows, AllocError>
+    fn seen_rows(&self, alloc: Global) -> Result<RowCache, AllocError>
         ensures { IfOk result (λ seen. AreKept (bucket self.now) (last self.now) (count self.now)
             (digest self.now) seen) };
 
     // A table for what is compared of left and right rows, without a pair yet.
-    fn compared(&self, alloc: Global) -> Compared
+    fn compared(&self, alloc: Global) -> PairCache
         ensures { result.pairs.items ≡ [] };
 
     // The first right row of the chain of a row that passes; the number of right rows where it has
     // none.
-    fn head(&self, row: usize, seen: &mut SeenRows) -> u32
+    fn head(&self, row: usize, seen: &mut RowCache) -> u32
         requires row { row < count self.now }
         requires passes { passes self.now row ≡ true }
         requires seen { AreKept (bucket self.now) (last self.now) (count self.now)
@@ -80,28 +80,28 @@ pub(crate) trait Sieve {
 
 // Rows whose keys are integers, as they lie, and what tells of a number.
 #[derive(Drop)]
-pub(crate) struct NumberRows<'a, E: KeyElement, L: Look> {
+pub(crate) struct NumberRows<'a, E: Integer, L: Look> {
     pub(crate) cells: Integers<'a>,
     pub(crate) first: usize,
     pub(crate) count: usize,
     pub(crate) look: &'a L,
     pub(crate) kind: PhantomData<E>,
-    ghost same: { E.kind ≡ cells.integer },
+    ghost same: { E.KIND ≡ cells.integer },
     ghost there: { first + count ≤ cells.len },
 }
 
-impl<'a, E: KeyElement, L: Look> Sieve for NumberRows<'a, E, L> {
+impl<'a, E: Integer, L: Look> Sieve for NumberRows<'a, E, L> {
     ghost count = { λ rows. rows.count };
 
     ghost passes = { λ rows row. is_valid rows.cells.validity (rows.first + row)
-        && L.passes rows.look.now (integer_at E.kind rows.cells.values (rows.first + row)) };
+        && L.passes rows.look.now (integer_at E.KIND rows.cells.values (rows.first + row)) };
 
     ghost told = { λ rows row. if is_valid rows.cells.validity (rows.first + row)
-        then L.told rows.look.now (integer_at E.kind rows.cells.values (rows.first + row))
+        then L.told rows.look.now (integer_at E.KIND rows.cells.values (rows.first + row))
         else known.Nothing };
 
     ghost head = { λ rows row. L.head rows.look.now
-        (integer_at E.kind rows.cells.values (rows.first + row)) };
+        (integer_at E.KIND rows.cells.values (rows.first + row)) };
 
     ghost own = { λ rows. L.own rows.look.now };
 
@@ -114,7 +114,7 @@ impl<'a, E: KeyElement, L: Look> Sieve for NumberRows<'a, E, L> {
     fn passes(&self, row: usize) -> bool {
         let _count = self.cells.len();
         let place = self.first + row;
-        if !is_known(self.cells.validity(), place) {
+        if !self.cells.validity().is_valid(place) {
             return false;
         }
         self.look.passes(E::number_at(self.cells.values(), place))
@@ -124,30 +124,30 @@ impl<'a, E: KeyElement, L: Look> Sieve for NumberRows<'a, E, L> {
         let _count = self.cells.len();
         let place = self.first + from;
         let word = number_word::<E, L>(self.look, self.cells.values(), place, rows);
-        match self.cells.validity() {
+        match self.cells.validity().bits() {
             None => word,
             Some(bits) => known_word(bits, place, rows) & word,
         }
     }
 
-    fn tell(&self, row: usize) -> Told {
+    fn tell(&self, row: usize) -> BucketKind {
         let _count = self.cells.len();
         let place = self.first + row;
-        if !is_known(self.cells.validity(), place) {
-            return Told::Nothing;
+        if !self.cells.validity().is_valid(place) {
+            return BucketKind::Nothing;
         }
         self.look.tell(E::number_at(self.cells.values(), place))
     }
 
-    fn seen_rows(&self, alloc: Global) -> Result<SeenRows, AllocError> {
-        Ok(SeenRows::none(alloc))
+    fn seen_rows(&self, alloc: Global) -> Result<RowCache, AllocError> {
+        Ok(RowCache::none(alloc))
     }
 
-    fn compared(&self, alloc: Global) -> Compared {
-        Compared::none(alloc)
+    fn compared(&self, alloc: Global) -> PairCache {
+        PairCache::none(alloc)
     }
 
-    fn head(&self, row: usize, _seen: &mut SeenRows) -> u32 {
+    fn head(&self, row: usize, _seen: &mut RowCache) -> u32 {
         let _count = self.cells.len();
         self.look
             .head(E::number_at(self.cells.values(), self.first + row))

@@ -26,15 +26,15 @@ pub(crate) struct Span {
 
 // The least and the greatest of some numbers.
 #[derive(Clone, Copy, Drop)]
-struct Ends {
+struct NumberEnds {
     least: i128,
     most: i128,
 }
 
-impl Ends {
+impl NumberEnds {
     // Those of no numbers.
-    fn none() -> Ends {
-        Ends {
+    fn none() -> NumberEnds {
+        NumberEnds {
             least: i128::MAX,
             most: i128::MIN,
         }
@@ -61,7 +61,7 @@ impl Ends {
     }
 }
 
-impl TakesNumbers for Ends {
+impl TakesNumbers for NumberEnds {
     fn take(&mut self, number: i128) {
         self.least = self.least.min(number);
         self.most = self.most.max(number);
@@ -83,7 +83,7 @@ impl Span {
         if key.len() != 1 {
             return None;
         }
-        let mut ends = Ends::none();
+        let mut ends = NumberEnds::none();
         for batch in batches {
             if !take_numbers(batch, key, &mut ends) {
                 return None;

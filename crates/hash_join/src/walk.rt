@@ -5,14 +5,14 @@ ghost use Rattle.std.specs.Prelude.{if◌then◌else◌, length, true};
 ghost use Rattle.hash_join.specs.Rights.{place_at};
 ghost use Rattle.hash_join.specs.Hashes.{last_of};
 ghost use Rattle.hash_join.specs.Chains.{Leads};
-ghost use Rattle.hash_join.specs.Compared.{HasCompared};
+ghost use Rattle.hash_join.specs.PairCache.{HasCompared};
 ghost use Rattle.hash_join.specs.Walks.{bucket_left, in_chain, joins_at, pair_at, pairs_past};
 ghost use Rattle.hash_join.specs.Walks.{IsWalk, JoinsChain};
 
 use crate::chains::Chains;
-use crate::compared::{Compared, Made};
 use crate::key_row::KeyRow;
 use crate::pair::Pair;
+use crate::pair_cache::{PairCache, PairOutput};
 use crate::part_rows::BatchRows;
 use crate::right_rows::RightRows;
 use crate::rights::Rights;
@@ -33,7 +33,7 @@ impl<'a> Walk<'a> {
         &self,
         from: usize,
         most: usize,
-        made: &mut Made,
+        made: &mut PairOutput,
     ) -> Result<usize, AllocError>
         requires whole { IsWalk self.now }
         requires few { length made.old.pairs.items ≤ most }
@@ -57,7 +57,7 @@ impl<'a> Walk<'a> {
         bucket: usize,
         from: usize,
         most: usize,
-        made: &mut Made,
+        made: &mut PairOutput,
     ) -> Result<usize, AllocError>
         requires whole { IsWalk self.now }
         requires bucket { bucket_left self.now ≡ Some bucket }
@@ -114,7 +114,7 @@ impl<'a> Walk<'a> {
         own: bool,
         first: usize,
         most: usize,
-        made: &mut Made,
+        made: &mut PairOutput,
     ) -> Result<usize, AllocError>
         requires whole { IsWalk self.now }
         requires all { own ≡ true → JoinsChain self.now }
@@ -140,7 +140,7 @@ impl<'a> Walk<'a> {
     // Adds the pairs with the rows of the chain from one of them on, where the two join, until
     // there are `most`. Of right rows one after another with the same key only the first is
     // compared.
-    fn follow(&self, first: usize, most: usize, made: &mut Made) -> Result<usize, AllocError>
+    fn follow(&self, first: usize, most: usize, made: &mut PairOutput) -> Result<usize, AllocError>
         requires whole { IsWalk self.now }
         requires there { first < length (self.now).rights.now.places.items →
             in_chain self.now first ≡ true }
@@ -228,7 +228,7 @@ impl<'a> Walk<'a> {
     }
 
     // Whether the left row joins a right row; never one that is not there.
-    fn joins(&self, at: usize, compared: &mut Compared) -> bool
+    fn joins(&self, at: usize, compared: &mut PairCache) -> bool
         requires whole { IsWalk self.now }
         requires compared { HasCompared self.now compared.old }
         ensures joins { at < length (self.now).rights.now.places.items →
@@ -240,7 +240,7 @@ impl<'a> Walk<'a> {
 
     // Whether the left row joins a right row that is there. Texts are compared where they lie if
     // the table is to have no place.
-    fn joins_row(&self, at: usize, compared: &mut Compared) -> bool
+    fn joins_row(&self, at: usize, compared: &mut PairCache) -> bool
         requires whole { IsWalk self.now }
         requires within { at < length (self.now).rights.now.places.items }
         requires compared { HasCompared self.now compared.old }
@@ -259,7 +259,7 @@ impl<'a> Walk<'a> {
 
     // Whether the left row joins the next right row of a chain, where it is known whether it joins
     // this one. The values of a next row that has the same key are not compared.
-    fn joins_next(&self, joins: bool, at: usize, next: usize, compared: &mut Compared) -> bool
+    fn joins_next(&self, joins: bool, at: usize, next: usize, compared: &mut PairCache) -> bool
         requires whole { IsWalk self.now }
         requires within { at < length (self.now).rights.now.places.items }
         requires next { next ≡ get_or (self.now).chains.now.links.items at next }

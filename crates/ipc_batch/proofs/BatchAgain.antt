@@ -13,10 +13,10 @@ use Rattle.arrays.specs.Column.{ColumnAt}
 use Rattle.arrays.specs.Batch.{BatchAt}
 use Rattle.ipc_batch.specs.declared.parts.BufferPlace.{BufferPlace}
 use Rattle.ipc_batch.specs.Parts.{buffer_at}
-use Rattle.array_buffers.specs.Written.{buffers_written as column_written}
+use Rattle.array_buffers.specs.ColumnBuffers.{buffers_written as column_written}
 use Rattle.ipc_batch.specs.Columns.{counts_agree, buffers_wanted}
-use Rattle.ipc_batch.specs.Said.{Sent, news_of, batch_sent, batch_parts}
-use Rattle.ipc_batch.specs.Written.{parts_part, body_of, node_bytes, place_bytes, places_from, node_written, buffers_written, parts_written, FitsNode, FitParts, FitsBatch, SaysParts, SaysBatch, body_length, most_header_bytes}
+use Rattle.ipc_batch.specs.SaidRows.{Sent, news_of, batch_sent, batch_parts}
+use Rattle.ipc_batch.specs.WrittenMessages.{parts_part, body_of, node_bytes, place_bytes, places_from, node_written, batch_buffers_written, parts_written, FitsNode, FitParts, FitsBatch, SaysParts, SaysBatch, body_length, most_header_bytes}
 use Rattle.ipc_batch.proofs.Lengths.{fine, both}
 use Rattle.ipc_batch.proofs.PartsAgain.{length-nodes, length-places, length-places_from, batch_slots, parts_read, message_reads, message_written, parts_said, short_header}
 use Rattle.ipc_batch.proofs.WriterLoops.{short_texts, length_more}
@@ -24,7 +24,7 @@ use Rattle.ipc_batch.proofs.ColumnsAgain.{IsWritable, columns_again, rows_again,
 use Rattle.arrays.proofs.NullSlots.{nulls_and_others}
 
 -- the texts of each column are short where the body is
-pub column_short : (columns : List ColumnAt) (k : ℕ) (d : ColumnAt) → k < length columns → length (body_of (buffers_written columns)) < 2 ^ 31 →
+pub column_short : (columns : List ColumnAt) (k : ℕ) (d : ColumnAt) → k < length columns → length (body_of (batch_buffers_written columns)) < 2 ^ 31 →
     length (body_of (column_written (get_or columns k d))) < 2 ^ 31
 column_short [] k d low small = absurd (omega arith)
 column_short (column ∷ columns) zero d low small = omega (arith, small, length_more (column ∷ columns) columns 0 column refl)
@@ -90,10 +90,10 @@ nodes_small columns few =
     (omega arith, omega arith)
 
 pub places_small : (columns : List ColumnAt) → length columns ≤ 64 →
-    (length (flat_map place_bytes (places_from 0 (buffers_written columns))) % 16 ≡ 0) × (length (flat_map place_bytes (places_from 0 (buffers_written columns))) ≤ 2 ^ 20)
+    (length (flat_map place_bytes (places_from 0 (batch_buffers_written columns))) % 16 ≡ 0) × (length (flat_map place_bytes (places_from 0 (batch_buffers_written columns))) ≤ 2 ^ 20)
 places_small columns few =
-    let a = length-places (places_from 0 (buffers_written columns)) in
-    let b = length-places_from 0 (buffers_written columns) in
+    let a = length-places (places_from 0 (batch_buffers_written columns)) in
+    let b = length-places_from 0 (batch_buffers_written columns) in
     let c = few_buffers columns in
     (omega arith, omega arith)
 
@@ -102,7 +102,7 @@ pub record Made (batch : BatchAt) (columns : List ColumnAt) (rows : ℕ) (nodes 
   pub same : columns ≡ batch.columns
   pub counted : rows ≡ batch.rows
   pub nodes_is : nodes ≡ flat_map node_bytes (map node_written columns)
-  pub places_is : places ≡ flat_map place_bytes (places_from 0 (buffers_written columns))
+  pub places_is : places ≡ flat_map place_bytes (places_from 0 (batch_buffers_written columns))
   pub block_is : block ≡ table_part (batch_slots rows nodes places)
 
 pub made_table : (batch : BatchAt) (columns : List ColumnAt) (rows : ℕ) (nodes places : List ℕ) (block : Part) → Made batch columns rows nodes places block → block ≡ parts_part (parts_written batch)
@@ -111,10 +111,10 @@ made_table batch columns rows nodes places block m = rw (m.block_is, m.nodes_is,
 
 -- what the message of a batch says
 pub said : (batch : BatchAt) (block : Part) (n : ℕ) (header : List ℕ) → FitsBatch batch → block ≡ parts_part (parts_written batch) → n ≡ body_length batch → header ≡ message_bytes RecordBatch block n →
-    SaysParts (record { header = header; body = body_of (buffers_written batch.columns) }) (parts_written batch)
-    × SaysBatch (record { header = header; body = body_of (buffers_written batch.columns) }) batch
+    SaysParts (record { header = header; body = body_of (batch_buffers_written batch.columns) }) (parts_written batch)
+    × SaysBatch (record { header = header; body = body_of (batch_buffers_written batch.columns) }) batch
 said batch block n header fits block_is n_is header_is =
-    let is : message_written (parts_written batch) ≡ record { header = header; body = body_of (buffers_written batch.columns) } = rw (header_is, block_is, n_is) refl in (
+    let is : message_written (parts_written batch) ≡ record { header = header; body = body_of (batch_buffers_written batch.columns) } = rw (header_is, block_is, n_is) refl in (
       subst (λ (x : Sent). SaysParts x (parts_written batch)) is (parts_said (parts_written batch) (fit_parts batch fits)),
       subst (λ (x : Sent). SaysBatch x batch) is (batch_said batch fits),
     )

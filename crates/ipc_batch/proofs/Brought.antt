@@ -12,7 +12,7 @@ use Rattle.arrow_schema.specs.Header.{MessageAt, header_kind, message_of, body_l
 use Rattle.arrow_schema.specs.Message.{kind_number}
 use Rattle.arrow_schema.proofs.Said.{bind_ok, demand_ok, wanted_ok, chosen, refused, says_scalar, reads_scalar, says_table, reads_table}
 use Rattle.ipc_batch.specs.Parts.{PartsAt, nodes_in, places_in, structs_wanted, body_claimed, parts_of}
-use Rattle.ipc_batch.specs.Said.{Sent}
+use Rattle.ipc_batch.specs.SaidRows.{Sent}
 use Rattle.ipc_batch.specs.Brings.{SaysMessage, SaysRecordBatch}
 
 -- ---- the Message table

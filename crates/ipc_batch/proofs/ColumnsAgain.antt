@@ -8,12 +8,11 @@ use Rattle.scan_base.specs.declared.value.Value.TheVariants.{Null}
 use Rattle.scan_base.specs.declared.fault.Fault.TheVariants.{BadBatch}
 use Rattle.scan_base.specs.Reading.{◌>>=◌, demand}
 use Rattle.scan_base.specs.Lists.{each}
-use Rattle.arrow_schema.specs.declared.data_type.DictionaryEncoding.{DictionaryEncoding}
-use Rattle.arrow_schema.specs.declared.data_type.IntegerType.{IntegerType}
-use Rattle.arrow_schema.specs.declared.data_type.DataType.{DataType}
-use Rattle.arrow_schema.specs.declared.data_type.DataType.TheVariants.{Integer, Utf8, Bool, Decimal128, Date, Dictionary}
-use Rattle.arrow_schema.specs.declared.schema.Field.{Field}
-use Rattle.arrow_schema.specs.Written.{encoding_of}
+use Rattle.arrow_types.specs.declared.data_type.DictionaryEncoding.{DictionaryEncoding}
+use Rattle.arrow_types.specs.declared.data_type.IntegerType.{IntegerType}
+use Rattle.arrow_types.specs.declared.data_type.DataType.{DataType}
+use Rattle.arrow_types.specs.declared.data_type.DataType.TheVariants.{Integer, Utf8, Bool, Decimal128, Date, Dictionary}
+use Rattle.arrow_types.specs.declared.schema.Field.{Field}
 use Rattle.arrays.specs.declared.layout.Layout.{Layout}
 use Rattle.arrays.specs.declared.layout.Layout.TheVariants as layout
 use Rattle.arrays.specs.Texts.{TextsAt, texts_of}
@@ -23,16 +22,16 @@ use Rattle.std.proofs.lemmas.List.Sums.{sum_by-cons}
 use Rattle.arrays.specs.Buffers.{values_layout, texts_layout, buffer_count}
 use Rattle.arrays.specs.Column.{ColumnAt, IsColumn, slot_of, values_of, whole}
 use Rattle.arrays.specs.Batch.{row_of, rows_of}
-use Rattle.arrays.specs.Typed.{IsOfType, AreOfTypes}
+use Rattle.arrays.specs.TypedLayouts.{IsOfType, AreOfTypes}
 use Rattle.arrays.specs.Nulls.{null_count}
-use Rattle.array_buffers.specs.Written.{validity_written, validity_read, values_written, written_by, HasShortTexts, IsLedBy, SaySlots, buffers_written as column_written}
+use Rattle.array_buffers.specs.ColumnBuffers.{validity_written, validity_read, values_written, written_by, HasShortTexts, IsLedBy, SaySlots, buffers_written as column_written}
 use Rattle.array_buffers.proofs.ColumnsAgain.{columns_again as slots_again}
 use Rattle.array_buffers.proofs.Packed.{map_same}
 use Rattle.ipc_batch.specs.declared.parts.BufferPlace.{BufferPlace}
 use Rattle.ipc_batch.specs.Parts.{placed_in, buffer_at}
 use Rattle.ipc_batch.specs.State.{Dictionaries, values_under}
-use Rattle.ipc_batch.specs.Columns.{FrontAt, validity_at, texts_at, values_at, values_led_to, front_of, columns_from, buffers_wanted}
-use Rattle.ipc_batch.specs.Written.{node_written, buffers_written, AreLedBy}
+use Rattle.ipc_batch.specs.Columns.{FrontAt, validity_at, texts_in_buffers, values_in_buffers, values_led_to, front_of, columns_from, buffers_wanted}
+use Rattle.ipc_batch.specs.WrittenMessages.{node_written, batch_buffers_written, AreLedBy}
 use Rattle.ipc_batch.proofs.Lengths.{fine, both}
 
 -- what is read of buffers that lie in a body
@@ -81,7 +80,7 @@ pub record Front (answered : DataType) (dictionaries : Dictionaries) (rows : ℕ
 texts_found : (dictionaries : Dictionaries) (body : List ℕ) (column : ColumnAt) (places : List BufferPlace) (offsets bytes : List ℕ) (others : List (List ℕ)) (cells : TextsAt) →
     texts_of (validity_read column) offsets bytes column.len ≡ Ok cells → values_of (whole (layout.Texts cells)) ≡ values_of column →
     each (buffer_at body) places ≡ Ok (validity_written column ∷ offsets ∷ bytes ∷ others) → Front Utf8 dictionaries column.len body column places others
-unfolding front_of texts_at
+unfolding front_of texts_in_buffers
 texts_found dictionaries body column places offsets bytes others cells made values found =
     let first = each_first body places (validity_written column) (offsets ∷ bytes ∷ others) found in
     let second = each_first body first.more offsets (bytes ∷ others) first.behind in
@@ -114,14 +113,14 @@ pub record Values (answered : DataType) (dictionary : List Value) (body : List �
   pub more : List BufferPlace
   pub is : places ≡ validity ∷ packed ∷ more
   pub layout : Layout
-  pub read : values_at answered dictionary column.len body (node_written column) validity packed ≡ Ok layout
+  pub read : values_in_buffers answered dictionary column.len body (node_written column) validity packed ≡ Ok layout
   pub behind : each (buffer_at body) more ≡ Ok others
   pub values : values_of (whole layout) ≡ values_of column
 
 values_again : (answered : DataType) (dictionary : List Value) (body : List ℕ) (column : ColumnAt) (places : List BufferPlace) (packed : List ℕ) (others : List (List ℕ)) (read : Layout) →
     values_layout answered dictionary (validity_read column) packed column.len ≡ Ok read → values_of (whole read) ≡ values_of column →
     each (buffer_at body) places ≡ Ok (validity_written column ∷ packed ∷ others) → Values answered dictionary body column places others
-unfolding values_at
+unfolding values_in_buffers
 values_again answered dictionary body column places packed others read is values found =
     let first = each_first body places (validity_written column) (packed ∷ others) found in
     let second = each_first body first.more packed others first.behind in
@@ -221,12 +220,12 @@ pub record Again (fields : List Field) (dictionaries : Dictionaries) (rows : ℕ
 
 -- the columns that were written are read again
 pub columns_again : (fields : List Field) (dictionaries : Dictionaries) (rows : ℕ) (body : List ℕ) (places : List BufferPlace) (columns : List ColumnAt) → AreOfTypes fields columns →
-    AreLedBy fields dictionaries columns → AllByRecursion (IsWritable rows) columns → each (buffer_at body) places ≡ Ok (buffers_written columns) → Again fields dictionaries rows body places columns
+    AreLedBy fields dictionaries columns → AllByRecursion (IsWritable rows) columns → each (buffer_at body) places ≡ Ok (batch_buffers_written columns) → Again fields dictionaries rows body places columns
 columns_again [] dictionaries rows body places [] of led are found = record { read = []; is = refl; values = tt }
 columns_again [] dictionaries rows body places (column ∷ columns) of led are found = absurd of
 columns_again (field ∷ fields) dictionaries rows body places [] of led are found = absurd of
 columns_again (field ∷ fields) dictionaries rows body places (column ∷ columns) of led are found =
-    let front = front_again field.data_type dictionaries body column places (buffers_written columns) are.0.stands of.0 led.0 are.0.short found in
+    let front = front_again field.data_type dictionaries body column places (batch_buffers_written columns) are.0.stands of.0 led.0 are.0.short found in
     let read : front_of field.data_type dictionaries rows body (node_written column) places ≡ Ok front.front =
     rw (← are.0.len) front.read in
     let more = columns_again fields dictionaries rows body front.front.behind columns of.1 led.1 are.1 front.behind in
@@ -268,37 +267,23 @@ unfolding values_written
 column_buffers data_type column of = type_buffers data_type column.layout column of
 
 pub wanted_again : (fields : List Field) (columns : List ColumnAt) → AreOfTypes fields columns →
-    (length columns ≡ length fields) × (length (buffers_written columns) ≡ buffers_wanted fields)
+    (length columns ≡ length fields) × (length (batch_buffers_written columns) ≡ buffers_wanted fields)
 wanted_again [] [] of = (refl, refl)
 wanted_again [] (column ∷ columns) of = absurd of
 wanted_again (field ∷ fields) [] of = absurd of
 wanted_again (field ∷ fields) (column ∷ columns) of =
     let more = wanted_again fields columns of.1 in
     let step : buffers_wanted (field ∷ fields) ≡ buffer_count field.data_type + buffers_wanted fields = sum_by-cons (λ (x : Field). buffer_count x.data_type) field fields in
-    let all = length-append (column_written column) (buffers_written columns) in
+    let all = length-append (column_written column) (batch_buffers_written columns) in
     (omega (arith, more.0), omega (arith, step, all, more.1, column_buffers field.data_type column of.0))
 
--- where no field is a dictionary, nothing leads anywhere
-pub plain_led : (fields : List Field) (dictionaries : Dictionaries) (columns : List ColumnAt) → AllByRecursion (λ (field : Field). encoding_of field.data_type ≡ None) fields → AreLedBy fields dictionaries columns
-plain_led [] dictionaries columns plain = tt
-plain_led (field ∷ fields) dictionaries [] plain = tt
-plain_led (field ∷ fields) dictionaries (column ∷ columns) plain = (by field.data_type plain.0, plain_led fields dictionaries columns plain.1)
-  where
-    by : (data_type : DataType) → encoding_of data_type ≡ None → IsLedBy data_type (values_led_to data_type dictionaries) column.layout column
-    by (Integer integer) none = tt
-    by Utf8 none = tt
-    by Bool none = tt
-    by Decimal128 none = tt
-    by Date none = tt
-    by (Dictionary encoding) none = absurd (let no : ⊥ = cc in no)
-
 -- and no more than three
-pub few_buffers : (columns : List ColumnAt) → length (buffers_written columns) ≤ 3 * length columns
+pub few_buffers : (columns : List ColumnAt) → length (batch_buffers_written columns) ≤ 3 * length columns
 unfolding values_written
 few_buffers [] = omega arith
 few_buffers (column ∷ columns) =
     let ih = few_buffers columns in
-    let all = length-append (column_written column) (buffers_written columns) in
+    let all = length-append (column_written column) (batch_buffers_written columns) in
     omega (arith, ih, all, three column.layout)
   where
     three : (known : Layout) → length (written_by known column) ≤ 2

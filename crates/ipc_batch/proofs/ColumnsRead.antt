@@ -2,9 +2,9 @@
 use Rattle.std.proofs.Common.{◌≡◌, ℕ, zero, suc, ◌+◌, ◌<◌, List, [], ◌∷◌, ◌++◌, length, drop, get_or, All, Result, Ok, Err, refl, sym, ap, ◌∙◌, arith, append_assoc, drop-cons, add-one}
 use Rattle.std.proofs.lemmas.List.Elements.{All-append}
 use Rattle.scan_base.specs.declared.fault.Fault.{Fault}
-use Rattle.scan_base.specs.Lists.{behind}
+use Rattle.scan_base.proofs.ReadingLaws.{behind}
 use Rattle.scan_base.specs.Reading.{◌>>=◌}
-use Rattle.arrow_schema.specs.declared.schema.Field.{Field}
+use Rattle.arrow_types.specs.declared.schema.Field.{Field}
 use Rattle.arrays.specs.Column.{ColumnAt, whole}
 use Rattle.arrays.specs.Batch.{AreLong}
 use Rattle.ipc_batch.specs.declared.parts.FieldNode.{FieldNode}

@@ -12,15 +12,15 @@ use Rattle.scan_base.specs.Lists.{each}
 use Rattle.flatbuf.specs.Place.{scalar_of}
 use Rattle.flatbuf.specs.Block.{Part, Given, Number, Offset, given_at, little, table_part, buffer_of}
 use Rattle.flatbuf.specs.Fits.{FitsTable}
-use Rattle.flatbuf.specs.Written.{table_at, LeadsToBlock, SlotReads}
+use Rattle.flatbuf.specs.WrittenTables.{table_at, LeadsToBlock, SlotReads}
 use Rattle.flatbuf.proofs.Standing.{length-little}
 use Rattle.flatbuf.proofs.Written.{table_reads}
 use Rattle.flatbuf.proofs.Lengths.{whole_table, short_table, fits_table}
 use Rattle.flatbuf.proofs.Led.{led_table}
+use Rattle.arrow_types.specs.declared.data_type.DataType.{DataType}
+use Rattle.arrow_types.specs.declared.data_type.DataType.TheVariants.{Integer, Utf8, Bool as Flags, Decimal128, Date, Dictionary}
 use Rattle.arrow_schema.specs.declared.header.HeaderKind.TheVariants.{DictionaryBatch}
-use Rattle.arrow_schema.specs.declared.data_type.DataType.{DataType}
-use Rattle.arrow_schema.specs.declared.data_type.DataType.TheVariants.{Integer, Utf8, Bool as Flags, Decimal128, Date, Dictionary}
-use Rattle.arrow_schema.specs.Written.{flag}
+use Rattle.arrow_schema.specs.WrittenHeader.{flag}
 use Rattle.arrow_schema.specs.Header.{MessageAt, table_wanted}
 use Rattle.arrow_schema.specs.Message.{message_part, message_bytes, MessageReads}
 use Rattle.arrow_schema.proofs.Messages.{messages_read, short_message}
@@ -30,14 +30,14 @@ use Rattle.scan_base.specs.Limits.{most_values}
 use Rattle.arrays.specs.Dictionary.{extended_by}
 use Rattle.arrays.specs.Column.{ColumnAt, slot_of, values_of, whole}
 use Rattle.arrays.specs.Batch.{BatchAt}
-use Rattle.array_buffers.specs.Written.{values_written}
+use Rattle.array_buffers.specs.ColumnBuffers.{values_written}
 use Rattle.array_buffers.proofs.Packed.{map_same}
 use Rattle.ipc_batch.specs.declared.parts.BufferPlace.{BufferPlace}
 use Rattle.ipc_batch.specs.Parts.{DictionaryParts, dictionary_parts, buffer_at}
-use Rattle.ipc_batch.specs.Columns.{FrontAt, texts_at, front_of, values_led_to, one_texts, counts_agree}
+use Rattle.ipc_batch.specs.Columns.{FrontAt, texts_in_buffers, front_of, values_led_to, one_texts, counts_agree}
 use Rattle.ipc_batch.specs.State.{Known, Dictionaries, values_under, with_values}
-use Rattle.ipc_batch.specs.Said.{Sent, News, leads_to, kept_of, has_id, dictionary_sent, known_after, news_of}
-use Rattle.ipc_batch.specs.Written.{WrittenParts, FitsBatch, FitParts, parts_part, dictionary_part, body_of, body_length, buffers_written, node_written, parts_written, values_batch, values_after, dictionary_news, most_header_bytes, SaysDictionaryParts, SaysValues}
+use Rattle.ipc_batch.specs.SaidRows.{Sent, News, leads_to, kept_of, has_id, dictionary_sent, known_after, news_of}
+use Rattle.ipc_batch.specs.WrittenMessages.{WrittenParts, FitsBatch, FitParts, parts_part, dictionary_batch_part, body_of, body_length, batch_buffers_written, node_written, parts_written, values_batch, values_after, dictionary_news, most_header_bytes, SaysDictionaryParts, SaysValues}
 use Rattle.ipc_batch.specs.Laws.{DictionariesReadBack}
 use Rattle.ipc_batch.proofs.Entries.{under_set, under_other}
 use Rattle.ipc_batch.proofs.Lengths.{fine, both}
@@ -93,13 +93,13 @@ dictionary_header_short batch id delta n table block header fits table_is block_
 -- the message of a dictionary
 abbrev pub dictionary_written : ℕ → WrittenParts → Bool → Sent
 dictionary_written id parts is_delta = record {
-  header = message_bytes DictionaryBatch (dictionary_part id parts is_delta) (length (body_of parts.buffers));
+  header = message_bytes DictionaryBatch (dictionary_batch_part id parts is_delta) (length (body_of parts.buffers));
   body = body_of parts.buffers;
 }
 
 dictionary_reads : (id : ℕ) (parts : WrittenParts) (is_delta : Bool) → FitParts parts →
-    MessageReads (message_bytes DictionaryBatch (dictionary_part id parts is_delta) (length (body_of parts.buffers))) DictionaryBatch (dictionary_part id parts is_delta) (length (body_of parts.buffers))
-unfolding dictionary_part
+    MessageReads (message_bytes DictionaryBatch (dictionary_batch_part id parts is_delta) (length (body_of parts.buffers))) DictionaryBatch (dictionary_batch_part id parts is_delta) (length (body_of parts.buffers))
+unfolding dictionary_batch_part
 dictionary_reads id parts is_delta fit =
     let slots = dictionary_slots id (parts_part parts) (flag is_delta) in
     let small = fit.small in
@@ -108,12 +108,12 @@ dictionary_reads id parts is_delta fit =
 -- the parts that a dictionary's message says
 pub dictionary_parts_said : (id : ℕ) (parts : WrittenParts) (is_delta : Bool) → id < 2 ^ 64 → FitParts parts →
     (s : SaysDictionaryParts (dictionary_written id parts is_delta) id parts is_delta) × (s.message.kind ≡ DictionaryBatch)
-unfolding dictionary_part dictionary_parts table_wanted
+unfolding dictionary_batch_part dictionary_parts table_wanted
 dictionary_parts_said id parts is_delta low fit =
     let slots = dictionary_slots id (parts_part parts) (flag is_delta) in
-    let bytes = message_bytes DictionaryBatch (dictionary_part id parts is_delta) (length (body_of parts.buffers)) in
+    let bytes = message_bytes DictionaryBatch (dictionary_batch_part id parts is_delta) (length (body_of parts.buffers)) in
     let m = dictionary_reads id parts is_delta fit in
-    let t = table_at bytes m.place (dictionary_part id parts is_delta) in
+    let t = table_at bytes m.place (dictionary_batch_part id parts is_delta) in
     let told : (slot : ℕ) → SlotReads t slot (given_at slots slot) =
     table_reads slots bytes m.place (fits_dictionary id (parts_part parts) (flag is_delta) (short_parts parts fit)) (is_whole parts, tt) m.stands in
     let number : scalar_of 8 t 0 0 ≡ Ok id = told 0 8 0 (omega arith) (omega arith) in
@@ -157,7 +157,7 @@ texts_read body column (a ∷ []) front = absurd (let e = front.read in let no :
 texts_read body column (a ∷ b ∷ []) front = absurd (let e = front.read in let no : ⊥ = cc in no)
 texts_read body column (a ∷ b ∷ c ∷ more) front =
     let node = node_written column in
-    let made = both (texts_at column.len body node a b c) (λ (texts : TextsAt). fine (record { layout = layout.Texts texts; behind = more })) front.front front.read in
+    let made = both (texts_in_buffers column.len body node a b c) (λ (texts : TextsAt). fine (record { layout = layout.Texts texts; behind = more })) front.front front.read in
     let same : record { layout = layout.Texts made.0; behind = more } ≡ front.front = let e = made.2 in cc in
     let none : more ≡ [] = no_place body more (subst (λ (x : FrontAt). each (buffer_at body) x.behind ≡ Ok []) (sym same) front.behind) in
     record {
@@ -226,7 +226,7 @@ dictionary_said id values is_delta low fits known =
 
 -- what the bytes say that are made of a dictionary
 pub tells : (id : ℕ) (values : TextsAt) (is_delta : Bool) (batch : BatchAt) (header body : List ℕ) → id < 2 ^ 64 → batch ≡ values_batch values → FitsBatch batch →
-    header ≡ message_bytes DictionaryBatch (dictionary_part id (parts_written batch) is_delta) (body_length batch) → body ≡ body_of (buffers_written batch.columns) →
+    header ≡ message_bytes DictionaryBatch (dictionary_batch_part id (parts_written batch) is_delta) (body_length batch) → body ≡ body_of (batch_buffers_written batch.columns) →
     SaysDictionaryParts (record { header = header; body = body }) id (parts_written (values_batch values)) is_delta × SaysValues (record { header = header; body = body }) id (texts_values values) is_delta
 tells id values is_delta batch header body low same fits header_is body_is =
     let fits2 : FitsBatch (values_batch values) = subst FitsBatch same fits in

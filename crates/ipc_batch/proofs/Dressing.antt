@@ -10,16 +10,16 @@ use Rattle.scan_base.specs.declared.value.Value.{Value}
 use Rattle.scan_base.specs.declared.value.Value.TheVariants.{Null, Text}
 use Rattle.scan_base.specs.Limits.{most_values}
 use Rattle.scan_base.specs.Predicate.{cell_in}
-use Rattle.arrow_schema.specs.declared.schema.Field.{Field}
-use Rattle.arrow_schema.specs.declared.schema.Schema.{Schema}
+use Rattle.arrow_types.specs.declared.schema.Field.{Field}
+use Rattle.arrow_types.specs.declared.schema.Schema.{Schema}
 use Rattle.arrays.specs.Batch.{row_of, rows_of}
 use Rattle.arrays.specs.Column.{ColumnAt, slot_of, values_of}
 use Rattle.arrays.specs.Firsts.{firsts}
 use Rattle.ipc_batch.specs.State.{Known, State, Dictionaries, values_under, with_values}
-use Rattle.ipc_batch.specs.Said.{Sent, News, Rows, Follows, news_of}
-use Rattle.ipc_batch.specs.Dressed.{cells_in, is_coded, coded_from, SaysWhole, HasTexts, Dressing, IsDressed, AreDressed, DressedMessagesSay}
+use Rattle.ipc_batch.specs.SaidRows.{Sent, News, Rows, Follows, news_of}
+use Rattle.ipc_batch.specs.DressedBatches.{cells_in, is_coded, coded_from, SaysWhole, HasTexts, Dressing, IsDressed, AreDressed, DressedMessagesSay}
 use Rattle.ipc_batch.specs.News.{leads_to}
-use Rattle.ipc_batch.specs.Written.{SaysValues, dictionary_news}
+use Rattle.ipc_batch.specs.WrittenMessages.{SaysValues, dictionary_news}
 use Rattle.ipc_batch.proofs.Entries.{under_set, under_other}
 
 -- the dictionaries after the messages of these columns

@@ -3,14 +3,14 @@ use Rattle.std.proofs.Common.{◌≡◌, List, ℕ, Some, None, Result, Ok, Err,
 use Rattle.scan_base.specs.declared.fault.Fault.{Fault}
 use Rattle.scan_base.specs.declared.fault.Fault.TheVariants.{BadBatch, OutOfMemory}
 use Rattle.scan_base.specs.Reading.{◌>>=◌, RefusesFirst}
+use Rattle.arrow_types.specs.declared.schema.Schema.{Schema}
 use Rattle.arrow_schema.specs.declared.header.HeaderKind.{HeaderKind}
 use Rattle.arrow_schema.specs.declared.header.HeaderKind.TheVariants as header
-use Rattle.arrow_schema.specs.declared.schema.Schema.{Schema}
 use Rattle.arrow_schema.specs.Header.{MessageAt, message_of, schema_in}
 use Rattle.ipc_batch.specs.Parts.{PartsAt, DictionaryParts, body_claimed}
 use Rattle.ipc_batch.specs.Columns.{columns_placed}
 use Rattle.ipc_batch.specs.State.{Known, State}
-use Rattle.ipc_batch.specs.Said.{schema_sent, first_schema, first_glance, batch_parts, batch_sent, dictionary_sent, known_after, next_news, next_glance, news_in, glance_in, news_of, glance_of}
+use Rattle.ipc_batch.specs.SaidRows.{schema_sent, first_schema, first_glance, batch_parts, batch_sent, dictionary_sent, known_after, next_news, next_glance, news_in, glance_in, news_of, glance_of}
 use Rattle.ipc_batch.specs.Laws.{GlancesComeFirst}
 use Rattle.ipc_batch.proofs.Only.{Only}
 use Rattle.ipc_batch.proofs.Placed.{unplaced_batch, unplaced_dictionary}

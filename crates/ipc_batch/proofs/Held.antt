@@ -9,9 +9,9 @@ use Rattle.scan_base.specs.Reading.{◌>>=◌, demand}
 use Rattle.flatbuf.specs.Layout.{Stands}
 use Rattle.flatbuf.specs.Place.{bytes_at}
 use Rattle.flatbuf.proofs.Readings.{seen_finds, seen_bytes}
-use Rattle.arrow_schema.specs.declared.data_type.DataType.{DataType}
-use Rattle.arrow_schema.specs.declared.data_type.DataType.TheVariants.{Integer, Utf8, Bool as Flags, Decimal128, Date, Dictionary}
-use Rattle.arrow_schema.specs.declared.schema.Field.{Field}
+use Rattle.arrow_types.specs.declared.data_type.DataType.{DataType}
+use Rattle.arrow_types.specs.declared.data_type.DataType.TheVariants.{Integer, Utf8, Bool as Flags, Decimal128, Date, Dictionary}
+use Rattle.arrow_types.specs.declared.schema.Field.{Field}
 use Rattle.arrow_schema.proofs.Said.{bind_ok, demand_ok}
 use Rattle.arrays.specs.declared.layout.Layout.{Layout}
 use Rattle.arrays.specs.declared.layout.Layout.TheVariants.{Texts}
@@ -22,7 +22,7 @@ use Rattle.ipc_batch.specs.declared.parts.FieldNode.{FieldNode}
 use Rattle.ipc_batch.specs.declared.parts.BufferPlace.{BufferPlace}
 use Rattle.ipc_batch.specs.Parts.{placed_in, buffer_at}
 use Rattle.ipc_batch.specs.State.{Dictionaries, values_under}
-use Rattle.ipc_batch.specs.Columns.{FrontAt, validity_at, texts_at, values_at, texts_front, values_front, front_of, columns_from, buffers_wanted, one_texts}
+use Rattle.ipc_batch.specs.Columns.{FrontAt, validity_at, texts_in_buffers, values_in_buffers, texts_front, values_front, front_of, columns_from, buffers_wanted, one_texts}
 use Rattle.ipc_batch.specs.Holds.{BatchBody, led_into, HasBuffer, HasBytes, HasValidity, HoldsValues, HoldsLayout, HoldsColumn, own_buffer, HoldsColumns}
 
 -- ---- buffers
@@ -97,9 +97,9 @@ pub record AtFront (source : BatchBody) (t : DataType) (node : FieldNode) (place
 
 texts_told : (rows : ℕ) (body : List ℕ) (dictionaries : Dictionaries) (node : FieldNode) (places : List BufferPlace) (front : FrontAt) →
     texts_front rows body node places ≡ Ok front → AtFront (source_of rows body dictionaries) Utf8 node places front
-unfolding texts_at
+unfolding texts_in_buffers
 texts_told rows body dictionaries node (validity ∷ offsets ∷ bytes ∷ behind) front e =
-    let a = bind_ok (texts_at rows body node validity offsets bytes) _ front e in
+    let a = bind_ok (texts_in_buffers rows body node validity offsets bytes) _ front e in
     let b = bind_ok (demand (node.length == rows) BadBatch) _ a.0 a.1 in
     let c = bind_ok (validity_at body node validity) _ a.0 b.2 in
     let d = bind_ok (buffer_at body offsets) _ a.0 c.2 in
@@ -137,11 +137,11 @@ texts_told rows body dictionaries node [] front e = absurd (let no : ⊥ = cc in
 values_told : (t : DataType) (rows : ℕ) (body : List ℕ) (dictionaries : Dictionaries) (node : FieldNode) (places : List BufferPlace) (front : FrontAt) →
     (HoldsLayout (source_of rows body dictionaries) t ≡ HoldsValues (source_of rows body dictionaries) t) → buffer_count t ≡ 2 →
     values_front t (led_into t (values_under dictionaries)) rows body node places ≡ Ok front → AtFront (source_of rows body dictionaries) t node places front
-unfolding values_at
+unfolding values_in_buffers
 values_told t rows body dictionaries node (validity ∷ values ∷ behind) front plain two e =
     let dictionary = led_into t (values_under dictionaries) in
     let source = source_of rows body dictionaries in
-    let a = bind_ok (values_at t dictionary rows body node validity values) _ front e in
+    let a = bind_ok (values_in_buffers t dictionary rows body node validity values) _ front e in
     let b = bind_ok (demand (node.length == rows) BadBatch) _ a.0 a.1 in
     let c = bind_ok (validity_at body node validity) _ a.0 b.2 in
     let d = bind_ok (buffer_at body values) _ a.0 c.2 in
@@ -182,7 +182,7 @@ front_behind layout count places = record { layout = layout; behind = drop count
 
 texts_read : (rows : ℕ) (body : List ℕ) (dictionaries : Dictionaries) (node : FieldNode) (places : List BufferPlace) (column : ColumnAt) →
     (h : HoldsColumn (source_of rows body dictionaries) Utf8 node (slice_get places) column) → texts_front rows body node places ≡ Ok (front_behind h.layout 3 places)
-unfolding texts_at
+unfolding texts_in_buffers
 texts_read rows body dictionaries node (validity ∷ offsets ∷ bytes ∷ behind) column h =
     let texts = h.behind.2 in
     let is : validity ≡ h.validity = let e = h.first in cc in
@@ -202,7 +202,7 @@ texts_read rows body dictionaries node [] column h = absurd (let e = h.first in 
 values_read : (t : DataType) (rows : ℕ) (body : List ℕ) (dictionaries : Dictionaries) (node : FieldNode) (places : List BufferPlace) (column : ColumnAt) →
     (HoldsLayout (source_of rows body dictionaries) t ≡ HoldsValues (source_of rows body dictionaries) t) →
     (h : HoldsColumn (source_of rows body dictionaries) t node (slice_get places) column) → values_front t (led_into t (values_under dictionaries)) rows body node places ≡ Ok (front_behind h.layout 2 places)
-unfolding values_at
+unfolding values_in_buffers
 values_read t rows body dictionaries node places column plain h = by places refl
   where
     held : HoldsValues (source_of rows body dictionaries) t (slice_get places) h.bits h.layout
@@ -332,7 +332,7 @@ one_read rows body dictionaries nodes places cells one =
     by (a ∷ b ∷ c ∷ d ∷ more) many h = absurd (omega arith)
     by (a ∷ b ∷ c ∷ []) many h =
         let front : FrontAt = front_behind h.layout 3 (a ∷ b ∷ c ∷ []) in
-        let read = bind_ok (texts_at rows body one.node a b c) _ front (texts_read rows body dictionaries one.node (a ∷ b ∷ c ∷ []) (whole (Texts cells)) h) in
+        let read = bind_ok (texts_in_buffers rows body one.node a b c) _ front (texts_read rows body dictionaries one.node (a ∷ b ∷ c ∷ []) (whole (Texts cells)) h) in
         let made : FrontAt = record { layout = Texts read.0; behind = [] } in
         let same : made ≡ front = let e = read.2 in cc in
         let layout : Texts read.0 ≡ Texts cells = ap (λ (x : FrontAt). x.layout) same ∙ sym (ap (λ (x : ColumnAt). x.layout) h.whole_is) in

@@ -12,9 +12,9 @@ use Rattle.scan_base.specs.declared.value.Value.{Value}
 use Rattle.scan_base.specs.Reading.{demand}
 use Rattle.flatbuf.specs.Layout.{TableAt, IsBytes, HasTable}
 use Rattle.flatbuf.specs.Place.{scalar_of}
+use Rattle.arrow_types.specs.declared.schema.Schema.{Schema}
 use Rattle.arrow_schema.specs.declared.header.HeaderKind.{HeaderKind}
 use Rattle.arrow_schema.specs.declared.header.HeaderKind.TheVariants as kinds
-use Rattle.arrow_schema.specs.declared.schema.Schema.{Schema}
 use Rattle.arrow_schema.specs.Header.{MessageAt, table_wanted, message_of, header_of, schema_in}
 use Rattle.arrow_schema.specs.Says.{SaysColumns}
 use Rattle.arrow_schema.proofs.Said.{bind_ok, demand_ok, says_scalar, reads_scalar, says_table, reads_table, wanted_table, bytes_table, header_told, header_read}
@@ -26,7 +26,7 @@ use Rattle.ipc_batch.specs.Parts.{PartsAt, DictionaryParts, body_claimed, parts_
 use Rattle.ipc_batch.specs.State.{Known, State, values_under, with_values}
 use Rattle.ipc_batch.specs.Columns.{columns_from, buffers_wanted, counts_agree, one_texts}
 use Rattle.ipc_batch.specs.News.{Sent, News, schema_sent, batch_parts, batch_sent, leads_to, dictionary_sent, kept_of, known_after, first_schema, next_news, news_of}
-use Rattle.ipc_batch.specs.Said.{Rows, rows_in, Follows, Says}
+use Rattle.ipc_batch.specs.SaidRows.{Rows, rows_in, Follows, Says}
 use Rattle.ipc_batch.specs.Brings.{SaysMessage, SaysDictionaryBatch, Context, context_of, BringsBatch, Sets, BringsDictionary, BringsSchema, Brings}
 use Rattle.ipc_batch.specs.Laws.{IsReadAs, ReadIsBrought, BringRows, SaidIsBrought}
 use Rattle.ipc_batch.proofs.Entries.{under_set, under_other}

@@ -6,19 +6,19 @@ use Rattle.std.proofs.lemmas.List.Elements.{All-nil, All-map, All-append}
 use Rattle.scan_base.specs.declared.fault.Fault.{Fault}
 use Rattle.scan_base.specs.declared.value.Value.{Value}
 use Rattle.scan_base.specs.Reading.{◌>>=◌}
+use Rattle.arrow_types.specs.declared.schema.Schema.{Schema}
 use Rattle.arrow_schema.specs.declared.header.HeaderKind.{HeaderKind}
 use Rattle.arrow_schema.specs.declared.header.HeaderKind.TheVariants as header
-use Rattle.arrow_schema.specs.declared.schema.Schema.{Schema}
 use Rattle.arrow_schema.specs.Header.{MessageAt, message_of}
 use Rattle.arrays.specs.Column.{ColumnAt, slot_of}
 use Rattle.arrays.specs.Batch.{BatchAt, row_of, rows_of}
 use Rattle.arrays.specs.Texts.{TextsAt}
 use Rattle.arrays.specs.Dictionary.{extended_by}
-use Rattle.arrays.specs.Typed.{AreOfTypes}
+use Rattle.arrays.specs.TypedLayouts.{AreOfTypes}
 use Rattle.ipc_batch.specs.Parts.{PartsAt, DictionaryParts}
 use Rattle.ipc_batch.specs.Columns.{columns_from, one_texts}
 use Rattle.ipc_batch.specs.State.{Known, State, values_under, with_values}
-use Rattle.ipc_batch.specs.Said.{Sent, News, first_schema, batch_parts, batch_sent, dictionary_sent, kept_of, known_after, next_news, news_in, news_of, Rows, rows_in, Follows, Tells, HasColumns, AreWide}
+use Rattle.ipc_batch.specs.SaidRows.{Sent, News, first_schema, batch_parts, batch_sent, dictionary_sent, kept_of, known_after, next_news, news_in, news_of, Rows, rows_in, Follows, Tells, HasColumns, AreWide}
 use Rattle.ipc_batch.specs.Laws.{TellingExtends, SayOneThing, JoinRows, RowsFitSchema}
 use Rattle.ipc_batch.proofs.Lengths.{fine, both}
 use Rattle.ipc_batch.proofs.Typed.{columns_typed, columns_many}

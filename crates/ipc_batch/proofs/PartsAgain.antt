@@ -13,7 +13,7 @@ use Rattle.flatbuf.specs.Place.{TableAt, field_of, scalar_of}
 use Rattle.flatbuf.specs.Layout.{Stands}
 use Rattle.flatbuf.specs.Block.{IsWhole, Given, Number, Offset, given_at, AreWhole, little, padding, padded, structs_part, children, buffer_of}
 use Rattle.flatbuf.specs.Fits.{FitsTable}
-use Rattle.flatbuf.specs.Written.{table_at, LeadsToBlock, SlotReads}
+use Rattle.flatbuf.specs.WrittenTables.{table_at, LeadsToBlock, SlotReads}
 use Rattle.flatbuf.proofs.Numbers.{little_from-at}
 use Rattle.flatbuf.proofs.Standing.{stands_first, stands_then, stands_at, stands_drop, stands_within, length-little, length_padded}
 use Rattle.flatbuf.proofs.Written.{table_reads}
@@ -25,18 +25,14 @@ use Rattle.arrow_schema.proofs.Messages.{messages_read, short_message}
 use Rattle.ipc_batch.specs.declared.parts.FieldNode.{FieldNode}
 use Rattle.ipc_batch.specs.declared.parts.BufferPlace.{BufferPlace}
 use Rattle.ipc_batch.specs.Parts.{word_at, node_at, place_at, nodes_in, places_in, struct_count, structs_wanted, buffer_at, body_claimed, parts_of}
-use Rattle.ipc_batch.specs.Said.{Sent}
-use Rattle.ipc_batch.specs.Written.{node_bytes, place_bytes, body_of, places_from, parts_part, WrittenParts, FitsNode, FitParts, PartsReadBack, SaysParts, most_header_bytes}
+use Rattle.ipc_batch.specs.SaidRows.{Sent}
+use Rattle.ipc_batch.specs.WrittenMessages.{node_bytes, place_bytes, body_of, places_from, parts_part, WrittenParts, FitsNode, FitParts, PartsReadBack, SaysParts, most_header_bytes}
 
 -- a number that stands at a place is the one that is read there
 pub stands_word : (n : ℕ) (bytes : List ℕ) (at : ℕ) → n < 2 ^ 64 → Stands (little 8 n) bytes at → word_at bytes at ≡ n
 unfolding word_at little
 stands_word n bytes at small s =
     sym (little_from-at at 8 bytes) ∙ ap (little_from 0 8) (stands_drop (little 8 n) bytes at s) ∙ little_number-reads_back 8 n s.after small
-
--- a struct of two numbers
-pair_bytes : ℕ → ℕ → List ℕ
-pair_bytes a b = little 8 a ++ little 8 b
 
 length-pair : (a b : ℕ) → length (little 8 a ++ little 8 b) ≡ 16
 length-pair a b =

@@ -7,11 +7,11 @@ use Rattle.scan_base.specs.declared.fault.Fault.{Fault}
 use Rattle.scan_base.specs.declared.fault.Fault.TheVariants.{BadBatch}
 use Rattle.scan_base.specs.declared.value.Value.{Value}
 use Rattle.scan_base.specs.Reading.{◌>>=◌, demand}
-use Rattle.arrow_schema.specs.declared.data_type.IntegerType.{IntegerType}
-use Rattle.arrow_schema.specs.declared.data_type.IntegerType.TheVariants.{Int32}
-use Rattle.arrow_schema.specs.declared.data_type.DataType.{DataType}
-use Rattle.arrow_schema.specs.declared.data_type.DataType.TheVariants.{Integer, Utf8, Bool as Flags, Decimal128, Date, Dictionary}
-use Rattle.arrow_schema.specs.declared.schema.Field.{Field}
+use Rattle.arrow_types.specs.declared.data_type.IntegerType.{IntegerType}
+use Rattle.arrow_types.specs.declared.data_type.IntegerType.TheVariants.{Int32}
+use Rattle.arrow_types.specs.declared.data_type.DataType.{DataType}
+use Rattle.arrow_types.specs.declared.data_type.DataType.TheVariants.{Integer, Utf8, Bool as Flags, Decimal128, Date, Dictionary}
+use Rattle.arrow_types.specs.declared.schema.Field.{Field}
 use Rattle.arrow_schema.specs.Header.{MessageAt, header_of}
 use Rattle.arrow_schema.proofs.Said.{bind_ok, demand_ok}
 use Rattle.arrays.specs.declared.layout.Layout.{Layout}
@@ -27,7 +27,7 @@ use Rattle.arrays.specs.Column.{ColumnAt}
 use Rattle.ipc_batch.specs.declared.parts.FieldNode.{FieldNode}
 use Rattle.ipc_batch.specs.declared.parts.BufferPlace.{BufferPlace}
 use Rattle.ipc_batch.specs.Parts.{PartsAt, DictionaryParts, lies_in, placed_in, buffer_at, parts_of}
-use Rattle.ipc_batch.specs.Columns.{FrontAt, validity_at, texts_at, values_at, values_led_to, texts_front, values_front, front_of, columns_from, buffers_wanted, counts_agree, columns_placed, one_texts}
+use Rattle.ipc_batch.specs.Columns.{FrontAt, validity_at, texts_in_buffers, values_in_buffers, values_led_to, texts_front, values_front, front_of, columns_from, buffers_wanted, counts_agree, columns_placed, one_texts}
 use Rattle.ipc_batch.specs.State.{Known, Dictionaries}
 use Rattle.ipc_batch.specs.News.{batch_parts, batch_sent, dictionary_sent, known_after}
 use Rattle.ipc_batch.proofs.Only.{Only, only_then, only_demand}
@@ -100,8 +100,8 @@ bits_bad body node place = by (node.null_count == 0)
     by true = only_then IsBad (placed_in body place) _ (bad (lies_in body place)) (λ _. tt)
     by false = only_then IsBad (buffer_at body place) _ (buffer_bad body place) (λ bits. tt)
 
-texts_at_bad : (rows : ℕ) (body : List ℕ) (node : FieldNode) (validity offsets bytes : BufferPlace) → Only IsBad (texts_at rows body node validity offsets bytes)
-unfolding texts_at
+texts_at_bad : (rows : ℕ) (body : List ℕ) (node : FieldNode) (validity offsets bytes : BufferPlace) → Only IsBad (texts_in_buffers rows body node validity offsets bytes)
+unfolding texts_in_buffers
 texts_at_bad rows body node validity offsets bytes =
     only_then IsBad (demand (node.length == rows) BadBatch) _ (bad (node.length == rows))
     (λ _. only_then IsBad (validity_at body node validity) _ (bits_bad body node validity)
@@ -109,8 +109,8 @@ texts_at_bad rows body node validity offsets bytes =
     (λ cuts. only_then IsBad (buffer_at body bytes) _ (buffer_bad body bytes) (λ text. texts_bad bits cuts text rows))))
 
 values_at_bad : (data_type : DataType) (dictionary : List Value) (rows : ℕ) (body : List ℕ) (node : FieldNode) (validity values : BufferPlace) →
-    Only IsBad (values_at data_type dictionary rows body node validity values)
-unfolding values_at
+    Only IsBad (values_in_buffers data_type dictionary rows body node validity values)
+unfolding values_in_buffers
 values_at_bad data_type dictionary rows body node validity values =
     only_then IsBad (demand (node.length == rows) BadBatch) _ (bad (node.length == rows))
     (λ _. only_then IsBad (validity_at body node validity) _ (bits_bad body node validity)
@@ -118,7 +118,7 @@ values_at_bad data_type dictionary rows body node validity values =
 
 texts_front_bad : (rows : ℕ) (body : List ℕ) (node : FieldNode) (places : List BufferPlace) → Only IsBad (texts_front rows body node places)
 texts_front_bad rows body node (validity ∷ offsets ∷ bytes ∷ behind) =
-    only_then IsBad (texts_at rows body node validity offsets bytes) _ (texts_at_bad rows body node validity offsets bytes) (λ cells. tt)
+    only_then IsBad (texts_in_buffers rows body node validity offsets bytes) _ (texts_at_bad rows body node validity offsets bytes) (λ cells. tt)
 texts_front_bad rows body node (offsets ∷ bytes ∷ []) = refl
 texts_front_bad rows body node (bytes ∷ []) = refl
 texts_front_bad rows body node [] = refl
@@ -126,7 +126,7 @@ texts_front_bad rows body node [] = refl
 values_front_bad : (data_type : DataType) (dictionary : List Value) (rows : ℕ) (body : List ℕ) (node : FieldNode) (places : List BufferPlace) →
     Only IsBad (values_front data_type dictionary rows body node places)
 values_front_bad data_type dictionary rows body node (validity ∷ values ∷ behind) =
-    only_then IsBad (values_at data_type dictionary rows body node validity values) _ (values_at_bad data_type dictionary rows body node validity values) (λ found. tt)
+    only_then IsBad (values_in_buffers data_type dictionary rows body node validity values) _ (values_at_bad data_type dictionary rows body node validity values) (λ found. tt)
 values_front_bad data_type dictionary rows body node (values ∷ []) = refl
 values_front_bad data_type dictionary rows body node [] = refl
 
@@ -175,9 +175,9 @@ record IsPlaced (rows : ℕ) (body : List ℕ) (node : FieldNode) (places : List
   lie : list_all (lies_in body) places ≡ list_all (lies_in body) front.behind
   count : length places ≡ own + length front.behind
 
-texts_lie : (rows : ℕ) (body : List ℕ) (node : FieldNode) (validity offsets bytes : BufferPlace) (cells : TextsAt) → texts_at rows body node validity offsets bytes ≡ Ok cells →
+texts_lie : (rows : ℕ) (body : List ℕ) (node : FieldNode) (validity offsets bytes : BufferPlace) (cells : TextsAt) → texts_in_buffers rows body node validity offsets bytes ≡ Ok cells →
     ((node.length == rows) ≡ true) × (lies_in body validity ≡ true) × (lies_in body offsets ≡ true) × (lies_in body bytes ≡ true)
-unfolding texts_at
+unfolding texts_in_buffers
 texts_lie rows body node validity offsets bytes cells e =
     let a = bind_ok (demand (node.length == rows) BadBatch) _ cells e in
     let b = bind_ok (validity_at body node validity) _ cells a.2 in
@@ -187,7 +187,7 @@ texts_lie rows body node validity offsets bytes cells e =
 
 texts_placed : (rows : ℕ) (body : List ℕ) (node : FieldNode) (places : List BufferPlace) (front : FrontAt) → texts_front rows body node places ≡ Ok front → IsPlaced rows body node places 3 front
 texts_placed rows body node (validity ∷ offsets ∷ bytes ∷ behind) front e =
-    let a = bind_ok (texts_at rows body node validity offsets bytes) _ front e in
+    let a = bind_ok (texts_in_buffers rows body node validity offsets bytes) _ front e in
     let h = texts_lie rows body node validity offsets bytes a.0 a.1 in
     let same : behind ≡ front.behind = let last = a.2 in cc in
     let many : length behind ≡ length front.behind = ap (λ (ps : List BufferPlace). length ps) same in
@@ -197,8 +197,8 @@ texts_placed rows body node (bytes ∷ []) front e = absurd (let no : ⊥ = cc i
 texts_placed rows body node [] front e = absurd (let no : ⊥ = cc in no)
 
 values_lie : (data_type : DataType) (dictionary : List Value) (rows : ℕ) (body : List ℕ) (node : FieldNode) (validity values : BufferPlace) (found : Layout) →
-    values_at data_type dictionary rows body node validity values ≡ Ok found → ((node.length == rows) ≡ true) × (lies_in body validity ≡ true) × (lies_in body values ≡ true)
-unfolding values_at
+    values_in_buffers data_type dictionary rows body node validity values ≡ Ok found → ((node.length == rows) ≡ true) × (lies_in body validity ≡ true) × (lies_in body values ≡ true)
+unfolding values_in_buffers
 values_lie data_type dictionary rows body node validity values found e =
     let a = bind_ok (demand (node.length == rows) BadBatch) _ found e in
     let b = bind_ok (validity_at body node validity) _ found a.2 in
@@ -208,7 +208,7 @@ values_lie data_type dictionary rows body node validity values found e =
 values_placed : (data_type : DataType) (dictionary : List Value) (rows : ℕ) (body : List ℕ) (node : FieldNode) (places : List BufferPlace) (front : FrontAt) →
     values_front data_type dictionary rows body node places ≡ Ok front → IsPlaced rows body node places 2 front
 values_placed data_type dictionary rows body node (validity ∷ values ∷ behind) front e =
-    let a = bind_ok (values_at data_type dictionary rows body node validity values) _ front e in
+    let a = bind_ok (values_in_buffers data_type dictionary rows body node validity values) _ front e in
     let h = values_lie data_type dictionary rows body node validity values a.0 a.1 in
     let same : behind ≡ front.behind = let last = a.2 in cc in
     let many : length behind ≡ length front.behind = ap (λ (ps : List BufferPlace). length ps) same in

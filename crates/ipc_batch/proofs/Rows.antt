@@ -16,9 +16,9 @@ use Rattle.arrays.specs.Indices.{indices_of}
 use Rattle.arrays.specs.Buffers.{values_layout}
 use Rattle.arrays.specs.Dictionary.{extended_by}
 use Rattle.ipc_batch.specs.Parts.{word_at, structs_wanted, buffer_at, body_claimed, parts_of, dictionary_parts}
-use Rattle.ipc_batch.specs.Columns.{validity_at, texts_at, values_at, front_of, counts_agree}
+use Rattle.ipc_batch.specs.Columns.{validity_at, texts_in_buffers, values_in_buffers, front_of, counts_agree}
 use Rattle.ipc_batch.specs.State.{State}
-use Rattle.ipc_batch.specs.Said.{Sent, Rows, rows_in, schema_sent, batch_parts, batch_sent, dictionary_sent, known_after, news_of}
+use Rattle.ipc_batch.specs.SaidRows.{Sent, Rows, rows_in, schema_sent, batch_parts, batch_sent, dictionary_sent, known_after, news_of}
 
 -- a column of texts by Int8 indices
 abbrev schema_of_int8 : Sent
@@ -128,10 +128,10 @@ abbrev told : List (List Value)
 told = (Text (codes "a") ∷ []) ∷ (Text (codes "b") ∷ []) ∷ (Text (codes "a") ∷ []) ∷ (Text (codes "c") ∷ []) ∷ []
 
 dictionaries : rows_read None (schema_of_int8 ∷ dictionary_a ∷ indices_0 ∷ dictionary_delta_b ∷ indices_1_0 ∷ dictionary_c ∷ indices_0 ∷ []) ≡ Ok told
-unfolding scalar_of field_of vtable_of table_of vector_of element_of items_at structs_of text_of table_wanted vector_wanted message_of name_of integer_of type_of value_type_of childless dictionary_of field_in field_at fields_of schema_in element_at texts_of indices_of values_layout extended_by word_at structs_wanted buffer_at body_claimed parts_of dictionary_parts validity_at texts_at values_at front_of counts_agree schema_sent batch_parts batch_sent dictionary_sent known_after news_of chars encode_utf8 is_utf8
+unfolding scalar_of field_of vtable_of table_of vector_of element_of items_at structs_of text_of table_wanted vector_wanted message_of name_of integer_of type_of value_type_of childless dictionary_of field_in field_at fields_of schema_in element_at texts_of indices_of values_layout extended_by word_at structs_wanted buffer_at body_claimed parts_of dictionary_parts validity_at texts_in_buffers values_in_buffers front_of counts_agree schema_sent batch_parts batch_sent dictionary_sent known_after news_of chars encode_utf8 is_utf8
 dictionaries = refl
 
 -- index 1 of one value
 index_outside : rows_read None (schema_of_int8 ∷ dictionary_a ∷ indices_1 ∷ []) ≡ Err BadBatch
-unfolding scalar_of field_of vtable_of table_of vector_of element_of items_at structs_of text_of table_wanted vector_wanted message_of name_of integer_of type_of value_type_of childless dictionary_of field_in field_at fields_of schema_in element_at texts_of indices_of values_layout extended_by word_at structs_wanted buffer_at body_claimed parts_of dictionary_parts validity_at texts_at values_at front_of counts_agree schema_sent batch_parts batch_sent dictionary_sent known_after news_of chars encode_utf8 is_utf8
+unfolding scalar_of field_of vtable_of table_of vector_of element_of items_at structs_of text_of table_wanted vector_wanted message_of name_of integer_of type_of value_type_of childless dictionary_of field_in field_at fields_of schema_in element_at texts_of indices_of values_layout extended_by word_at structs_wanted buffer_at body_claimed parts_of dictionary_parts validity_at texts_in_buffers values_in_buffers front_of counts_agree schema_sent batch_parts batch_sent dictionary_sent known_after news_of chars encode_utf8 is_utf8
 index_outside = refl

@@ -3,11 +3,11 @@ use Rattle.std.proofs.Common.{◌≡◌, ℕ, suc, ◌*◌, ◌==◌, nat_le, Bo
 use Rattle.scan_base.specs.declared.fault.Fault.TheVariants.{BadBatch}
 use Rattle.scan_base.specs.declared.value.Value.{Value}
 use Rattle.scan_base.specs.Reading.{◌>>=◌, demand}
-use Rattle.arrow_schema.specs.declared.data_type.IntegerType.{IntegerType}
-use Rattle.arrow_schema.specs.declared.data_type.IntegerType.TheVariants.{Int32}
-use Rattle.arrow_schema.specs.declared.data_type.DataType.{DataType}
-use Rattle.arrow_schema.specs.declared.data_type.DataType.TheVariants.{Integer, Utf8, Bool as Flags, Decimal128, Date, Dictionary}
-use Rattle.arrow_schema.specs.declared.schema.Field.{Field}
+use Rattle.arrow_types.specs.declared.data_type.IntegerType.{IntegerType}
+use Rattle.arrow_types.specs.declared.data_type.IntegerType.TheVariants.{Int32}
+use Rattle.arrow_types.specs.declared.data_type.DataType.{DataType}
+use Rattle.arrow_types.specs.declared.data_type.DataType.TheVariants.{Integer, Utf8, Bool as Flags, Decimal128, Date, Dictionary}
+use Rattle.arrow_types.specs.declared.schema.Field.{Field}
 use Rattle.arrays.specs.declared.layout.Layout.{Layout}
 use Rattle.arrays.specs.declared.layout.Layout.TheVariants as layout
 use Rattle.arrays.specs.Number.{byte_width}
@@ -19,11 +19,11 @@ use Rattle.arrays.specs.Texts.{TextsAt}
 use Rattle.arrays.specs.Indices.{IndicesAt, indices_of}
 use Rattle.arrays.specs.Buffers.{values_layout}
 use Rattle.arrays.specs.Column.{ColumnAt, whole}
-use Rattle.arrays.specs.Typed.{IsOfType, AreOfTypes}
+use Rattle.arrays.specs.TypedLayouts.{IsOfType, AreOfTypes}
 use Rattle.ipc_batch.specs.declared.parts.FieldNode.{FieldNode}
 use Rattle.ipc_batch.specs.declared.parts.BufferPlace.{BufferPlace}
 use Rattle.ipc_batch.specs.Parts.{buffer_at}
-use Rattle.ipc_batch.specs.Columns.{FrontAt, validity_at, texts_at, values_at, values_led_to, texts_front, values_front, front_of, columns_from}
+use Rattle.ipc_batch.specs.Columns.{FrontAt, validity_at, texts_in_buffers, values_in_buffers, values_led_to, texts_front, values_front, front_of, columns_from}
 use Rattle.ipc_batch.specs.State.{Dictionaries}
 use Rattle.ipc_batch.proofs.Lengths.{fine, both, demanded}
 
@@ -64,7 +64,7 @@ layout_typed (Dictionary encoding) dictionary validity values len found e =
 
 texts_typed : (rows : ℕ) (body : List ℕ) (node : FieldNode) (places : List BufferPlace) (front : FrontAt) → texts_front rows body node places ≡ Ok front → IsOfType Utf8 front.layout
 texts_typed rows body node (validity ∷ offsets ∷ bytes ∷ behind) front e =
-    let a = both (texts_at rows body node validity offsets bytes) (λ (cells : TextsAt). fine (record { layout = layout.Texts cells; behind = behind })) front e in
+    let a = both (texts_in_buffers rows body node validity offsets bytes) (λ (cells : TextsAt). fine (record { layout = layout.Texts cells; behind = behind })) front e in
     let same : record { layout = layout.Texts a.0; behind = behind } ≡ front = let b = a.2 in cc in
     subst (λ (x : FrontAt). IsOfType Utf8 x.layout) same tt
 texts_typed rows body node (offsets ∷ bytes ∷ []) front e = cc
@@ -72,8 +72,8 @@ texts_typed rows body node (bytes ∷ []) front e = cc
 texts_typed rows body node [] front e = cc
 
 at_typed : (data_type : DataType) (dictionary : List Value) (rows : ℕ) (body : List ℕ) (node : FieldNode) (validity values : BufferPlace) (found : Layout) →
-    values_at data_type dictionary rows body node validity values ≡ Ok found → IsOfType data_type found
-unfolding values_at
+    values_in_buffers data_type dictionary rows body node validity values ≡ Ok found → IsOfType data_type found
+unfolding values_in_buffers
 at_typed data_type dictionary rows body node validity values found e =
     let last = λ (bits : Option (List ℕ)) (packed : List ℕ). values_layout data_type dictionary bits packed rows in
     let a = demanded (node.length == rows) BadBatch (validity_at body node validity >>= λ bits. (buffer_at body values >>= λ packed. last bits packed)) found e in
@@ -84,7 +84,7 @@ at_typed data_type dictionary rows body node validity values found e =
 values_typed : (data_type : DataType) (dictionary : List Value) (rows : ℕ) (body : List ℕ) (node : FieldNode) (places : List BufferPlace) (front : FrontAt) →
     values_front data_type dictionary rows body node places ≡ Ok front → IsOfType data_type front.layout
 values_typed data_type dictionary rows body node (validity ∷ values ∷ behind) front e =
-    let a = both (values_at data_type dictionary rows body node validity values) (λ (found : Layout). fine (record { layout = found; behind = behind })) front e in
+    let a = both (values_in_buffers data_type dictionary rows body node validity values) (λ (found : Layout). fine (record { layout = found; behind = behind })) front e in
     let same : record { layout = a.0; behind = behind } ≡ front = let b = a.2 in cc in
     subst (λ (x : FrontAt). IsOfType data_type x.layout) same (at_typed data_type dictionary rows body node validity values a.0 a.1)
 values_typed data_type dictionary rows body node (values ∷ []) front e = cc

@@ -13,9 +13,9 @@ use Rattle.arrays.specs.declared.layout.Layout.TheVariants as layout
 use Rattle.arrays.specs.Number.{integer_at, decimal_at}
 use Rattle.arrays.specs.Validity.{is_valid, where_valid}
 use Rattle.arrays.specs.Column.{ColumnAt, values_of, slot_of}
-use Rattle.array_buffers.specs.Written.{buffers_written as column_written, values_written, HasShortTexts, validity_written}
-use Rattle.arrays.specs.Written.{texts_joined, text_bytes, offsets_from}
-use Rattle.ipc_batch.specs.Written.{place_bytes, body_of, places_from, buffers_written}
+use Rattle.array_buffers.specs.ColumnBuffers.{buffers_written as column_written, values_written, HasShortTexts, validity_written}
+use Rattle.arrays.specs.WrittenSlots.{texts_joined, text_bytes, offsets_from}
+use Rattle.ipc_batch.specs.WrittenMessages.{place_bytes, body_of, places_from, batch_buffers_written}
 use Rattle.ipc_batch.proofs.Lengths.{length_with_zeros}
 
 -- the columns from one on are that one and those after it
@@ -25,9 +25,9 @@ dropped columns i column low is =
 
 -- how long the body of columns is, the first one's part and the others'
 pub length_more : (columns more : List ColumnAt) (i : ℕ) (column : ColumnAt) → drop i columns ≡ column ∷ more →
-    length (body_of (buffers_written (drop i columns))) ≡ length (body_of (column_written column)) + length (body_of (buffers_written more))
+    length (body_of (batch_buffers_written (drop i columns))) ≡ length (body_of (column_written column)) + length (body_of (batch_buffers_written more))
 length_more columns more i column e =
-    rw (e, flat_map-append padded (column_written column) (buffers_written more)) (length-append (body_of (column_written column)) (body_of (buffers_written more)))
+    rw (e, flat_map-append padded (column_written column) (batch_buffers_written more)) (length-append (body_of (column_written column)) (body_of (batch_buffers_written more)))
 
 -- one buffer more of a column
 pub dropped_buffer : (buffers : List (List ℕ)) (i : ℕ) → i < length buffers → drop i buffers ≡ get_or buffers i [] ∷ drop (i + 1) buffers
@@ -98,7 +98,7 @@ pub short_texts : (column : ColumnAt) → length (body_of (column_written column
 short_texts column short = short_of column.layout column.first column.len short
 
 -- the columns from one on have no more bytes than all
-pub length_front : (columns : List ColumnAt) (i : ℕ) → length (body_of (buffers_written (drop i columns))) ≤ length (body_of (buffers_written columns))
+pub length_front : (columns : List ColumnAt) (i : ℕ) → length (body_of (batch_buffers_written (drop i columns))) ≤ length (body_of (batch_buffers_written columns))
 length_front [] zero = omega arith
 length_front [] (suc i) = omega arith
 length_front (column ∷ columns) zero = omega arith

@@ -6,10 +6,10 @@ use Rattle.std.specs.List.{list_any}
 use Rattle.scan_base.specs.declared.value.Value.{Value}
 use Rattle.scan_base.specs.Limits.{most_values}
 use Rattle.flatbuf.specs.Layout.{TableAt, HasRoot, HasScalar, HasTable, HasStructs}
+use Rattle.arrow_types.specs.declared.data_type.DataType.TheVariants.{Utf8}
+use Rattle.arrow_types.specs.declared.schema.Schema.{Schema}
 use Rattle.arrow_schema.specs.declared.header.HeaderKind.{HeaderKind}
 use Rattle.arrow_schema.specs.declared.header.HeaderKind.TheVariants as kinds
-use Rattle.arrow_schema.specs.declared.data_type.DataType.TheVariants.{Utf8}
-use Rattle.arrow_schema.specs.declared.schema.Schema.{Schema}
 use Rattle.arrow_schema.specs.Message.{kind_number}
 use Rattle.arrow_schema.specs.Says.{HasFlag, SaysColumns}
 use Rattle.arrays.specs.declared.layout.Layout.TheVariants.{Texts}
@@ -21,7 +21,7 @@ use Rattle.ipc_batch.specs.Parts.{PartsAt, nodes_in, places_in}
 use Rattle.ipc_batch.specs.State.{Known, values_under}
 use Rattle.ipc_batch.specs.Columns.{buffers_wanted}
 use Rattle.ipc_batch.specs.Holds.{HoldsColumn, HoldsColumns}
-use Rattle.ipc_batch.specs.Said.{Sent, leads_to, kept_of}
+use Rattle.ipc_batch.specs.SaidRows.{Sent, leads_to, kept_of}
 
 -- ---- tables
 

@@ -7,9 +7,9 @@ use Rattle.scan_base.specs.declared.fault.Fault.{Fault}
 use Rattle.scan_base.specs.declared.fault.Fault.TheVariants.{BadBatch}
 use Rattle.scan_base.specs.declared.value.Value.{Value}
 use Rattle.scan_base.specs.Reading.{◌>>=◌, demand}
-use Rattle.arrow_schema.specs.declared.data_type.DataType.{DataType}
-use Rattle.arrow_schema.specs.declared.data_type.DataType.TheVariants.{Utf8, Dictionary}
-use Rattle.arrow_schema.specs.declared.schema.Field.{Field}
+use Rattle.arrow_types.specs.declared.data_type.DataType.{DataType}
+use Rattle.arrow_types.specs.declared.data_type.DataType.TheVariants.{Utf8, Dictionary}
+use Rattle.arrow_types.specs.declared.schema.Field.{Field}
 use Rattle.arrays.specs.declared.layout.Layout.{Layout}
 use Rattle.arrays.specs.declared.layout.Layout.TheVariants.{Texts}
 use Rattle.arrays.specs.Texts.{TextsAt, texts_of}
@@ -38,9 +38,9 @@ values_led_to (Dictionary encoding) dictionaries = values_under dictionaries enc
 values_led_to _ dictionaries = []
 
 -- the texts whose validity bits, offsets and bytes lie in these buffers
-unfoldable pub texts_at : ℕ → List ℕ → FieldNode → BufferPlace → BufferPlace → BufferPlace →
+unfoldable pub texts_in_buffers : ℕ → List ℕ → FieldNode → BufferPlace → BufferPlace → BufferPlace →
     Result TextsAt Fault
-texts_at rows body node validity offsets bytes = do
+texts_in_buffers rows body node validity offsets bytes = do
   _ ← demand (node.length == rows) BadBatch
   bits ← validity_at body node validity
   cuts ← buffer_at body offsets
@@ -48,9 +48,9 @@ texts_at rows body node validity offsets bytes = do
   texts_of bits cuts text rows
 
 -- the values of another type whose validity bits and packed values lie in these buffers
-unfoldable pub values_at :
+unfoldable pub values_in_buffers :
     DataType → List Value → ℕ → List ℕ → FieldNode → BufferPlace → BufferPlace → Result Layout Fault
-values_at data_type dictionary rows body node validity values = do
+values_in_buffers data_type dictionary rows body node validity values = do
   _ ← demand (node.length == rows) BadBatch
   bits ← validity_at body node validity
   packed ← buffer_at body values
@@ -59,7 +59,7 @@ values_at data_type dictionary rows body node validity values = do
 -- a column of texts, over the buffers at the front
 abbrev pub texts_front : ℕ → List ℕ → FieldNode → List BufferPlace → Result FrontAt Fault
 texts_front rows body node (validity ∷ offsets ∷ bytes ∷ behind) =
-    texts_at rows body node validity offsets bytes
+    texts_in_buffers rows body node validity offsets bytes
     >>= λ cells. Ok (record { layout = Texts cells; behind = behind })
 texts_front rows body node _ = Err BadBatch
 
@@ -67,7 +67,7 @@ texts_front rows body node _ = Err BadBatch
 abbrev pub values_front : DataType → List Value → ℕ → List ℕ → FieldNode → List BufferPlace →
     Result FrontAt Fault
 values_front data_type dictionary rows body node (validity ∷ values ∷ behind) =
-    values_at data_type dictionary rows body node validity values >>=
+    values_in_buffers data_type dictionary rows body node validity values >>=
     λ layout. Ok (record { layout = layout; behind = behind })
 values_front data_type dictionary rows body node _ = Err BadBatch
 
@@ -112,5 +112,5 @@ columns_placed body parts =
 -- the one column of texts that these nodes and buffers make
 abbrev pub one_texts : ℕ → List ℕ → List FieldNode → List BufferPlace → Result TextsAt Fault
 one_texts rows body (node ∷ []) (validity ∷ offsets ∷ bytes ∷ []) =
-    texts_at rows body node validity offsets bytes
+    texts_in_buffers rows body node validity offsets bytes
 one_texts rows body _ _ = Err BadBatch

@@ -7,8 +7,8 @@ use Rattle.scan_base.specs.declared.fault.Fault.{Fault}
 use Rattle.scan_base.specs.declared.fault.Fault.TheVariants.{BadBatch, OutOfMemory}
 use Rattle.scan_base.specs.declared.value.Value.{Value}
 use Rattle.flatbuf.specs.Layout.{IsBytes}
-use Rattle.arrow_schema.specs.declared.data_type.DataType.{DataType}
-use Rattle.arrow_schema.specs.declared.schema.Schema.{Schema}
+use Rattle.arrow_types.specs.declared.data_type.DataType.{DataType}
+use Rattle.arrow_types.specs.declared.schema.Schema.{Schema}
 use Rattle.arrow_schema.specs.Header.{MessageAt, body_length_of}
 use Rattle.scan_base.specs.Limits.{most_values}
 use Rattle.arrays.specs.Batch.{BatchAt}
@@ -20,9 +20,9 @@ use Rattle.ipc_batch.specs.Columns.{values_led_to}
 use Rattle.ipc_batch.specs.Holds.{BatchBody, HoldsColumn}
 use Rattle.ipc_batch.specs.State.{Known, State}
 use Rattle.ipc_batch.specs.News.{Sent, News, has_id, leads_to, news_of, glance_of}
-use Rattle.ipc_batch.specs.Said.{Rows, rows_in, Follows, Says, Tells, AreWide}
+use Rattle.ipc_batch.specs.SaidRows.{Rows, rows_in, Follows, Says, Tells, AreWide}
 use Rattle.ipc_batch.specs.Brings.{Context, context_of, Brings}
-use Rattle.ipc_batch.specs.Written.{values_after, SaysValues}
+use Rattle.ipc_batch.specs.WrittenMessages.{values_after, SaysValues}
 
 -- messages say at most one schema and one list of rows
 abbrev pub SayOneThing : Type 0

@@ -2,12 +2,12 @@ pub mod State
 pub mod Parts
 pub mod Columns
 pub mod News
-pub mod Said
+pub mod SaidRows
 pub mod Holds
 pub mod Brings
 pub mod WrittenParts
-pub mod Written
+pub mod WrittenMessages
 pub mod Laws
-pub mod Dressed
-pub mod Seen
+pub mod DressedBatches
+pub mod MessageView
 pub mod inside

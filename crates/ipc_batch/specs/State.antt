@@ -1,7 +1,7 @@
 -- What messages leave after to those that come after them.
 use Rattle.std.specs.Prelude.{ℕ, ◌==◌, List, [], ◌∷◌, Option, if◌then◌else◌}
 use Rattle.scan_base.specs.declared.value.Value.{Value}
-use Rattle.arrow_schema.specs.declared.schema.Schema.{Schema}
+use Rattle.arrow_types.specs.declared.schema.Schema.{Schema}
 
 -- the values of dictionaries, by their ids
 abbrev pub Dictionaries : Type 0

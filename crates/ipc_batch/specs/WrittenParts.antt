@@ -7,10 +7,10 @@ use Rattle.scan_base.specs.Lists.{each}
 use Rattle.flatbuf.specs.Place.{TableAt}
 use Rattle.flatbuf.specs.Layout.{Stands}
 use Rattle.flatbuf.specs.Block.{Part, Number, Offset, little, padded, table_part, structs_part}
-use Rattle.flatbuf.specs.Written.{table_at}
+use Rattle.flatbuf.specs.WrittenTables.{table_at}
 use Rattle.arrow_schema.specs.Header.{MessageAt, body_length_of}
 use Rattle.scan_base.specs.Limits.{most_columns}
-use Rattle.arrow_schema.specs.Written.{flag}
+use Rattle.arrow_schema.specs.WrittenHeader.{flag}
 use Rattle.ipc_batch.specs.declared.parts.FieldNode.{FieldNode}
 use Rattle.ipc_batch.specs.declared.parts.BufferPlace.{BufferPlace}
 use Rattle.ipc_batch.specs.Parts.{parts_of, buffer_at}
@@ -55,8 +55,8 @@ most_buffers = 3 * most_columns
 
 -- the DictionaryBatch table: an id, the RecordBatch table of the values, and whether they stand
 -- after the old ones
-unfoldable pub dictionary_part : ℕ → WrittenParts → Bool → Part
-dictionary_part id parts is_delta =
+unfoldable pub dictionary_batch_part : ℕ → WrittenParts → Bool → Part
+dictionary_batch_part id parts is_delta =
     table_part (Number id ∷ Offset (parts_part parts) ∷ Number (flag is_delta) ∷ [])
 
 -- parts that can be written

@@ -1,3 +1,3 @@
 -- What only the contracts of private functions and types cite.
-pub mod Seen
-pub mod Sized
+pub mod PartsView
+pub mod SizedBatch

@@ -1,8 +1,8 @@
 //! The buffers of a body, without a copy where they came as they are written.
 
 ghost use Rattle.std.specs.Prelude.{◌≡◌, ◌<◌, ◌^◌, ◌++◌, length, OnOk};
-ghost use Rattle.array_buffers.specs.Written.{buffers_written as column_written};
-ghost use Rattle.ipc_batch.specs.Written.{body_of, buffers_written};
+ghost use Rattle.array_buffers.specs.ColumnBuffers.{buffers_written as column_written};
+ghost use Rattle.ipc_batch.specs.WrittenMessages.{body_of, batch_buffers_written};
 
 use array_buffers::{buffer, buffer_count};
 use arrays::Column;
@@ -34,8 +34,9 @@ pub(crate) fn push_columns(
     columns: &[Column],
     rooms: &[usize],
 ) -> Result<(), AllocError>
-    requires { length (body_of (buffers_written columns.now)) < 2 ^ 31 }
-    ensures { OnOk result (buffers.new.items ≡ buffers.old.items ++ buffers_written columns.now) }
+    requires { length (body_of (batch_buffers_written columns.now)) < 2 ^ 31 }
+    ensures { OnOk result (buffers.new.items
+        ≡ buffers.old.items ++ batch_buffers_written columns.now) }
 {
     for column in columns {
         push_column(alloc, buffers, column, rooms)?;

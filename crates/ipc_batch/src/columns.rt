@@ -5,15 +5,16 @@ ghost use Rattle.scan_base.specs.Reading.{Gives, GivesUnlessMemory};
 ghost use Rattle.arrays.specs.Layout.{layout_count};
 ghost use Rattle.arrays.specs.Batch.{AreLong};
 ghost use Rattle.arrays.specs.Buffers.{buffer_count, values_layout};
-ghost use Rattle.ipc_batch.specs.Columns.{validity_at, texts_at, values_at, values_led_to};
+ghost use Rattle.ipc_batch.specs.Columns.{validity_at, texts_in_buffers, values_in_buffers};
+ghost use Rattle.ipc_batch.specs.Columns.{values_led_to};
 ghost use Rattle.ipc_batch.specs.Columns.{texts_front, values_front, front_of};
 ghost use Rattle.ipc_batch.specs.Columns.{columns_from, buffers_wanted, counts_agree, one_texts};
-ghost use Rattle.ipc_batch.specs.inside.Seen.{parts_seen, front_seen};
+ghost use Rattle.ipc_batch.specs.inside.PartsView.{parts_seen, front_seen};
 
 use crate::dictionaries::Dictionaries;
 use crate::parts::{BufferPlace, FieldNode, Parts, buffer, check_place};
 use arrays::{Column, Slots, Texts};
-use arrow_schema::{DataType, Field, IntegerType};
+use arrow_types::{DataType, Field, IntegerType};
 use bytes::Bytes;
 use scan_base::Fault;
 use std::alloc::Global;
@@ -21,7 +22,7 @@ use std::alloc::Global;
 /// What the columns of a batch have in common: how many slots each has, the body in which their
 /// buffers lie, and the dictionaries that indices lead into.
 #[derive(Drop)]
-pub(crate) struct Source<'a> {
+pub(crate) struct ColumnSource<'a> {
     pub rows: u64,
     pub body: &'a Bytes,
     pub dictionaries: &'a Dictionaries,
@@ -98,7 +99,7 @@ fn validity(body: &Bytes, node: FieldNode, place: BufferPlace) -> Result<Option<
 }
 
 // The texts whose validity bits, offsets and bytes lie in these buffers.
-#[tactic(auto, unfolding(crate::specs::Columns::texts_at))]
+#[tactic(auto, unfolding(crate::specs::Columns::texts_in_buffers))]
 fn texts(
     rows: u64,
     body: &Bytes,
@@ -108,7 +109,7 @@ fn texts(
     bytes_place: BufferPlace,
 ) -> Result<Texts, Fault>
     ensures value { GivesUnlessMemory (λ cells. cells) result
-        (texts_at rows body.now node validity_place offsets_place bytes_place) }
+        (texts_in_buffers rows body.now node validity_place offsets_place bytes_place) }
     ensures long { IfOk result (λ cells. cells.len ≡ rows) }
 {
     if node.length != rows {
@@ -125,7 +126,7 @@ fn texts(
 fn layout(
     alloc: Global,
     data_type: DataType,
-    source: &Source<'_>,
+    source: &ColumnSource<'_>,
     bits: Option<Bytes>,
     packed: Bytes,
 ) -> Result<Slots, Fault>
@@ -148,16 +149,16 @@ fn layout(
 }
 
 // The slots of such a type whose validity bits and packed values lie in these buffers.
-#[tactic(auto, unfolding(crate::specs::Columns::values_at))]
+#[tactic(auto, unfolding(crate::specs::Columns::values_in_buffers))]
 fn values(
     alloc: Global,
     data_type: DataType,
-    source: &Source<'_>,
+    source: &ColumnSource<'_>,
     node: FieldNode,
     validity_place: BufferPlace,
     values_place: BufferPlace,
 ) -> Result<Slots, Fault>
-    ensures value { GivesUnlessMemory (λ layout. layout) result (values_at data_type
+    ensures value { GivesUnlessMemory (λ layout. layout) result (values_in_buffers data_type
         (values_led_to data_type source.now.dictionaries.now) source.now.rows source.now.body.now
         node validity_place values_place) }
     ensures long { IfOk result (λ layout. layout_count layout ≡ source.now.rows) }
@@ -172,7 +173,7 @@ fn values(
 
 // Texts, over the buffers at the front.
 fn texts_front<'a>(
-    source: &Source<'_>,
+    source: &ColumnSource<'_>,
     node: FieldNode,
     places: &'a [BufferPlace],
 ) -> Result<Front<'a>, Fault>
@@ -194,7 +195,7 @@ fn texts_front<'a>(
 fn values_front<'a>(
     alloc: Global,
     data_type: DataType,
-    source: &Source<'_>,
+    source: &ColumnSource<'_>,
     node: FieldNode,
     places: &'a [BufferPlace],
 ) -> Result<Front<'a>, Fault>
@@ -215,7 +216,7 @@ fn values_front<'a>(
 fn read_front<'a>(
     alloc: Global,
     data_type: DataType,
-    source: &Source<'_>,
+    source: &ColumnSource<'_>,
     node: FieldNode,
     places: &'a [BufferPlace],
 ) -> Result<Front<'a>, Fault>
@@ -236,7 +237,7 @@ fn read_front<'a>(
 pub(crate) fn read_columns(
     alloc: Global,
     fields: &[Field],
-    source: &Source<'_>,
+    source: &ColumnSource<'_>,
     nodes: &[FieldNode],
     places: &[BufferPlace],
 ) -> Result<Vec<Column>, Fault>

@@ -3,8 +3,8 @@
 ghost use Rattle.ipc_batch.specs.Laws.{ReadIsBrought, SaidIsBrought, TellingExtends};
 ghost use Rattle.ipc_batch.specs.Laws.{SayOneThing, JoinRows, RowsFitSchema};
 ghost use Rattle.ipc_batch.specs.Laws.{GlancesComeFirst, NegativesLieOutside, DictionariesReadBack};
-ghost use Rattle.ipc_batch.specs.Dressed.{DressedMessagesSay};
-ghost use Rattle.ipc_batch.specs.Written.{PartsReadBack};
+ghost use Rattle.ipc_batch.specs.DressedBatches.{DressedMessagesSay};
+ghost use Rattle.ipc_batch.specs.WrittenMessages.{PartsReadBack};
 
 /// What is read of a message, in the order in which it is read, is just what it brings: what
 /// `Message.fbs` and the columnar format, in their own words and in no order, have it say.

@@ -7,9 +7,9 @@ mod dictionaries;
 pub mod laws;
 pub mod parts;
 pub mod reader;
-pub mod sized;
+pub mod sized_batch;
 pub mod writer;
 
 pub use crate::reader::Reader;
-pub use crate::sized::SizedBatch;
+pub use crate::sized_batch::SizedBatch;
 pub use crate::writer::{WrittenMessage, write_batch, write_dictionary};

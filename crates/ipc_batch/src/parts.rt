@@ -3,13 +3,13 @@
 ghost use Rattle.std.specs.Prelude.{◌≡◌, ◌==◌, ◌≤◌, ◌<◌, ◌+◌, ◌*◌, ◌^◌, length, IfOk, OnOk};
 ghost use Rattle.std.specs.List.{list_all};
 ghost use Rattle.scan_base.specs.Reading.{Gives, GivesUnlessMemory};
-ghost use Rattle.arrow_schema.specs.Seen.{message_seen};
+ghost use Rattle.arrow_schema.specs.MessageView.{message_seen};
 ghost use Rattle.ipc_batch.specs.Parts.{word_at, node_at, place_at, nodes_in, places_in};
 ghost use Rattle.ipc_batch.specs.Parts.{structs_wanted, lies_in, placed_in, buffer_at};
 ghost use Rattle.ipc_batch.specs.Parts.{body_claimed};
 ghost use Rattle.ipc_batch.specs.Parts.{parts_of, dictionary_parts};
 ghost use Rattle.ipc_batch.specs.Columns.{columns_placed};
-ghost use Rattle.ipc_batch.specs.inside.Seen.{parts_seen, dictionary_seen};
+ghost use Rattle.ipc_batch.specs.inside.PartsView.{parts_seen, dictionary_message_seen};
 
 use arrow_schema::Message;
 use byteorder::{ByteOrder, LittleEndian};
@@ -254,7 +254,8 @@ pub(crate) fn read_dictionary<'a>(
     message: &Message<'a>,
     body: &[u8],
 ) -> Result<DictionaryMessage<'a>, Fault>
-    ensures { Gives dictionary_seen result (dictionary_parts (message_seen message.now) body.now) }
+    ensures { Gives dictionary_message_seen result
+        (dictionary_parts (message_seen message.now) body.now) }
 {
     let table = message.header()?;
     let id = table.scalar(0, Width::Eight, 0)?;

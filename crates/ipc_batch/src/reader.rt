@@ -5,20 +5,22 @@ ghost use Rattle.std.specs.Prelude.{IfOk, IfErr, IfSome, OnOk, OnErr};
 ghost use Rattle.std.specs.List.{list_any};
 ghost use Rattle.scan_base.specs.declared.fault.Fault.TheVariants.{OutOfMemory, BadBatch};
 ghost use Rattle.scan_base.specs.Reading.{Gives, GivesUnlessMemory, RefusesFirst, demand};
-ghost use Rattle.arrow_schema.specs.Schema.{IsSchema};
-ghost use Rattle.arrow_schema.specs.Seen.{message_seen};
-ghost use Rattle.ipc_batch.specs.Said.{schema_sent, first_schema, batch_parts, batch_sent, has_id};
-ghost use Rattle.ipc_batch.specs.Said.{leads_to, dictionary_sent};
-ghost use Rattle.ipc_batch.specs.Said.{known_after, next_news, first_glance, batch_glance};
-ghost use Rattle.ipc_batch.specs.Said.{dictionary_glance, next_glance, glance_of};
-ghost use Rattle.ipc_batch.specs.Said.{Answers, Tells, HasColumns};
-ghost use Rattle.ipc_batch.specs.inside.Seen.{parts_seen, dictionary_seen};
+ghost use Rattle.arrow_types.specs.Schema.{IsSchema};
+ghost use Rattle.arrow_schema.specs.MessageView.{message_seen};
+ghost use Rattle.ipc_batch.specs.SaidRows.{schema_sent, first_schema, batch_parts, batch_sent};
+ghost use Rattle.ipc_batch.specs.SaidRows.{has_id};
+ghost use Rattle.ipc_batch.specs.SaidRows.{leads_to, dictionary_sent};
+ghost use Rattle.ipc_batch.specs.SaidRows.{known_after, next_news, first_glance, batch_glance};
+ghost use Rattle.ipc_batch.specs.SaidRows.{dictionary_glance, next_glance, glance_of};
+ghost use Rattle.ipc_batch.specs.SaidRows.{Answers, Tells, HasColumns};
+ghost use Rattle.ipc_batch.specs.inside.PartsView.{parts_seen, dictionary_message_seen};
 
-use crate::columns::{Source, check_counts, check_text_counts, read_columns, read_texts};
+use crate::columns::{ColumnSource, check_counts, check_text_counts, read_columns, read_texts};
 use crate::dictionaries::Dictionaries;
 use crate::parts::{DictionaryMessage, Parts, check_body, read_dictionary, read_parts};
 use arrays::{Batch, Dictionary};
-use arrow_schema::{DataType, Field, HeaderKind, Message, Schema, read_message};
+use arrow_schema::{HeaderKind, Message, read_message};
+use arrow_types::{DataType, Field, Schema};
 use bytes::Bytes;
 use scan_base::Fault;
 use std::alloc::Global;
@@ -33,7 +35,7 @@ struct Stream {
 }
 
 impl Model for Stream {
-    ghost use Rattle.arrow_schema.specs.Schema.{IsSchema};
+    ghost use Rattle.arrow_types.specs.Schema.{IsSchema};
     ghost use Rattle.ipc_batch.specs.State.{Known};
 
     ghost Value = { Known };
@@ -135,7 +137,7 @@ impl Reader {
     /// # Errors
     ///
     /// Those faults of [`Reader::message`] (F6, F7, F8, F12), and never F21.
-    #[tactic(auto, unfolding(crate::specs::Said::glance_of))]
+    #[tactic(auto, unfolding(crate::specs::SaidRows::glance_of))]
     pub fn glance(&self, alloc: Global, header: &[u8], body: &[u8]) -> Result<(), Fault>
         ensures { Gives (λ done. done) result
             (glance_of self.now (record { header = header.now; body = body.now })) }
@@ -148,7 +150,7 @@ impl Reader {
     }
 
     // What a message tells.
-    #[tactic(auto, unfolding(crate::specs::Said::news_of, crate::specs::Said::glance_of))]
+    #[tactic(auto, unfolding(crate::specs::SaidRows::news_of, crate::specs::SaidRows::glance_of))]
     fn read(&mut self, alloc: Global, header: &Bytes, body: &Bytes) -> Result<Option<Batch>, Fault>
         ensures exact { Tells result self.old
             (record { header = header.now; body = body.now }) self.new }
@@ -168,7 +170,7 @@ impl Reader {
 
 // The schema of a message. Its names alone take memory, and where that is refused, the body that
 // the message claims is looked at before that is told.
-#[tactic(auto, unfolding(crate::specs::Said::schema_sent))]
+#[tactic(auto, unfolding(crate::specs::SaidRows::schema_sent))]
 fn read_schema(alloc: Global, message: &Message<'_>, body: &[u8]) -> Result<Schema, Fault>
     ensures value { GivesUnlessMemory (λ schema. schema) result
         (schema_sent (message_seen message.now) body.now) }
@@ -279,7 +281,7 @@ impl Stream {
     }
 
     // The parts of a record batch.
-    #[tactic(auto, unfolding(crate::specs::Said::batch_parts))]
+    #[tactic(auto, unfolding(crate::specs::SaidRows::batch_parts))]
     fn batch_parts<'a>(&self, message: &Message<'a>, body: &[u8]) -> Result<Parts<'a>, Fault>
         ensures value { Gives parts_seen result
             (batch_parts self.now (message_seen message.now) body.now) }
@@ -293,7 +295,7 @@ impl Stream {
     }
 
     // The record batch of a message.
-    #[tactic(auto, unfolding(crate::specs::Said::batch_sent))]
+    #[tactic(auto, unfolding(crate::specs::SaidRows::batch_sent))]
     fn batch(&self, alloc: Global, message: &Message<'_>, body: &Bytes) -> Result<Batch, Fault>
         ensures value { GivesUnlessMemory (λ batch. batch) result
             (batch_sent self.now (message_seen message.now) body.now) }
@@ -302,7 +304,7 @@ impl Stream {
     {
         let parts = self.batch_parts(message, body.as_slice())?;
         parts.check_placed(body.as_slice())?;
-        let source = Source {
+        let source = ColumnSource {
             rows: parts.rows,
             body,
             dictionaries: &self.dictionaries,
@@ -315,13 +317,13 @@ impl Stream {
     }
 
     // The parts of a dictionary.
-    #[tactic(auto, unfolding(crate::specs::Said::dictionary_sent))]
+    #[tactic(auto, unfolding(crate::specs::SaidRows::dictionary_sent))]
     fn dictionary<'a>(
         &self,
         message: &Message<'a>,
         body: &[u8],
     ) -> Result<DictionaryMessage<'a>, Fault>
-        ensures { Gives dictionary_seen result
+        ensures { Gives dictionary_message_seen result
             (dictionary_sent self.now (message_seen message.now) body.now) }
     {
         let sent = read_dictionary(message, body)?;
@@ -334,7 +336,7 @@ impl Stream {
 
     // Takes the values of a dictionary message: after those that are there where it is a delta, and
     // else in their place.
-    #[tactic(auto, unfolding(crate::specs::Said::known_after))]
+    #[tactic(auto, unfolding(crate::specs::SaidRows::known_after))]
     fn learn(&mut self, alloc: Global, message: &Message<'_>, body: &Bytes) -> Result<(), Fault>
         ensures ok { OnOk result
             (known_after self.old (message_seen message.now) body.now ≡ Ok self.new) }

@@ -6,15 +6,17 @@ ghost use Rattle.flatbuf.specs.Block.{Number, Offset, table_part};
 ghost use Rattle.arrow_schema.specs.declared.header.HeaderKind.TheVariants.{DictionaryBatch};
 ghost use Rattle.scan_base.specs.Limits.{most_columns};
 ghost use Rattle.arrow_schema.specs.Message.{message_bytes};
-ghost use Rattle.arrow_schema.specs.Written.{flag};
+ghost use Rattle.arrow_schema.specs.WrittenHeader.{flag};
 ghost use Rattle.arrays.specs.Texts.{texts_values};
-ghost use Rattle.ipc_batch.specs.Written.{body_of, buffers_written, parts_written, body_length};
-ghost use Rattle.ipc_batch.specs.Written.{dictionary_part, values_batch, FitsBatch};
-ghost use Rattle.ipc_batch.specs.Written.{most_header_bytes};
-ghost use Rattle.ipc_batch.specs.Written.{SaysParts, SaysBatch, SaysDictionaryParts, SaysValues};
-ghost use Rattle.ipc_batch.specs.Seen.{written_seen};
+ghost use Rattle.ipc_batch.specs.WrittenMessages.{body_of, batch_buffers_written, parts_written};
+ghost use Rattle.ipc_batch.specs.WrittenMessages.{body_length};
+ghost use Rattle.ipc_batch.specs.WrittenMessages.{dictionary_batch_part, values_batch, FitsBatch};
+ghost use Rattle.ipc_batch.specs.WrittenMessages.{most_header_bytes};
+ghost use Rattle.ipc_batch.specs.WrittenMessages.{SaysParts, SaysBatch, SaysDictionaryParts};
+ghost use Rattle.ipc_batch.specs.WrittenMessages.{SaysValues};
+ghost use Rattle.ipc_batch.specs.MessageView.{written_seen};
 
-use crate::sized::SizedBatch;
+use crate::sized_batch::SizedBatch;
 use arrays::{Batch, Cells, Column, Slots, Texts};
 use arrow_schema::{HeaderKind, write_message};
 use flatbuf::{Block, Builder, Slot};
@@ -47,7 +49,7 @@ pub fn write_batch(alloc: Global, batch: &Batch) -> Result<Option<WrittenMessage
     ensures rows { IfOk result
         (λ found. IfSome found (λ message. SaysBatch (written_seen message) batch.now)) }
     ensures zeros { IfOk result (λ found. IfSome found (λ message. message.body.items
-        ≡ body_of (buffers_written batch.now.columns))) }
+        ≡ body_of (batch_buffers_written batch.now.columns))) }
 {
     let Some(sized) = SizedBatch::new(alloc, batch)? else {
         return Ok(None);
@@ -99,7 +101,7 @@ fn dictionary_header(
     requires { length values.now.columns ≤ most_columns }
     ensures whole { IfOk result (λ header. length header.items % 8 ≡ 0) }
     ensures items { IfOk result (λ header. header.items ≡ message_bytes DictionaryBatch
-        (dictionary_part id (parts_written values.now) is_delta) (body_length values.now)) }
+        (dictionary_batch_part id (parts_written values.now) is_delta) (body_length values.now)) }
     ensures short { IfOk result (λ header. length header.items ≤ most_header_bytes) }
     ensures fits { OnOk result (FitsBatch values.now) }
 {
@@ -142,7 +144,7 @@ pub fn write_dictionary(
     ensures values { IfOk result (λ found. IfSome found
         (λ message. SaysValues (written_seen message) id (texts_values values.now) is_delta)) }
     ensures zeros { IfOk result (λ found. IfSome found (λ message. message.body.items
-        ≡ body_of (buffers_written (values_batch values.now).columns))) }
+        ≡ body_of (batch_buffers_written (values_batch values.now).columns))) }
 {
     let batch = values_batch(alloc, values)?;
     let Some(sized) = SizedBatch::new(alloc, &batch)? else {

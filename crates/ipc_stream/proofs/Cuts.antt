@@ -4,7 +4,7 @@ use Rattle.std.specs.List.{All, AllByRecursion, flat_map}
 use Rattle.std.proofs.lemmas.List.Elements.{All-from_recursion}
 use Rattle.flatbuf.specs.Layout.{Stands}
 use Rattle.flatbuf.specs.Block.{little, padded}
-use Rattle.arrow_schema.specs.Written.{encapsulated}
+use Rattle.arrow_schema.specs.WrittenHeader.{encapsulated}
 use Rattle.ipc_stream.specs.declared.message.IpcMessage.{IpcMessage}
 use Rattle.ipc_stream.specs.Stream.{announced, frame, IsCut}
 use Rattle.ipc_stream.proofs.Streams.{Reached}

@@ -1,5 +1,5 @@
 -- Whole streams.
-use Rattle.std.proofs.Common.{◌≡◌, ℕ, ◌+◌, ◌-◌, ◌≤◌, inl, inr, Option, Result, List, [], ◌∷◌, ◌++◌, length, take, drop, slice_range, refl, sym, ap, ◌∙◌, subst, arith, append_assoc}
+use Rattle.std.proofs.Common.{◌≡◌, ℕ, ◌+◌, ◌-◌, inl, inr, Option, Result, List, [], ◌∷◌, ◌++◌, length, take, drop, slice_range, refl, sym, ap, ◌∙◌, subst, arith, append_assoc}
 use Rattle.std.specs.List.{All, AllByRecursion, flat_map}
 use Rattle.std.proofs.lemmas.Grind.{flat_map-append}
 use Rattle.std.proofs.Math.Seq.{take-length}
@@ -9,7 +9,7 @@ use Rattle.scan_base.specs.declared.fault.Fault.{Fault}
 use Rattle.ipc_stream.specs.declared.message.IpcMessage.{IpcMessage}
 use Rattle.ipc_stream.specs.declared.frame.Frame.{Frame}
 use Rattle.ipc_stream.specs.Stream.{announced, frame, ClaimsBody, IsMessage, IsEnd, Framed, IsStream}
-use Rattle.ipc_stream.specs.inside.Front.{IsStuck, IsIn, message_at, IsFound, FindsFrame}
+use Rattle.ipc_stream.specs.inside.Front.{IsStuck, message_at, IsFound, FindsFrame}
 use Rattle.ipc_stream.proofs.Claims.{claims_one}
 use Rattle.ipc_stream.proofs.Fronts.{announced_one}
 
@@ -84,15 +84,6 @@ pub record Reached (stream : List ℕ) (messages : List IpcMessage) (left : List
   pub whole : stream ≡ flat_map frame messages ++ left
   pub each : All IsMessage messages
 
-pub reached_none : (stream : List ℕ) → Reached stream [] stream
-reached_none stream = record { whole = refl; each = λ k d lt. absurd (omega arith) }
-
-pub reached_end : (stream : List ℕ) (messages : List IpcMessage) (left : List ℕ) → Reached stream messages left → IsEnd left → Framed stream messages left
-reached_end stream messages left r ends = record { whole = r.whole; each = r.each; ends = ends }
-
-pub reached_stream : (stream : List ℕ) (messages : List IpcMessage) (left : List ℕ) → Reached stream messages left → IsEnd left → IsStream stream
-reached_stream stream messages left r ends = record { messages = messages; rest = left; framed = reached_end stream messages left r ends }
-
 -- one more message
 pub reached_more : (stream : List ℕ) (messages : List IpcMessage) (left : List ℕ) (found : Frame) → Reached stream messages left → IsFound left found → Reached stream (messages ++ (message_at left 0 found ∷ [])) (drop found.end left)
 reached_more stream messages left found r is =
@@ -145,11 +136,6 @@ message_there stream at found =
     let body = ap (λ (n : ℕ). slice_range (drop at stream) n (0 + found.end)) start ∙ cut_there stream at found.header_end found.end in
     ap (λ (h : List ℕ). let m : IpcMessage = record { header = h; body = (message_at (drop at stream) 0 found).body } in m) header
     ∙ ap (λ (b : List ℕ). let m : IpcMessage = record { header = (message_at stream at found).header; body = b } in m) body
-
-pub in_there : (stream : List ℕ) (at : ℕ) (found : Frame) → at ≤ length stream → IsIn (drop at stream) 0 found → IsIn stream at found
-in_there stream at found le is =
-    let w = is.within in
-    record { starts = is.starts; ordered = is.ordered; within = omega (arith, length-drop at stream) }
 
 -- what stands in front of a slice stands in front of what is left
 pub finds_there : (slice stream : List ℕ) (at : ℕ) (found : Result (Option Frame) Fault) → slice ≡ stream → FindsFrame (slice_range slice at (length slice)) found → FindsFrame (drop at stream) found

@@ -2,7 +2,7 @@
 use Rattle.std.specs.Prelude.{◌≡◌, ◌↔◌, ◌<◌, ◌^◌, ℕ, List, ◌++◌}
 use Rattle.flatbuf.specs.Layout.{IsBytes, TableAt, HasRoot, HasScalar}
 use Rattle.flatbuf.specs.Block.{padded}
-use Rattle.arrow_schema.specs.Written.{encapsulated}
+use Rattle.arrow_schema.specs.WrittenHeader.{encapsulated}
 use Rattle.ipc_stream.specs.declared.message.IpcMessage.{IpcMessage}
 use Rattle.ipc_stream.specs.Stream.{frame, ClaimsBody, Framed}
 

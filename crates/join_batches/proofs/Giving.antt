@@ -5,24 +5,24 @@ use Rattle.std.specs.List.{list_all, range_with_len}
 use Rattle.std.proofs.lemmas.List.{get_or-map, length-map, map-append, take-append-drop, drop-drop}
 use Rattle.std.proofs.lemmas.List.Elements.{All-head, All-tail}
 use Rattle.std.proofs.lemmas.Option.{unwrap_or-slice_get}
-use Rattle.arrow_schema.specs.declared.data_type.DataType.{DataType}
-use Rattle.arrow_schema.specs.declared.data_type.DataType.TheVariants.{Utf8}
-use Rattle.arrow_schema.specs.Answer.{copied_type}
+use Rattle.arrow_types.specs.declared.data_type.DataType.{DataType}
+use Rattle.arrow_types.specs.declared.data_type.DataType.TheVariants.{Utf8}
+use Rattle.arrow_types.specs.Answer.{copied_type}
 use Rattle.scan_base.specs.declared.value.Value.{Value}
 use Rattle.arrays.specs.Batch.{BatchAt, rows_of}
-use Rattle.arrays.specs.Typed.{AreOf}
+use Rattle.arrays.specs.TypedLayouts.{AreOf}
 use Rattle.hash_join.specs.declared.pair.Pair.{Pair}
 use Rattle.hash_join.specs.Pairs.{pairs_ahead}
 use Rattle.join_batches.specs.declared.joiner.BuiltSides.{BuiltSides}
 use Rattle.join_batches.specs.declared.joiner.Joiner.TheInside.{Inside}
-use Rattle.join_batches.specs.declared.left.LeftPairs.{LeftPairs}
-use Rattle.join_batches.specs.declared.sides.Sides.{Sides}
+use Rattle.join_batches.specs.declared.left_pairs.LeftPairs.{LeftPairs}
+use Rattle.join_batches.specs.declared.batch_sides.BatchSides.{BatchSides}
 use Rattle.join_batches.specs.Joiner.{JoinerAt, GivesShown, JoinsNext, JoinsShown, joined_type, joined_types, shown_cells}
 use Rattle.join_batches.specs.Rows.{pair_row}
-use Rattle.join_batches.specs.Sides.{AreSides, AreWithin, IsBatchOf, copied_at, rows_at, types_of, width_of}
-use Rattle.join_batches.specs.Built.{AreBuilt}
-use Rattle.join_batches.specs.Held.{joiner_of, sides_of, IsJoiner}
-use Rattle.join_batches.specs.Left.{IsLeft, KeepsPairs, pairs_left}
+use Rattle.join_batches.specs.BatchSides.{AreSides, AreColumnsOf, IsPairBatch, copied_at, rows_at, side_types, width_of}
+use Rattle.join_batches.specs.BuiltSides.{AreBuilt}
+use Rattle.join_batches.specs.HeldRows.{joiner_of, sides_of, IsJoiner}
+use Rattle.join_batches.specs.LeftPairs.{IsLeft, KeepsPairs, pairs_left}
 use Rattle.join_batches.proofs.Made.{all_cells}
 use Rattle.join_batches.proofs.Typed.{all_types, all_within, typed_long}
 
@@ -44,7 +44,7 @@ same_rows j left keeps =
     ∙ ap (λ (pairs : List Pair). record (joiner_of j) { ahead = map (pair_row (sides_of j).build.batches j.left.batch) pairs }) keeps.same
 
 -- the sides of a joiner with a pair to give
-pub sides_are : (j : Inside) (sides : Sides) → IsJoiner j → sides.left.now ≡ j.left.batch → sides.left_types.now ≡ (sides_of j).left.types.items →
+pub sides_are : (j : Inside) (sides : BatchSides) → IsJoiner j → sides.left.now ≡ j.left.batch → sides.left_types.now ≡ (sides_of j).left.types.items →
     sides.rights.now ≡ (sides_of j).build.batches → sides.right_types.now ≡ (sides_of j).right_types.items → j.left.given < length j.left.pairs.items → AreSides sides
 sides_are j sides held left left_types rights right_types more =
     let pair = held.left.pairs_there j.left.given (record { left = 0; batch = 0; row = 0 }) more in
@@ -77,24 +77,24 @@ shown_there j before left right shown same one other all =
     subst (λ (n : ℕ). All (λ (number : ℕ). number < n) shown) (sym width) (all_within (length (joined_types before)) shown all)
 
 -- the types of these columns
-types_same : (j : Inside) (sides : Sides) (shown : List ℕ) → types_of sides ≡ (sides_of j).left.types.items ++ (sides_of j).right_types.items →
-    AreWithin sides shown → map (copied_at sides) shown ≡ map (joined_type (joiner_of j)) shown
+types_same : (j : Inside) (sides : BatchSides) (shown : List ℕ) → side_types sides ≡ (sides_of j).left.types.items ++ (sides_of j).right_types.items →
+    AreColumnsOf sides shown → map (copied_at sides) shown ≡ map (joined_type (joiner_of j)) shown
 types_same j sides [] same within = refl
 types_same j sides (number ∷ shown) same within =
     let low : number < width_of sides = All-head (λ (number : ℕ). number < width_of sides) number shown within in
     let all = length-append sides.left_types.now sides.right_types.now in
     let one : copied_at sides number ≡ joined_type (joiner_of j) number =
-    sym (get_or-map copied_type (types_of sides) number Utf8 Utf8 (omega (arith, low, all)))
-    ∙ sym (unwrap_or-slice_get (map copied_type (types_of sides)) number Utf8)
+    sym (get_or-map copied_type (side_types sides) number Utf8 Utf8 (omega (arith, low, all)))
+    ∙ sym (unwrap_or-slice_get (map copied_type (side_types sides)) number Utf8)
     ∙ ap (λ (types : List DataType). unwrap_or (slice_get (map copied_type types) number) Utf8) same in
     ap (λ (data_type : DataType). data_type ∷ map (copied_at sides) shown) one
     ∙ ap (λ (types : List DataType). joined_type (joiner_of j) number ∷ types)
     (types_same j sides shown same (All-tail (λ (number : ℕ). number < width_of sides) number shown within))
 
 -- these columns of the next rows, and the rows after them
-pub gives_shown : (j : Inside) (sides : Sides) (shown : List ℕ) (pairs : List Pair) (batch : BatchAt) (rows : ℕ) → IsJoiner j → sides.left.now ≡ j.left.batch →
+pub gives_shown : (j : Inside) (sides : BatchSides) (shown : List ℕ) (pairs : List Pair) (batch : BatchAt) (rows : ℕ) → IsJoiner j → sides.left.now ≡ j.left.batch →
     sides.left_types.now ≡ (sides_of j).left.types.items → sides.rights.now ≡ (sides_of j).build.batches → sides.right_types.now ≡ (sides_of j).right_types.items →
-    pairs ≡ drop j.left.given j.left.pairs.items → rows ≡ batch.rows → AreWithin sides shown → IsBatchOf sides shown pairs batch →
+    pairs ≡ drop j.left.given j.left.pairs.items → rows ≡ batch.rows → AreColumnsOf sides shown → IsPairBatch sides shown pairs batch →
     GivesShown (joiner_of j) shown batch (joiner_of (with_left j (record j.left { given = j.left.given + rows })))
 gives_shown j sides shown pairs batch rows held left left_types rights right_types are size within is =
     let row = pair_row (sides_of j).build.batches j.left.batch in

@@ -5,14 +5,14 @@ use Rattle.std.proofs.lemmas.List.{map-append}
 use Rattle.scan_base.specs.declared.value.Value.{Value}
 use Rattle.arrays.specs.Batch.{BatchAt, rows_of, row_of}
 use Rattle.hash_join.specs.declared.pair.Pair.{Pair}
-use Rattle.hash_join.specs.Pairs.{BuildAt, key_in, keys_join, places, row_at, pairs_of, pairs_ahead}
-use Rattle.join_batches.specs.Rows.{batch_at, pair_row}
+use Rattle.hash_join.specs.Pairs.{BuildAt, key_values, keys_join, places, row_at, pairs_of, pairs_ahead}
+use Rattle.join_batches.specs.Rows.{batch_numbered, pair_row}
 use Rattle.join_batches.proofs.Numbered.{first_at, others_from}
 
 -- ---- the rows at all places are all rows
 
 -- the rows of one batch
-rows_in : (all : List BatchAt) (batch : BatchAt) (number : ℕ) → batch_at all number ≡ batch → (rows : List ℕ) →
+rows_in : (all : List BatchAt) (batch : BatchAt) (number : ℕ) → batch_numbered all number ≡ batch → (rows : List ℕ) →
     map (row_at all) (map (λ (row : ℕ). (number, row)) rows) ≡ map (row_of batch.columns) rows
 rows_in all batch number is [] = refl
 rows_in all batch number is (row ∷ rows) =
@@ -41,22 +41,22 @@ rows_at_places batches = rows_from batches batches 0 refl
 abbrev found : BuildAt → BatchAt → List ℕ → ℕ → List (ℕ × ℕ) → List Pair
 found build left key row some =
     map (λ (place : ℕ × ℕ). record { left = row; batch = place.0; row = place.1 })
-    (filter (λ place. keys_join (key_in key (row_of left.columns row)) (key_in build.key (row_at build.batches place))) some)
+    (filter (λ place. keys_join (key_values key (row_of left.columns row)) (key_values build.key (row_at build.batches place))) some)
 
 -- a left row with each of the right rows that joins it
 abbrev pub with_each : BuildAt → List ℕ → List (List Value) → List Value → List (List Value)
-with_each build key rights row = map (λ right. row ++ right) (filter (λ right. keys_join (key_in key row) (key_in build.key right)) rights)
+with_each build key rights row = map (λ right. row ++ right) (filter (λ right. keys_join (key_values key row) (key_values build.key right)) rights)
 
 module _ (build : BuildAt) (left : BatchAt) (key : List ℕ) where
   of_row : (row : ℕ) (some : List (ℕ × ℕ)) →
       map (pair_row build.batches left) (found build left key row some)
       ≡ with_each build key (map (row_at build.batches) some) (row_of left.columns row)
   of_row row [] = refl
-  of_row row (place ∷ some) = by (of_row row some) (keys_join (key_in key (row_of left.columns row)) (key_in build.key (row_at build.batches place))) refl
+  of_row row (place ∷ some) = by (of_row row some) (keys_join (key_values key (row_of left.columns row)) (key_values build.key (row_at build.batches place))) refl
     where
       by : map (pair_row build.batches left) (found build left key row some)
           ≡ with_each build key (map (row_at build.batches) some) (row_of left.columns row) →
-          (b : Bool) → keys_join (key_in key (row_of left.columns row)) (key_in build.key (row_at build.batches place)) ≡ b →
+          (b : Bool) → keys_join (key_values key (row_of left.columns row)) (key_values build.key (row_at build.batches place)) ≡ b →
           map (pair_row build.batches left) (found build left key row (place ∷ some))
           ≡ with_each build key (map (row_at build.batches) (place ∷ some)) (row_of left.columns row)
       by again true e = rw e (ap (λ (rows : List (List Value)). (row_of left.columns row ++ row_at build.batches place) ∷ rows) again)

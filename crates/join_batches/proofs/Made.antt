@@ -2,7 +2,7 @@
 use Rattle.std.proofs.Common.{◌≡◌, ◌≤◌, ◌<◌, ℕ, suc, ◌+◌, ◌*◌, List, [], ◌∷◌, ◌++◌, All, Result, Ok, Err, IfOk, length, map, get_or, take, refl, sym, ap, ◌∙◌, subst, arith, length-take}
 use Rattle.std.specs.List.{AllZip, range_with_len, sum_by}
 use Rattle.std.specs.declared.alloc.AllocError.{AllocError}
-use Rattle.batch_room.proofs.Shares.{fewer_cells}
+use Rattle.array_select.proofs.Shares.{fewer_cells}
 use Rattle.std.proofs.lemmas.List.{get_or-map, length-map, length-take-le, take-take}
 use Rattle.std.proofs.lemmas.List.Elements.{All-nil, All-cons, All-head, All-tail, All-map, All-take, All-weaker}
 use Rattle.std.proofs.lemmas.List.Sums.{sum_by-cons}
@@ -14,16 +14,15 @@ use Rattle.scan_base.specs.declared.value.Value.TheVariants.{Null}
 use Rattle.scan_base.specs.Predicate.{cell_in}
 use Rattle.arrays.specs.Batch.{BatchAt, AreLong, rows_of, row_of}
 use Rattle.arrays.specs.Column.{ColumnAt, slot_of, values_of}
-use Rattle.arrays.specs.Typed.{AreOf}
-use Rattle.arrays.specs.Written.{texts_joined}
+use Rattle.arrays.specs.TypedLayouts.{AreOf}
+use Rattle.arrays.specs.WrittenSlots.{texts_joined}
 use Rattle.hash_join.specs.declared.pair.Pair.{Pair}
-use Rattle.join_batches.specs.declared.sides.Sides.{Sides}
+use Rattle.join_batches.specs.declared.batch_sides.BatchSides.{BatchSides}
 use Rattle.join_batches.specs.Joiner.{shown_cells}
 use Rattle.join_batches.specs.Rows.{pair_row, IsPair}
-use Rattle.array_select.specs.Room.{text_bytes_of}
-use Rattle.batch_room.specs.Light.{AreLight}
-use Rattle.batch_room.specs.Room.{allowed, most_batch_cells, most_batch_texts, HasRoom}
-use Rattle.join_batches.specs.Sides.{copied_at, type_in, width_of, AreSides, ArePairs, AllFit, IsColumnOf, IsBatchOf, rows_at, cells_of}
+use Rattle.array_select.specs.Room.{text_bytes_of, allowed, most_batch_cells, most_batch_texts, HasRoom}
+use Rattle.array_select.specs.Fitting.{AreLight}
+use Rattle.join_batches.specs.BatchSides.{copied_at, type_in, width_of, AreSides, ArePairs, AllFit, IsColumnOf, IsPairBatch, rows_at, cells_of}
 use Rattle.join_batches.proofs.Cells.{row_wide}
 use Rattle.join_batches.proofs.Typed.{taken_more}
 
@@ -106,7 +105,7 @@ sum_made f g (x ∷ xs) =
     sum_by-cons (λ x. f (g x)) x xs ∙ ap (λ (n : ℕ). f (g x) + n) (sum_made f g xs) ∙ sym (sum_by-cons f (g x) (map g xs))
 
 -- a batch of them has room
-batch_light : (sides : Sides) (share : ℕ) (shown : List ℕ) (rows : List (List Value)) (batch : BatchAt) → AllZip (IsColumnOf rows) shown batch.columns →
+batch_light : (sides : BatchSides) (share : ℕ) (shown : List ℕ) (rows : List (List Value)) (batch : BatchAt) → AllZip (IsColumnOf rows) shown batch.columns →
     All (λ number. AreLight (allowed share (type_in sides number)) (cells_of rows number)) shown →
     sum_by (allowed share) (map (type_in sides) shown) ≤ most_batch_texts → batch.rows ≡ length rows →
     (1 < batch.rows → batch.rows * length shown ≤ most_batch_cells) → HasRoom batch
@@ -129,10 +128,10 @@ all_cells width (row ∷ rows) wide =
     ∙ ap (λ (rest : List (List Value)). row ∷ rest) (all_cells width rows (All-tail (λ (row : List Value). length row ≡ width) row rows wide))
 
 -- a batch of these columns of so many joined rows
-pub batch_made : (sides : Sides) (share : ℕ) (shown : List ℕ) (pairs : List Pair) (count : ℕ) (columns : List ColumnAt) → AreSides sides → ArePairs sides pairs →
+pub batch_made : (sides : BatchSides) (share : ℕ) (shown : List ℕ) (pairs : List Pair) (count : ℕ) (columns : List ColumnAt) → AreSides sides → ArePairs sides pairs →
     (1 < length pairs → length pairs * length shown ≤ most_batch_cells) → sum_by (allowed share) (map (type_in sides) shown) ≤ most_batch_texts →
     AllFit sides share pairs shown count → AllZip (IsColumnOf (rows_at sides (take count pairs))) shown columns →
-    AreOf (map (copied_at sides) shown) columns → IsBatchOf sides shown pairs (record { columns = columns; rows = count })
+    AreOf (map (copied_at sides) shown) columns → IsPairBatch sides shown pairs (record { columns = columns; rows = count })
 batch_made sides share shown pairs count columns are there cells shares fit all typed =
     let rows = rows_at sides (take count pairs) in
     let few = fit.within in
@@ -150,7 +149,7 @@ batch_made sides share shown pairs count columns are there cells shares fit all 
     }
 
 -- a batch of the first pairs is one of all
-pub batch_of_first : (sides : Sides) (shown : List ℕ) (pairs : List Pair) (n : ℕ) (batch : BatchAt) → IsBatchOf sides shown (take n pairs) batch → IsBatchOf sides shown pairs batch
+pub batch_of_first : (sides : BatchSides) (shown : List ℕ) (pairs : List Pair) (n : ℕ) (batch : BatchAt) → IsPairBatch sides shown (take n pairs) batch → IsPairBatch sides shown pairs batch
 batch_of_first sides shown pairs n batch is =
     let size = length-take n pairs in
     let few = is.few in

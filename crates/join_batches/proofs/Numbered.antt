@@ -1,10 +1,10 @@
 -- Batches from a number on.
 use Rattle.std.proofs.Common.{◌≡◌, ◌<◌, ℕ, zero, suc, ◌+◌, List, [], ◌∷◌, length, drop, arith}
 use Rattle.arrays.specs.Batch.{BatchAt}
-use Rattle.join_batches.specs.Rows.{batch_at}
+use Rattle.join_batches.specs.Rows.{batch_numbered}
 
 -- the first of them has the number
-pub first_at : (all : List BatchAt) (number : ℕ) (batch : BatchAt) (rest : List BatchAt) → drop number all ≡ batch ∷ rest → batch_at all number ≡ batch
+pub first_at : (all : List BatchAt) (number : ℕ) (batch : BatchAt) (rest : List BatchAt) → drop number all ≡ batch ∷ rest → batch_numbered all number ≡ batch
 first_at [] zero batch rest e = cc
 first_at [] (suc number) batch rest e = cc
 first_at (one ∷ all) zero batch rest e = cc

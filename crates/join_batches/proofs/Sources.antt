@@ -3,53 +3,33 @@ use Rattle.std.proofs.Common.{◌≡◌, ◌≤◌, ◌<◌, ℕ, suc, ◌+◌, 
 use Rattle.std.proofs.lemmas.Bool.{lt-ltb, le-ltb, cases_lt}
 use Rattle.std.proofs.lemmas.List.{take_more, get_or-map, length-map, get_or_append_left, get_or-append-add, map-append, take-map}
 use Rattle.std.proofs.lemmas.List.Elements.{All-nil, All-cons, All-map, All-weaker}
-use Rattle.arrow_schema.specs.declared.data_type.DataType.{DataType}
-use Rattle.arrow_schema.specs.declared.data_type.DataType.TheVariants.{Utf8}
+use Rattle.arrow_types.specs.declared.data_type.DataType.{DataType}
+use Rattle.arrow_types.specs.declared.data_type.DataType.TheVariants.{Utf8}
 use Rattle.scan_base.specs.declared.value.Value.{Value}
 use Rattle.scan_base.specs.Predicate.{cell_in}
 use Rattle.array_select.specs.declared.many_places.SlotPlace.{SlotPlace}
 use Rattle.arrays.specs.Batch.{BatchAt, AreLong}
 use Rattle.arrays.specs.Column.{ColumnAt, slot_of}
 use Rattle.array_select.specs.GatherMany.{column_in, value_in, IsPlaceIn}
-use Rattle.arrays.specs.Typed.{IsOfType}
-use Rattle.arrays.specs.Written.{texts_joined}
+use Rattle.arrays.specs.TypedLayouts.{IsOfType}
+use Rattle.arrays.specs.WrittenSlots.{texts_joined}
 use Rattle.hash_join.specs.declared.pair.Pair.{Pair}
-use Rattle.join_batches.specs.declared.sides.Sides.{Sides}
-use Rattle.join_batches.specs.Rows.{batch_at, pair_row, IsPair}
-use Rattle.join_batches.specs.Sides.{types_of, AreSides, ArePairs, AreSources, left_place, right_place, place_for, rows_at, cells_of}
+use Rattle.join_batches.specs.declared.batch_sides.BatchSides.{BatchSides}
+use Rattle.join_batches.specs.Rows.{batch_numbered, pair_row, IsPair}
+use Rattle.join_batches.specs.BatchSides.{side_types, AreSides, ArePairs, AreSources, left_place, right_place, place_for, rows_at, cells_of}
 use Rattle.join_batches.proofs.Cells.{left_cell, right_cell, same_at}
 use Rattle.join_batches.proofs.Plain.{none}
 use Rattle.join_batches.proofs.Typed.{typed_long, typed_at}
 
--- one place more
-pub places_more : (place_of : Pair → SlotPlace) (pairs : List Pair) (i : ℕ) (pair : Pair) (places new : List SlotPlace) (place : SlotPlace) → i < length pairs → pair ≡ get_or pairs i pair →
-    new ≡ places ++ place ∷ [] → place ≡ place_of pair → places ≡ map place_of (take i pairs) → new ≡ map place_of (take (i + 1) pairs)
-places_more place_of pairs i pair places new place low is e here so_far =
-    e ∙ ap (λ (some : List SlotPlace). some ++ place ∷ []) so_far ∙ ap (λ (p : SlotPlace). map place_of (take i pairs) ++ p ∷ []) (here ∙ ap place_of is)
-    ∙ sym (ap (map place_of) (take_more pairs i pair low) ∙ map-append place_of (take i pairs) (get_or pairs i pair ∷ []))
-
 -- the side of a column
-pub left_side : (sides : Sides) (number : ℕ) (pair : Pair) → number < length sides.left_types.now → place_for sides number pair ≡ left_place pair
+pub left_side : (sides : BatchSides) (number : ℕ) (pair : Pair) → number < length sides.left_types.now → place_for sides number pair ≡ left_place pair
 left_side sides number pair h = ap (λ (left : Bool). if left then left_place pair else right_place pair) (lt-ltb number (length sides.left_types.now) h)
 
-pub right_side : (sides : Sides) (number : ℕ) (pair : Pair) → length sides.left_types.now ≤ number → place_for sides number pair ≡ right_place pair
+pub right_side : (sides : BatchSides) (number : ℕ) (pair : Pair) → length sides.left_types.now ≤ number → place_for sides number pair ≡ right_place pair
 right_side sides number pair h = ap (λ (left : Bool). if left then left_place pair else right_place pair) (le-ltb number (length sides.left_types.now) h)
 
--- all places are those of one side
-same_places : {X Y : Type 0} (f g : X → Y) (xs : List X) → ((x : X) → f x ≡ g x) → map f xs ≡ map g xs
-same_places f g [] same = refl
-same_places f g (x ∷ xs) same = ap (λ y. y ∷ map f xs) (same x) ∙ ap (λ ys. g x ∷ ys) (same_places f g xs same)
-
-pub left_places_for : (sides : Sides) (number : ℕ) (pairs : List Pair) (places : List SlotPlace) → number < length sides.left_types.now → places ≡ map left_place pairs →
-    places ≡ map (place_for sides number) pairs
-left_places_for sides number pairs places h e = e ∙ same_places left_place (place_for sides number) pairs (λ pair. sym (left_side sides number pair h))
-
-pub right_places_for : (sides : Sides) (number : ℕ) (pairs : List Pair) (places : List SlotPlace) → length sides.left_types.now ≤ number → places ≡ map right_place pairs →
-    places ≡ map (place_for sides number) pairs
-right_places_for sides number pairs places h e = e ∙ same_places right_place (place_for sides number) pairs (λ pair. sym (right_side sides number pair h))
-
 -- a left column has the cells
-pub left_has : (sides : Sides) (number : ℕ) (column : ColumnAt) (columns : List ColumnAt) → AreSides sides → columns ≡ sides.left.now.columns → AreLong sides.left.now.rows columns →
+pub left_has : (sides : BatchSides) (number : ℕ) (column : ColumnAt) (columns : List ColumnAt) → AreSides sides → columns ≡ sides.left.now.columns → AreLong sides.left.now.rows columns →
     number < length sides.left_types.now → column ≡ get_or columns number column → AreSources sides number (column ∷ [])
 left_has sides number column columns are e long h is =
     let left = sides.left.now in
@@ -59,9 +39,9 @@ left_has sides number column columns are e long h is =
     let size : column.len ≡ left.rows = ap (λ (c : ColumnAt). c.len) is ∙ long number column (omega (arith, within, ap length e)) in
     let of = get_or_append_left sides.left_types.now sides.right_types.now Utf8 number h in
     record {
-      typed = All-cons (λ c. IsOfType (get_or (types_of sides) number Utf8) c.layout) column [] (subst (λ (t : DataType). IsOfType t column.layout) (sym of)
+      typed = All-cons (λ c. IsOfType (get_or (side_types sides) number Utf8) c.layout) column [] (subst (λ (t : DataType). IsOfType t column.layout) (sym of)
           (subst (λ (c : ColumnAt). IsOfType (get_or sides.left_types.now number Utf8) c.layout) (sym found) (typed_at sides.left_types.now left.columns number Utf8 column are.left h)))
-          (All-nil (λ c. IsOfType (get_or (types_of sides) number Utf8) c.layout));
+          (All-nil (λ c. IsOfType (get_or (side_types sides) number Utf8) c.layout));
       there = λ pair there. subst (IsPlaceIn (column ∷ [])) (sym (left_side sides number pair h)) (record { column = omega arith; slot = omega (arith, there.left_row, size) });
       cells = λ pair there. ap (value_in (column ∷ [])) (left_side sides number pair h)
           ∙ ap (λ (c : ColumnAt). slot_of c pair.left) found ∙ sym (left_cell sides.rights.now left pair number column within);
@@ -72,7 +52,7 @@ abbrev pub of_number : ℕ → BatchAt → ColumnAt
 of_number number batch = get_or batch.columns number none
 
 -- the columns of all right batches have the cells
-pub right_have : (sides : Sides) (number : ℕ) (columns : List ColumnAt) → AreSides sides → number < length sides.right_types.now → columns ≡ map (of_number number) sides.rights.now →
+pub right_have : (sides : BatchSides) (number : ℕ) (columns : List ColumnAt) → AreSides sides → number < length sides.right_types.now → columns ≡ map (of_number number) sides.rights.now →
     All (λ (batch : BatchAt). (of_number number batch).len ≡ batch.rows) sides.rights.now → AreSources sides (length sides.left_types.now + number) columns
 right_have sides number columns are h e long =
     let left = sides.left.now in
@@ -80,21 +60,21 @@ right_have sides number columns are h e long =
     let nothing : BatchAt = record { columns = []; rows = 0 } in
     let of = get_or-append-add sides.left_types.now sides.right_types.now number Utf8 in
     let size = ap length e ∙ length-map rights (of_number number) in
-    let found : (i : ℕ) → i < length rights → column_in columns i ≡ of_number number (batch_at rights i) =
+    let found : (i : ℕ) → i < length rights → column_in columns i ≡ of_number number (batch_numbered rights i) =
     λ i low. ap (λ (some : List ColumnAt). column_in some i) e ∙ get_or-map (of_number number) rights i nothing _ low in
     record {
-      typed = subst (All (λ (c : ColumnAt). IsOfType (get_or (types_of sides) (length sides.left_types.now + number) Utf8) c.layout)) (sym e)
-          (All-map (λ (c : ColumnAt). IsOfType (get_or (types_of sides) (length sides.left_types.now + number) Utf8) c.layout) (of_number number) rights
-          (All-weaker _ (λ (batch : BatchAt). IsOfType (get_or (types_of sides) (length sides.left_types.now + number) Utf8) (of_number number batch).layout)
+      typed = subst (All (λ (c : ColumnAt). IsOfType (get_or (side_types sides) (length sides.left_types.now + number) Utf8) c.layout)) (sym e)
+          (All-map (λ (c : ColumnAt). IsOfType (get_or (side_types sides) (length sides.left_types.now + number) Utf8) c.layout) (of_number number) rights
+          (All-weaker _ (λ (batch : BatchAt). IsOfType (get_or (side_types sides) (length sides.left_types.now + number) Utf8) (of_number number batch).layout)
           (λ batch typed. subst (λ (t : DataType). IsOfType t (of_number number batch).layout) (sym of) (typed_at sides.right_types.now batch.columns number Utf8 none typed h)) rights are.rights));
       there = λ pair is. subst (IsPlaceIn columns) (sym (right_side sides (length sides.left_types.now + number) pair (omega arith)))
           (record {
             column = omega (arith, size, is.batch);
-            slot = let rows : (column_in columns pair.batch).len ≡ (batch_at rights pair.batch).rows = ap (λ (c : ColumnAt). c.len) (found pair.batch is.batch) ∙ long pair.batch nothing is.batch in
+            slot = let rows : (column_in columns pair.batch).len ≡ (batch_numbered rights pair.batch).rows = ap (λ (c : ColumnAt). c.len) (found pair.batch is.batch) ∙ long pair.batch nothing is.batch in
                 omega (arith, rows, is.right_row);
           });
       cells = λ pair is.
-          let right = batch_at rights pair.batch in
+          let right = batch_numbered rights pair.batch in
           let wide = typed_long sides.right_types.now right.columns (are.rights pair.batch nothing is.batch) in
           ap (value_in columns) (right_side sides (length sides.left_types.now + number) pair (omega arith))
           ∙ ap (λ (c : ColumnAt). slot_of c pair.row) (found pair.batch is.batch)
@@ -129,7 +109,7 @@ column_is batch number columns column e low is =
     is ∙ same_at columns number column none low ∙ ap (λ (some : List ColumnAt). get_or some number none) e
 
 -- the values at the places are the cells
-pub values_are_cells : (sides : Sides) (number : ℕ) (columns : List ColumnAt) (pairs : List Pair) → AreSources sides number columns → ArePairs sides pairs →
+pub values_are_cells : (sides : BatchSides) (number : ℕ) (columns : List ColumnAt) (pairs : List Pair) → AreSources sides number columns → ArePairs sides pairs →
     map (value_in columns) (map (place_for sides number) pairs) ≡ cells_of (rows_at sides pairs) number
 values_are_cells sides number columns pairs sources there = each pairs there
   where
@@ -140,7 +120,7 @@ values_are_cells sides number columns pairs sources there = each pairs there
         ∙ ap (λ (values : List Value). cell_in (pair_row sides.rights.now sides.left.now pair) number ∷ values) (each some (λ k d low. all (suc k) d (omega (arith, low))))
 
 -- each place is one of a slot
-pub places_there : (sides : Sides) (number : ℕ) (columns : List ColumnAt) (pairs : List Pair) → AreSources sides number columns → ArePairs sides pairs →
+pub places_there : (sides : BatchSides) (number : ℕ) (columns : List ColumnAt) (pairs : List Pair) → AreSources sides number columns → ArePairs sides pairs →
     All (IsPlaceIn columns) (map (place_for sides number) pairs)
 places_there sides number columns pairs sources there =
     All-map (IsPlaceIn columns) (place_for sides number) pairs
@@ -151,7 +131,7 @@ pub first_placed : (place_of : Pair → SlotPlace) (count : ℕ) (places : List 
 first_placed place_of count places pairs e = ap (take count) e ∙ take-map place_of count pairs
 
 -- the texts at the places were counted
-pub places_counted : (sides : Sides) (number : ℕ) (columns : List ColumnAt) (places : List SlotPlace) (pairs : List Pair) (fit : Bool) (most : ℕ) → AreSources sides number columns →
+pub places_counted : (sides : BatchSides) (number : ℕ) (columns : List ColumnAt) (places : List SlotPlace) (pairs : List Pair) (fit : Bool) (most : ℕ) → AreSources sides number columns →
     ArePairs sides pairs → places ≡ map (place_for sides number) pairs → fit ≡ nat_le (length (texts_joined (map (value_in columns) places))) most →
     fit ≡ nat_le (length (texts_joined (cells_of (rows_at sides pairs) number))) most
 places_counted sides number columns places pairs fit most sources there at is =

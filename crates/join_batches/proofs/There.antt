@@ -1,18 +1,13 @@
 -- The places of pairs are there.
-use Rattle.std.proofs.Common.{◌≡◌, ◌≤◌, ◌<◌, ℕ, zero, suc, ◌+◌, ◌-◌, ◌==◌, List, [], ◌∷◌, ◌++◌, All, length, map, drop, zip, if◌then◌else◌, refl, sym, ap, arith, subst}
+use Rattle.std.proofs.Common.{◌≡◌, ◌≤◌, ◌<◌, ℕ, zero, suc, ◌+◌, ◌-◌, ◌==◌, List, [], ◌∷◌, ◌++◌, All, length, map, drop, zip, if◌then◌else◌, refl, sym, arith, subst}
 use Rattle.std.specs.List.{filter, flat_map, range_with_len}
 use Rattle.std.proofs.lemmas.List.Elements.{All-nil, All-cons, All-head, All-tail, All-append, All-map, All-filter, All-drop, All-weaker}
 use Rattle.arrays.specs.Batch.{BatchAt, row_of}
 use Rattle.hash_join.specs.declared.pair.Pair.{Pair}
 use Rattle.hash_join.specs.declared.build.Probe.{Probe}
-use Rattle.hash_join.specs.Pairs.{BuildAt, key_in, keys_join, places, row_at, pairs_of, pairs_ahead}
-use Rattle.join_batches.specs.Rows.{batch_at, IsPair}
+use Rattle.hash_join.specs.Pairs.{BuildAt, key_values, keys_join, places, row_at, pairs_of, pairs_ahead}
+use Rattle.join_batches.specs.Rows.{batch_numbered, IsPair}
 use Rattle.join_batches.proofs.Numbered.{first_at, first_within, others_from}
-
--- what holds of all items of each list
-all_joined : {A B : Type 0} (P : B → Type 0) (f : A → List B) (xs : List A) → ((x : A) → All P (f x)) → All P (flat_map f xs)
-all_joined P f [] each = All-nil P
-all_joined P f (x ∷ xs) each = All-append P (f x) (flat_map f xs) (each x) (all_joined P f xs each)
 
 -- the numbers of a range are below its end
 all_below : (first n end : ℕ) → first + n ≤ end → All (λ (row : ℕ). row < end) (range_with_len first n)
@@ -23,7 +18,7 @@ all_below first (suc n) end h =
 -- a place of a row of batches
 record IsPlace (all : List BatchAt) (place : ℕ × ℕ) : Type 0 where
   batch : place.0 < length all
-  row : place.1 < (batch_at all place.0).rows
+  row : place.1 < (batch_numbered all place.0).rows
 
 places_from : (all rest : List BatchAt) (number : ℕ) → drop number all ≡ rest →
     All (IsPlace all) (flat_map (λ (p : ℕ × BatchAt). map (λ row. (p.0, row)) (range_with_len 0 p.1.rows)) (zip (range_with_len number (length rest)) rest))
@@ -43,7 +38,7 @@ all_places batches = places_from batches batches 0 refl
 module _ (build : BuildAt) (left : BatchAt) (key : List ℕ) where
   pairs_there : (row from : ℕ) → row < left.rows → All (IsPair build.batches left) (pairs_of build left key row from)
   pairs_there row from low =
-      let test = λ (place : ℕ × ℕ). keys_join (key_in key (row_of left.columns row)) (key_in build.key (row_at build.batches place)) in
+      let test = λ (place : ℕ × ℕ). keys_join (key_values key (row_of left.columns row)) (key_values build.key (row_at build.batches place)) in
       let some = drop from (places build.batches) in
       All-map (IsPair build.batches left) (λ (place : ℕ × ℕ). record { left = row; batch = place.0; row = place.1 }) (filter test some)
       (All-weaker (IsPlace build.batches) (λ (place : ℕ × ℕ). IsPair build.batches left (record { left = row; batch = place.0; row = place.1 }))
@@ -75,9 +70,3 @@ module _ (build : BuildAt) (left : BatchAt) (key : List ℕ) where
       first (pair ∷ some) more all =
           All-cons (IsPair build.batches left) pair some (All-head (IsPair build.batches left) pair (some ++ more) all)
           (first some more (All-tail (IsPair build.batches left) pair (some ++ more) all))
-
-  -- no pair of a batch without rows
-  pub none_ahead : (probe : Probe) → left.rows ≡ 0 → pairs_ahead build left key probe ≡ []
-  none_ahead probe e =
-      let none : left.rows - probe.left ≡ 0 = omega (arith, e) in
-      ap (λ (n : ℕ). flat_map (λ row. pairs_of build left key row (if row == probe.left then probe.from else 0)) (range_with_len probe.left n)) none

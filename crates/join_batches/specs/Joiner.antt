@@ -3,16 +3,15 @@ use Rattle.std.specs.Prelude.{◌≡◌, ◌≤◌, ◌<◌, ℕ, All, List, [],
 use Rattle.std.specs.Prelude.{unwrap_or, Option, Some, None, Result, Ok, Err}
 use Rattle.std.specs.List.{filter, flat_map}
 use Rattle.std.specs.declared.alloc.AllocError.{AllocError}
-use Rattle.arrow_schema.specs.declared.data_type.DataType.{DataType}
-use Rattle.arrow_schema.specs.declared.data_type.DataType.TheVariants.{Utf8}
-use Rattle.arrow_schema.specs.Answer.{copied_type}
+use Rattle.arrow_types.specs.declared.data_type.DataType.{DataType}
+use Rattle.arrow_types.specs.declared.data_type.DataType.TheVariants.{Utf8}
+use Rattle.arrow_types.specs.Answer.{copied_type}
 use Rattle.scan_base.specs.declared.value.Value.{Value}
 use Rattle.scan_base.specs.Predicate.{cell_in}
 use Rattle.arrays.specs.Batch.{BatchAt, rows_of}
-use Rattle.arrays.specs.Typed.{AreOf}
-use Rattle.array_select.specs.Room.{most_batch_rows}
-use Rattle.batch_room.specs.Room.{HasRoom}
-use Rattle.hash_join.specs.Pairs.{key_in, keys_join}
+use Rattle.arrays.specs.TypedLayouts.{AreOf}
+use Rattle.array_select.specs.Room.{most_batch_rows, HasRoom}
+use Rattle.hash_join.specs.Pairs.{key_values, keys_join}
 
 -- The types of the columns of both sides, the numbers of those that are the key, the rows of the
 -- right side in order, and the joined rows of the left batch that are still to be given.
@@ -28,7 +27,8 @@ pub record JoinerAt : Type 0 where
 abbrev pub joined_with : JoinerAt → List Value → List (List Value)
 joined_with joiner left =
     map (λ right. left ++ right)
-    (filter (λ right. keys_join (key_in joiner.left_key left) (key_in joiner.right_key right))
+    (filter
+    (λ right. keys_join (key_values joiner.left_key left) (key_values joiner.right_key right))
     joiner.rights)
 
 -- the joined rows of left rows, in the order of nested loops

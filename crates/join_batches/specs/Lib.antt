@@ -1,6 +1,6 @@
 pub mod Joiner
 pub mod Rows
-pub mod Sides
-pub mod Built
-pub mod Left
-pub mod Held
+pub mod BatchSides
+pub mod BuiltSides
+pub mod LeftPairs
+pub mod HeldRows

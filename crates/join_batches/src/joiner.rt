@@ -6,21 +6,20 @@ ghost use Rattle.std.specs.Arc.{arc_value};
 ghost use Rattle.std.specs.List.{list_all, flat_map, range_with_len};
 ghost use Rattle.scan_base.specs.Limits.{most_rows};
 ghost use Rattle.arrays.specs.Batch.{BatchAt, rows_of};
-ghost use Rattle.arrays.specs.Typed.{AreOf};
+ghost use Rattle.arrays.specs.TypedLayouts.{AreOf};
 ghost use Rattle.hash_join.specs.Pairs.{places};
-ghost use Rattle.work_watch.specs.Told.{ToldAtLeast};
+ghost use Rattle.work_watch.specs.WatchedWork.{ToldAtLeast};
 ghost use Rattle.array_select.specs.Room.{most_batch_rows};
-ghost use Rattle.join_batches.specs.Built.{AreBuilt, unfed};
+ghost use Rattle.join_batches.specs.BuiltSides.{AreBuilt, unfed};
 ghost use Rattle.join_batches.specs.Joiner.{JoinsNext, JoinsShown, joined_of, joined_types};
 
-use crate::left::LeftPairs;
-use crate::sides::Sides;
-use array_select::MOST_BATCH_ROWS;
+use crate::batch_sides::BatchSides;
+use crate::left_pairs::LeftPairs;
+use array_select::{MOST_BATCH_ROWS, next_most, tried_rows};
 use arrays::Batch;
-use arrow_schema::DataType;
-use batch_room::{next_most, tried_rows};
+use arrow_types::DataType;
 use hash_join::{Build, Probe, RightSide};
-use hash_seed::HashSeed;
+use scan_base::HashSeed;
 use std::alloc::{AllocError, Global};
 use std::marker::Model;
 use std::sync::Arc;
@@ -94,7 +93,7 @@ impl Model for Joiner {
 
     ghost Value = { JoinerAt };
 
-    ghost use Rattle.join_batches.specs.Held.{joiner_of, IsJoiner};
+    ghost use Rattle.join_batches.specs.HeldRows.{joiner_of, IsJoiner};
 
     ghost view = { joiner_of };
 
@@ -262,7 +261,7 @@ impl Joiner {
             return Ok(None);
         }
         let pairs = &self.left.pairs.as_slice()[self.left.given..];
-        let sides = Sides {
+        let sides = BatchSides {
             left: &self.left.batch,
             left_types: built.left.types.as_slice(),
             rights: built.build.batches(),

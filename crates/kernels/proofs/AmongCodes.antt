@@ -1,10 +1,8 @@
 -- Codes that stand among others.
-use Rattle.std.proofs.Common.{◌≡◌, ℕ, zero, suc, ◌+◌, ◌*◌, ◌^◌, ◌<◌, ◌≤◌, ◌==◌, Bool, true, false, ◌||◌, if◌then◌else◌, List, [], ◌∷◌, ◌++◌, length, map, get_or, drop, drop-cons, ℤ, Option, Some, None, Result, Ok, Err, IfOk, IfSome, inl, inr, refl, sym, ap, ◌∙◌, arith, add-one}
+use Rattle.std.proofs.Common.{◌≡◌, ℕ, zero, suc, ◌+◌, ◌*◌, ◌^◌, ◌<◌, ◌≤◌, ◌==◌, Bool, true, false, ◌||◌, if◌then◌else◌, List, [], ◌∷◌, length, map, get_or, drop, drop-cons, Option, Some, None, Result, Ok, Err, IfOk, IfSome, inl, inr, refl, sym, ap, ◌∙◌, arith, add-one}
 use Rattle.std.specs.Int.RustNames.{bit_or}
-use Rattle.std.specs.Ordering.{int_cmp, is_eq}
 use Rattle.std.proofs.lemmas.Bool.{cases_eq, eq-eqb, ne_eqb}
 use Rattle.std.proofs.lemmas.List.{drop_all}
-use Rattle.std.proofs.lemmas.List.Folds.{list_any-append}
 use Rattle.byteorder.specs.Numbers.{little_from-lt}
 use Rattle.scan_base.specs.declared.truth.Truth.TheVariants.{Unknown}
 use Rattle.scan_base.specs.declared.value.Value.{Value}
@@ -15,9 +13,9 @@ use Rattle.scan_base.specs.Comparison.{compared}
 use Rattle.scan_base.specs.Predicate.{any_equal, operand_value}
 use Rattle.scan_base.specs.Truth.{truth_or, truth_from}
 use Rattle.scan_base.proofs.Truths.{or_assoc, false_or, or_false}
-use Rattle.arrow_schema.specs.declared.data_type.IntegerType.{IntegerType}
-use Rattle.arrow_schema.specs.declared.data_type.IntegerType.TheVariants.{Int8, Int16, Int32, Int64, UInt8, UInt16, UInt32, UInt64}
-use Rattle.arrow_schema.specs.DataType.{bit_width}
+use Rattle.arrow_types.specs.declared.data_type.IntegerType.{IntegerType}
+use Rattle.arrow_types.specs.declared.data_type.IntegerType.TheVariants.{Int8, Int16, Int32, Int64, UInt8, UInt16, UInt32, UInt64}
+use Rattle.arrow_types.specs.DataType.{bit_width}
 use Rattle.arrays.specs.declared.layout.Layout.TheVariants.{Integers}
 use Rattle.arrays.specs.Integers.{IntegersAt}
 use Rattle.arrays.specs.Layout.{layout_slot}
@@ -39,12 +37,6 @@ eq_turn a b = elim (cases_eq a b) [
 either_assoc : (a b c : Bool) → ((a || b) || c) ≡ (a || (b || c))
 either_assoc true b c = refl
 either_assoc false b c = refl
-
-either_turn : (a b : Bool) → (a || b) ≡ (b || a)
-either_turn true true = refl
-either_turn true false = refl
-either_turn false true = refl
-either_turn false false = refl
 
 either_false : (a : Bool) → (a || false) ≡ a
 either_false true = refl
@@ -80,21 +72,7 @@ gathers_all codes code_of i word all had row lt =
 
 -- ---- one code more
 
-pub among_more : (codes : List ℕ) (other code : ℕ) → is_among (codes ++ other ∷ []) code ≡ (is_among codes code || (other == code))
-among_more codes other code = list_any-append (λ n. n == code) codes (other ∷ []) ∙ ap (λ b. is_among codes code || b) (either_false (other == code))
-
 -- ---- items
-
-truth_either : (a b : Bool) → truth_from (a || b) ≡ truth_or (truth_from a) (truth_from b)
-truth_either true true = refl
-truth_either true false = refl
-truth_either false true = refl
-truth_either false false = refl
-
--- a number's code is added
-pub item_more : (before after : Bool) (number other : ℤ) → after ≡ (before || is_eq (int_cmp number other)) →
-    truth_from after ≡ truth_or (truth_from before) (compared Equal (Int number) (Int other))
-item_more before after number other is = ap truth_from is ∙ truth_either before (is_eq (int_cmp number other))
 
 -- the codes of the first `i` items
 abbrev pub HasCodes : IntegerType → List (Operand ℕ) → ℕ → List ℕ → Type 0

@@ -2,7 +2,7 @@
 use Rattle.std.proofs.Common.{◌≡◌, ℕ, ◌+◌, ◌<◌, ◌≤◌, ◌==◌, Bool, true, false, ◌||◌, ◌&&◌, not, if◌then◌else◌, List, [], ◌∷◌, ◌++◌, length, map, get_or, take, ℤ, pos, negsuc, nat_abs, Option, Some, None, is_some, option_map, unwrap_or, slice_get, inl, inr, refl, sym, ap, ◌∙◌, arith, add-one}
 use Rattle.std.specs.List.{list_all}
 use Rattle.std.proofs.Math.Seq.{take-suc}
-use Rattle.std.proofs.lemmas.Bool.{cases_eq, cases_lt, eqb-true, eq-eqb, ne_eqb, and_parts}
+use Rattle.std.proofs.lemmas.Bool.{cases_lt, eqb-true, and_parts}
 use Rattle.std.proofs.lemmas.List.{get_or_default, get_or-map}
 use Rattle.std.proofs.lemmas.Option.{slice_get-get_or, slice_get_past}
 use Rattle.scan_base.specs.declared.truth.Truth.{Truth}
@@ -15,8 +15,7 @@ use Rattle.scan_base.specs.declared.predicate.Operand.TheVariants.{Column, Liter
 use Rattle.scan_base.specs.Comparison.{compared, nullness}
 use Rattle.scan_base.specs.Predicate.{Pred, conjunction, disjunction, negation, truth_test, comparing, between, membership, null_test, constant, any_equal, operand_names, operand_value, names_only, truth_of, within}
 use Rattle.scan_base.specs.Truth.{truth_and, truth_or, truth_not, truth_is, negated_if, truth_from}
-use Rattle.scan_base.proofs.Truths.{or_false}
-use Rattle.arrow_schema.specs.DataType.{is_signed}
+use Rattle.arrow_types.specs.DataType.{is_signed}
 use Rattle.arrays.specs.declared.layout.Layout.TheVariants.{Indices}
 use Rattle.arrays.specs.Dictionary.{entry_at}
 use Rattle.arrays.specs.Indices.{IndicesAt, AreIndices, index_stands}
@@ -24,9 +23,8 @@ use Rattle.arrays.specs.Layout.{layout_slot}
 use Rattle.arrays.specs.Number.{integer_at}
 use Rattle.arrays.specs.Validity.{is_valid}
 use Rattle.kernels.specs.Codes.{code_at, is_among}
-use Rattle.kernels.specs.Entries.{truth_at, truths_at, unless_known, AreTrueAt, IsPushed, by_entry}
+use Rattle.kernels.specs.Entries.{truth_at, truths_at, unless_known, AreTrueAt, by_entry}
 use Rattle.kernels.specs.Ranges.{where_known}
-use Rattle.kernels.proofs.AmongCodes.{among_more, eq_turn}
 
 -- ---- a predicate that names one column alone
 
@@ -94,9 +92,6 @@ names_any passes all (constant truth) = refl
 
 -- ---- the truths of entries, one by one
 
-pub entries_none : (predicate : Pred ℕ) (values : List Value) (truths : List Truth) → truths ≡ [] → truths ≡ truths_at predicate (take 0 values)
-entries_none predicate values truths none = none
-
 pub entries_more : (predicate : Pred ℕ) (values : List Value) (truths : List Truth) (i : ℕ) (value : Value) (truth : Truth) → i < length values → truths ≡ truths_at predicate (take i values) →
     value ≡ get_or values i Null → truth ≡ truth_at predicate value → truths ++ truth ∷ [] ≡ truths_at predicate (take (i + 1) values)
 entries_more predicate values truths i value truth low had is said =
@@ -128,54 +123,6 @@ pub record AreTrueUpTo (truths : List Truth) (i : ℕ) (indices : List ℕ) : Ty
   pub done : (index : ℕ) → index < i → get_or truths index Unknown ≡ truth_from (is_among indices index)
   pub left : (index : ℕ) → i ≤ index → truth_from (is_among indices index) ≡ False
 
-pub true_none : (truths : List Truth) (indices : List ℕ) → indices ≡ [] → AreTrueUpTo truths 0 indices
-true_none truths indices none = record {
-  done = λ index lt. absurd (omega (arith, lt));
-  left = λ index le. ap (λ l. truth_from (is_among l index)) none;
-}
-
-pub true_more : (truths : List Truth) (i : ℕ) (truth : Truth) (olds news : List ℕ) → truth ≡ get_or truths i Unknown → AreTrueUpTo truths i olds → IsPushed olds i truth news → AreTrueUpTo truths (i + 1) news
-true_more truths i truth olds news is had pushed = record {
-  done = λ index lt. elim (cases_eq index i) [
-    | inl same ↦
-        sym (pushed index ∙ ap (λ (b : Bool). truth_or (truth_from (is_among olds index)) (if b then truth else False)) (eq-eqb index i same)
-        ∙ ap (λ t. truth_or t truth) (had.left index (omega (arith, same))) ∙ false_first truth ∙ is ∙ ap (λ n. get_or truths n Unknown) (sym same))
-    | inr other ↦
-        had.done index (omega (arith, lt, other))
-        ∙ sym (pushed index ∙ ap (λ (b : Bool). truth_or (truth_from (is_among olds index)) (if b then truth else False)) (ne_eqb index i other) ∙ or_false (truth_from (is_among olds index)))
-  ];
-  left = λ index le.
-      pushed index ∙ ap (λ (b : Bool). truth_or (truth_from (is_among olds index)) (if b then truth else False)) (ne_eqb index i (λ same. absurd (omega (arith, le, same))))
-      ∙ or_false (truth_from (is_among olds index)) ∙ had.left index (omega (arith, le));
-}
-  where
-    false_first : (t : Truth) → truth_or False t ≡ t
-    false_first True = refl
-    false_first False = refl
-    false_first Unknown = refl
-
--- an index that is pushed, and one that is not
-pub pushed_true : (olds news : List ℕ) (index : ℕ) → news ≡ olds ++ index ∷ [] → IsPushed olds index True news
-pushed_true olds news index e other =
-    ap (λ l. truth_from (is_among l other)) e ∙ ap truth_from (among_more olds index other ∙ ap (λ b. is_among olds other || b) (eq_turn index other))
-    ∙ table (is_among olds other) (other == index)
-  where
-    table : (a b : Bool) → truth_from (a || b) ≡ truth_or (truth_from a) (if b then True else False)
-    table true true = refl
-    table true false = refl
-    table false true = refl
-    table false false = refl
-
-pub pushed_false : (olds news : List ℕ) (index : ℕ) → news ≡ olds → IsPushed olds index False news
-pushed_false olds news index e other =
-    ap (λ l. truth_from (is_among l other)) e ∙ table (is_among olds other) (other == index)
-  where
-    table : (a b : Bool) → truth_from a ≡ truth_or (truth_from a) (if b then False else False)
-    table true true = refl
-    table true false = refl
-    table false true = refl
-    table false false = refl
-
 -- ---- slots by their entries
 
 one_code : (signed low : Bool) (code other n : ℕ) → (if signed then (if low then pos code else negsuc other) else pos code) ≡ pos n → code ≡ n
@@ -204,13 +151,6 @@ entry_found predicate values (pos n) code otherwise some is =
 valid_stands : (valid some : Bool) → valid ≡ true → (not valid || some) ≡ true → some ≡ true
 valid_stands true some v e = e
 valid_stands false some v e = absurd cc
-
--- the index of a valid slot is that of an entry
-pub index_within : (cells : IndicesAt) (place : ℕ) → AreIndices cells → place < cells.len → is_valid cells.validity place ≡ true → code_at cells.index cells.values place < length cells.dictionary
-index_within cells place are low valid =
-    let some = valid_stands (is_valid cells.validity place) (is_some (entry_at cells.dictionary (integer_at cells.index cells.values place))) valid (are.indices place low) in
-    (entry_found (null_test false (Column 0)) cells.dictionary (integer_at cells.index cells.values place) (code_at cells.index cells.values place) Unknown some
-    (λ n e. one_code (is_signed cells.index) _ (code_at cells.index cells.values place) _ n e)).0
 
 entry_value : (values : List Value) (index : ℤ) (code : ℕ) → is_some (entry_at values index) ≡ true → ((n : ℕ) → index ≡ pos n → code ≡ n) →
     unwrap_or (entry_at values index) Null ≡ get_or values code Null

@@ -6,7 +6,7 @@ use Rattle.std.specs.Int.Bits.{bit_and}
 use Rattle.std.proofs.lemmas.Bool.{cases_eq, eq-eqb, ne_eqb}
 use Rattle.std.proofs.lemmas.Nat.{and_mask, pow-add}
 use Rattle.std.proofs.lemmas.List.{take-append-drop, length-take-le, drop-drop}
-use Rattle.std.proofs.Math.Seq.{take-add, drop-length}
+use Rattle.std.proofs.Math.Seq.{take-add}
 use Rattle.std.proofs.Math.Nat.{add-mul-mod_self_left, mul_assoc, mod-eq_of_lt, pow-le-pow_right}
 use Rattle.byteorder.specs.Endian.{little_from}
 use Rattle.byteorder.specs.Numbers.{little_from-lt}
@@ -111,15 +111,6 @@ parts_same text bytes at room =
     ∙ split_eq (take k a) (take some (drop (at + k) bytes)) (take k text) (drop k text) sizes
     ∙ ap (λ m. bytes_eq (take m a) (take k text) && bytes_eq (take some (drop (at + k) bytes)) (drop k text)) (sym e3)
     ∙ ap (λ m. bytes_eq (take (at + k - at) a) (take k text) && bytes_eq (take m (drop (at + k) bytes)) (drop k text)) (sym e4))
-
--- a text that has no more than its front
-pub no_rest : (text bytes : List ℕ) (at : ℕ) → length text ≤ 8 → true ≡ bytes_eq (slice_range bytes (at + front_len text) (at + length text)) (drop (front_len text) text)
-no_rest text bytes at few =
-    let k : front_len text ≡ length text = omega (arith, few) in
-    let z : at + length text - (at + length text) ≡ 0 = omega arith in
-    sym (ap (λ m. bytes_eq (slice_range bytes (at + m) (at + length text)) (drop m text)) k
-    ∙ ap (λ m. bytes_eq (take m (drop (at + length text) bytes)) (drop (length text) text)) z
-    ∙ ap (λ l. bytes_eq [] l) (drop-length text))
 
 -- a number of few bytes has room for one more
 pub little_room : (p n : ℕ) (xs : List ℕ) → ((k : ℕ) → slice_index xs k < 256) → n ≤ 7 → little_from p n xs < 2 ^ 56

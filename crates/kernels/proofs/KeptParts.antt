@@ -1,15 +1,11 @@
 -- Rows that the parts of a conjunction keep, one after another.
-use Rattle.std.proofs.Common.{◌≡◌, ℕ, ◌+◌, ◌/◌, ◌%◌, ◌<◌, Bool, true, false, ◌&&◌, List, length, map, get_or, inl, inr, refl, sym, ap, ◌∙◌, arith}
+use Rattle.std.proofs.Common.{◌≡◌, ℕ, ◌+◌, ◌<◌, Bool, true, false, ◌&&◌, List, map, get_or, refl, sym, ap, ◌∙◌, arith}
 use Rattle.std.specs.List.{range_with_len}
-use Rattle.std.proofs.lemmas.Bool.{cases_lt}
 use Rattle.std.proofs.lemmas.List.FromFn.{length-map-range_with_len, get_or-map-range_with_len}
-use Rattle.std.proofs.Math.ListN.{get_or-eq_default}
 use Rattle.scan_base.specs.declared.truth.Truth.{Truth}
 use Rattle.scan_base.specs.declared.truth.Truth.TheVariants.{True, False, Unknown}
 use Rattle.scan_base.specs.Truth.{truth_and, keeps}
-use Rattle.kernels.specs.Kept.{bit_among, Keeps}
-use Rattle.kernels.specs.Words.{bit}
-use Rattle.kernels.proofs.Bits.{bit_of_none}
+use Rattle.kernels.specs.KeptRows.{bit_among, Keeps}
 
 keeps_and : (b : Bool) (s t : Truth) → ((b && keeps s) && keeps t) ≡ (b && keeps (truth_and s t))
 keeps_and false s t = refl
@@ -51,9 +47,3 @@ keeps_none truths words none = record {
   each = λ row lt. none row ∙ sym (ap (λ b. b && keeps (get_or truths row Unknown)) (none row));
   clear = λ row off. off;
 }
-
-pub none_among : (words : List ℕ) → ((k : ℕ) → k < length words → get_or words k 0 ≡ 0) → (row : ℕ) → bit_among words row ≡ false
-none_among words zero row = ap (λ n. bit n (row % 64)) (elim (cases_lt (row / 64) (length words)) [
-  | inl inside ↦ zero (row / 64) inside
-  | inr outside ↦ get_or-eq_default words 0 outside
-]) ∙ bit_of_none (row % 64)

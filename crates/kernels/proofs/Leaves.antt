@@ -7,8 +7,8 @@ use Rattle.scan_base.specs.declared.truth.Truth.TheVariants.{Unknown}
 use Rattle.scan_base.specs.declared.value.Value.{Value}
 use Rattle.scan_base.specs.declared.value.Value.TheVariants.{Null}
 use Rattle.arrays.specs.Column.{slot_of}
-use Rattle.kernels.specs.declared.part.ColumnPart.{ColumnPart}
-use Rattle.kernels.specs.declared.part.RowRange.{RowRange}
+use Rattle.kernels.specs.declared.column_part.ColumnPart.{ColumnPart}
+use Rattle.kernels.specs.declared.column_part.RowRange.{RowRange}
 use Rattle.kernels.specs.Parts.{cell_of, said_in, said_of}
 use Rattle.kernels.proofs.WordRows.{same_map, same_range}
 
@@ -17,16 +17,6 @@ pub part_said : (test : Value → Truth) (part : ColumnPart) (rows : RowRange) (
 part_said test part rows number from len cells =
     ap₂ (λ (a n : ℕ). map (λ (place : ℕ). test (slot_of part.column.now place)) (range_with_len a n)) from len
     ∙ same_map (λ (place : ℕ). test (slot_of part.column.now place)) (λ (row : ℕ). test (cell_of rows row number)) (λ row. ap test (cells row)) (range_with_len rows.from rows.len)
-
--- and of two columns
-pub parts_said : (test : Value → Value → Truth) (left right : ColumnPart) (rows : RowRange) (one other : ℕ) → left.from ≡ rows.from → left.len ≡ rows.len →
-    ((row : ℕ) → slot_of left.column.now row ≡ cell_of rows row one) → ((row : ℕ) → slot_of right.column.now row ≡ cell_of rows row other) →
-    map (λ row. test (slot_of left.column.now row) (slot_of right.column.now row)) (range_with_len left.from left.len)
-    ≡ said_in (λ row. test (cell_of rows row one) (cell_of rows row other)) rows
-parts_said test left right rows one other from len ones others =
-    ap₂ (λ (a n : ℕ). map (λ (row : ℕ). test (slot_of left.column.now row) (slot_of right.column.now row)) (range_with_len a n)) from len
-    ∙ same_map (λ (row : ℕ). test (slot_of left.column.now row) (slot_of right.column.now row)) (λ (row : ℕ). test (cell_of rows row one) (cell_of rows row other))
-    (λ row. ap₂ test (ones row) (others row)) (range_with_len rows.from rows.len)
 
 -- the negation, where a NOT is written
 map_map : {X Y Z : Type 0} (g : Y → Z) (f : X → Y) (xs : List X) → map g (map f xs) ≡ map (λ x. g (f x)) xs

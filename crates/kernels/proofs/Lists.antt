@@ -13,7 +13,7 @@ use Rattle.scan_base.specs.declared.value.Value.{Value}
 use Rattle.scan_base.specs.Comparison.{compared}
 use Rattle.scan_base.specs.Predicate.{any_equal, operand_value}
 use Rattle.scan_base.specs.Truth.{truth_or}
-use Rattle.kernels.specs.declared.part.RowRange.{RowRange}
+use Rattle.kernels.specs.declared.column_part.RowRange.{RowRange}
 use Rattle.kernels.specs.Parts.{cell_of, said_in}
 use Rattle.kernels.proofs.AmongCodes.{item_first}
 

@@ -1,4 +1,4 @@
--- What IS NULL says of slots, by their validity bits, and how many of these there are.
+-- What IS NULL says of slots, by their validity bits.
 use Rattle.std.proofs.Common.{◌≡◌, ℕ, zero, suc, ◌+◌, ◌<◌, ◌≤◌, Bool, true, false, not, if◌then◌else◌, List, [], ◌∷◌, length, map, get_or, Option, Some, None, refl, sym, ap, ◌∙◌, arith}
 use Rattle.std.specs.List.{filter, range_with_len}
 use Rattle.std.specs.Int.RustNames.{bit_xor}
@@ -8,43 +8,12 @@ use Rattle.scan_base.specs.declared.value.Value.{Value}
 use Rattle.scan_base.specs.declared.value.Value.TheVariants.{Null}
 use Rattle.scan_base.specs.Truth.{truth_from}
 use Rattle.scan_base.specs.Value.{is_null}
-use Rattle.arrays.specs.Validity.{is_valid, where_valid, IsLong}
+use Rattle.arrays.specs.Validity.{is_valid}
 use Rattle.kernels.specs.Nulls.{null_truth}
-use Rattle.kernels.specs.Ranges.{validity_count}
 use Rattle.kernels.specs.Words.{bit, by_bits, row_in}
 use Rattle.kernels.proofs.Bits.{xor, xor_bit, xor_true, bit_of_all}
 
--- ---- validity bits
-
-pub counted : (validity : Option (List Bool)) (len : ℕ) → IsLong validity len → len ≤ validity_count validity len
-counted None len long = omega arith
-counted (Some bits) len long = omega (arith, long)
-
--- those of more slots are enough for fewer
-pub enough : (validity : Option (List Bool)) (len count : ℕ) → len ≤ validity_count validity len → count ≤ len → count ≤ validity_count validity count
-enough None len count long le = omega arith
-enough (Some bits) len count long le = omega (arith, long, le)
-
--- so many bits are those of some number of slots
-pub bits_there : (validity : Option (List Bool)) (count place : ℕ) → count ≤ validity_count validity count → place < count →
-    (some : ℕ) × (place < some) × (validity_count validity some ≡ some)
-bits_there None count place long lt = (count, lt, refl)
-bits_there (Some bits) count place long lt = (length bits, omega (arith, long, lt), refl)
-
-pub word_there : (validity : Option (List Bool)) (count from : ℕ) → count ≤ validity_count validity count → from + 64 ≤ count →
-    (some : ℕ) × (from + 64 ≤ some) × (validity_count validity some ≡ some)
-word_there None count from long le = (count, le, refl)
-word_there (Some bits) count from long le = (length bits, omega (arith, long, le), refl)
-
 -- ---- nulls
-
-pub null_where : (validity : Option (List Bool)) (value : ℕ → Value) (place : ℕ) → is_null (value place) ≡ false →
-    is_null (where_valid validity value place) ≡ not (is_valid validity place)
-null_where validity value place some = by (is_valid validity place)
-  where
-    by : (b : Bool) → is_null (if b then value place else Null) ≡ not b
-    by true = some
-    by false = refl
 
 null_bits : (null : Bool) → by_bits null true ≡ truth_from null
 null_bits true = refl

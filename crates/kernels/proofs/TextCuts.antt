@@ -1,9 +1,9 @@
 -- Texts that offsets cut: how long they are, and which ones are a given one.
-use Rattle.std.proofs.Common.{◌≡◌, ℕ, ◌+◌, ◌-◌, ◌%◌, ◌^◌, ◌<◌, ◌≤◌, ◌==◌, Bool, true, false, ◌&&◌, not, ◌||◌, if◌then◌else◌, List, [], ◌∷◌, length, map, drop, Option, Some, None, nat_le, nat_lt, refl, sym, ap, ◌∙◌, arith, length-drop}
-use Rattle.std.specs.Str.{bytes_eq, is_utf8}
+use Rattle.std.proofs.Common.{◌≡◌, ℕ, ◌+◌, ◌-◌, ◌%◌, ◌^◌, ◌<◌, ◌≤◌, ◌==◌, Bool, true, false, not, if◌then◌else◌, List, [], ◌∷◌, length, map, drop, Option, Some, None, refl, sym, ap, ◌∙◌, arith, length-drop}
+use Rattle.std.specs.Str.{bytes_eq}
 use Rattle.std.specs.declared.cmp.Ordering.{Ordering}
 use Rattle.std.specs.declared.cmp.Ordering.TheVariants as order
-use Rattle.std.proofs.lemmas.Bool.{eq-eqb, ne_eqb, leb-true, ltb-true, and_parts}
+use Rattle.std.proofs.lemmas.Bool.{eq-eqb, ne_eqb}
 use Rattle.std.proofs.lemmas.List.{length-take-le}
 use Rattle.std.proofs.lemmas.Map.Text.{is_eq-slice_cmp}
 use Rattle.std.proofs.lemmas.Slice.Eq.{bytes_eq-Decides}
@@ -14,8 +14,6 @@ use Rattle.scan_base.specs.declared.comparison.Comparison.TheVariants.{Equal, No
 use Rattle.scan_base.specs.Truth.{truth_from, truth_not}
 use Rattle.scan_base.specs.Comparison.{compared, order_of, judged}
 use Rattle.arrays.specs.Number.{element_at}
-use Rattle.arrays.specs.Texts.{TextsAt, AreTexts, text_stands, is_offset, offset_at, text_at}
-use Rattle.arrays.specs.Validity.{is_valid}
 use Rattle.kernels.specs.Ranges.{where_known}
 use Rattle.kernels.specs.TextTests.{AreCut, cut_at, is_far}
 
@@ -74,22 +72,3 @@ turned f g [] same = refl
 turned f g (place ∷ places) same = ap (λ t. t ∷ map truth_not (map f places)) (same place) ∙ ap (λ ts. g place ∷ ts) (turned f g places same)
 
 -- ---- texts that stand are cut
-
-stands_parts : (cells : TextsAt) (place : ℕ) → text_stands cells place ≡ true →
-    (offset_at cells place ≤ offset_at cells (place + 1)) × (offset_at cells (place + 1) ≤ length cells.bytes) × (offset_at cells (place + 1) < 2 ^ 31)
-stands_parts cells place stands =
-    let inside : Bool = is_offset cells (place + 1) in
-    let rise : Bool = nat_le (offset_at cells place) (offset_at cells (place + 1)) in
-    let text : Bool = not (is_valid cells.validity place) || is_utf8 (text_at cells place) in
-    let outer = and_parts inside (rise && text) stands in
-    let inner = and_parts rise text outer.1 in
-    let within = and_parts (nat_le (offset_at cells (place + 1)) (length cells.bytes)) (nat_lt (offset_at cells (place + 1)) (2 ^ 31)) outer.0 in
-    (leb-true (offset_at cells place) (offset_at cells (place + 1)) inner.0, leb-true (offset_at cells (place + 1)) (length cells.bytes) within.0, ltb-true (offset_at cells (place + 1)) (2 ^ 31) within.1)
-
-pub texts_cut : (cells : TextsAt) (count : ℕ) → AreTexts cells → count ≤ cells.len → AreCut cells.offsets cells.bytes count
-texts_cut cells count texts le = record {
-  room = λ some. omega (arith, texts.offsets (omega (arith, some, le)), le);
-  rise = λ place lt. (stands_parts cells place (texts.texts place (omega (arith, lt, le)))).0;
-  within = λ place lt. (stands_parts cells place (texts.texts place (omega (arith, lt, le)))).1;
-  short = λ place lt. (stands_parts cells place (texts.texts place (omega (arith, lt, le)))).2;
-}

@@ -1,5 +1,5 @@
 -- Words of texts that are compared with one, bit by bit.
-use Rattle.std.proofs.Common.{◌≡◌, ℕ, ◌+◌, ◌*◌, ◌%◌, ◌^◌, ◌<◌, ◌==◌, Bool, true, false, List, length, inl, inr, refl, sym, ap, ◌∙◌, arith}
+use Rattle.std.proofs.Common.{◌≡◌, ℕ, ◌+◌, ◌*◌, ◌%◌, ◌^◌, ◌<◌, ◌==◌, Bool, true, false, List, length, inl, inr, sym, ap, ◌∙◌, arith}
 use mir.Val.{bool_byte}
 use Rattle.std.specs.Int.{w64, bit_not, trailing_zeros}
 use Rattle.std.specs.Int.Bits.{bit_and}
@@ -41,10 +41,6 @@ fewer left row lt on =
       | inl same ↦ absurd (let no : true ≡ false = sym on ∙ ap (λ n. bit n row) (sym same) ∙ clear_same left row lt in cc)
       | inr other ↦ omega (arith, other, and_le_l left m)
     ]
-
-on_or_off : (b : Bool) (P : Type 0) → (b ≡ true → P) → (b ≡ false → P) → P
-on_or_off true P f g = f refl
-on_or_off false P f g = g refl
 
 -- one text more
 pub one_more : (text offsets bytes : List ℕ) (from left equal row : ℕ) (passes : Bool) → row < 64 → bit left row ≡ true → passes ≡ is_text_at text offsets bytes (from + row) →

@@ -1,6 +1,5 @@
 -- Ends of ranges among the numbers of a type.
-use Rattle.std.proofs.Common.{◌≡◌, ℤ, pos, negsuc, ◌≤ℤ◌, ◌<ℤ◌, Bool, true, false, ◌&&◌, int_lt, int_le, FitsSigned, refl, sym, ap, ◌∙◌, arith}
-use Rattle.std.specs.Int.{w64}
+use Rattle.std.proofs.Common.{◌≡◌, ℤ, pos, ◌≤ℤ◌, ◌<ℤ◌, Bool, true, false, ◌&&◌, int_le, refl, sym, ap, ◌∙◌, arith}
 use Rattle.std.specs.Ordering.{int_eq}
 use Rattle.std.proofs.lemmas.Bool.{false≢true}
 use Rattle.std.proofs.lemmas.Bool.Decides.{Decides-int_eq}
@@ -61,29 +60,6 @@ none_up_to low high number other absent top neg has =
     let below = below_first low high number absent (omega (arith, ints, top, neg)) in
     le_false other number (omega (arith, ints, below, has))
 
--- from the greatest to the least is none
-pub none_within : (low high number : ℤ) → low ≤ℤ pos 0 → pos 1 ≤ℤ high → is_within high low number ≡ false
-none_within low high number bottom top = by (int_le high number) (int_le number low) refl refl
-  where
-    by : (s t : Bool) → int_le high number ≡ s → int_le number low ≡ t → (s && t) ≡ false
-    by true true p q = absurd (omega (arith, ints, bottom, top, p, q))
-    by true false p q = refl
-    by false t p q = refl
-
-pub same_ends : (least most low high number : ℤ) → int_le least number ≡ int_le low number → int_le number most ≡ int_le number high →
-    is_within least most number ≡ is_within low high number
-same_ends least most low high number p q = ap (λ b. b && int_le number most) p ∙ ap (λ b. int_le low number && b) q
-
-pub no_least : (least most number : ℤ) → int_le least number ≡ false → is_within least most number ≡ false
-no_least least most number p = ap (λ b. b && int_le number most) p
-
-pub no_most : (least most number : ℤ) → int_le number most ≡ false → is_within least most number ≡ false
-no_most least most number p = ap (λ b. int_le least number && b) p ∙ by (int_le least number)
-  where
-    by : (s : Bool) → (s && false) ≡ false
-    by true = refl
-    by false = refl
-
 -- from a number to itself is that number
 pub equal_within : (x v : ℤ) → int_eq x v ≡ is_within v v x
 equal_within x v = sym (by (int_eq x v) refl)
@@ -98,18 +74,3 @@ equal_within x v = sym (by (int_eq x v) refl)
         let e : x ≡ v = (Decides-int_eq x v).0 p in
         ap (λ b. b && int_le x v) (le_true v x (omega (arith, ints, e))) ∙ le_true x v (omega (arith, ints, e))
     by false p = apart p (int_le v x) (int_le x v) refl refl
-
--- no number of 64 bits is above the greatest, nor below the least
-pub none_above : (x most : ℤ) → FitsSigned w64 x → most ≡ pos 9223372036854775807 → int_lt most x ≡ false
-none_above x most fits e = by (int_lt most x) refl
-  where
-    by : (r : Bool) → int_lt most x ≡ r → r ≡ false
-    by true p = absurd (omega (arith, ints, p, fits.sfits, e))
-    by false p = refl
-
-pub none_below : (x least : ℤ) → FitsSigned w64 x → least ≡ negsuc 9223372036854775807 → int_lt x least ≡ false
-none_below x least fits e = by (int_lt x least) refl
-  where
-    by : (r : Bool) → int_lt x least ≡ r → r ≡ false
-    by true p = absurd (omega (arith, ints, p, fits.sfits, e))
-    by false p = refl

@@ -2,7 +2,7 @@
 -- without a sign.
 use Rattle.std.specs.Prelude.{ℕ, ◌==◌, Bool, false, List, Option, Some, None}
 use Rattle.std.specs.List.{list_any}
-use Rattle.arrow_schema.specs.declared.data_type.IntegerType.{IntegerType}
+use Rattle.arrow_types.specs.declared.data_type.IntegerType.{IntegerType}
 use Rattle.arrays.specs.Number.{byte_width, element_at}
 
 -- the code of element `place`

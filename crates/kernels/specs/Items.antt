@@ -6,8 +6,8 @@ use Rattle.scan_base.specs.declared.truth.Truth.TheVariants.{Unknown}
 use Rattle.scan_base.specs.declared.predicate.Operand.{Operand}
 use Rattle.scan_base.specs.Predicate.{any_equal}
 use Rattle.scan_base.specs.Truth.{truth_from}
-use Rattle.arrow_schema.specs.declared.data_type.IntegerType.{IntegerType}
-use Rattle.arrow_schema.specs.DataType.{bit_width}
+use Rattle.arrow_types.specs.declared.data_type.IntegerType.{IntegerType}
+use Rattle.arrow_types.specs.DataType.{bit_width}
 use Rattle.arrays.specs.Number.{number_from}
 use Rattle.kernels.specs.Codes.{is_among}
 

@@ -5,11 +5,11 @@ use Rattle.scan_base.specs.declared.predicate.Operand.TheVariants.{Column as Col
 use Rattle.scan_base.specs.declared.value.Value.{Value}
 use Rattle.scan_base.specs.Predicate.{Pred, comparing, between, membership, operand_value}
 use Rattle.scan_base.specs.Value.{value_of}
-use Rattle.kernels.specs.declared.operands.Side.{Side}
-use Rattle.kernels.specs.declared.operands.Side.TheVariants.{Column, Value as ValueSide}
+use Rattle.kernels.specs.declared.operands.OperandSide.{OperandSide}
+use Rattle.kernels.specs.declared.operands.OperandSide.TheVariants.{Column, Value as ValueSide}
 
 -- an operand is the column of this number, or has this value in each row
-abbrev pub IsSideOf : Operand ℕ → Side → Type 0
+abbrev pub IsSideOf : Operand ℕ → OperandSide → Type 0
 IsSideOf operand (Column number) = operand ≡ ColumnOperand number
 IsSideOf operand (ValueSide value) =
     (cell : ℕ → Value) → operand_value cell operand ≡ value_of value

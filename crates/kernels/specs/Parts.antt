@@ -5,9 +5,9 @@ use Rattle.scan_base.specs.declared.truth.Truth.{Truth}
 use Rattle.scan_base.specs.declared.value.Value.{Value}
 use Rattle.scan_base.specs.Predicate.{cell_in}
 use Rattle.arrays.specs.Column.{slot_of}
-use Rattle.kernels.specs.declared.part.ColumnPart.{ColumnPart}
-use Rattle.kernels.specs.declared.part.RowRange.{RowRange}
-use Rattle.kernels.specs.Rows.{AreRowsOf, cells_at}
+use Rattle.kernels.specs.declared.column_part.ColumnPart.{ColumnPart}
+use Rattle.kernels.specs.declared.column_part.RowRange.{RowRange}
+use Rattle.kernels.specs.Rows.{AreRowsOf, read_cells}
 
 -- the slots are there
 abbrev pub IsPart : ColumnPart → Type 0
@@ -26,7 +26,7 @@ pub record AreRows (rows : RowRange) : Type 0 where
 -- the cell of a row in a column, by the number under which it is read
 abbrev pub cell_of : RowRange → ℕ → ℕ → Value
 cell_of rows row number =
-    cell_in (cells_at rows.columns.columns.now rows.columns.read.now row) number
+    cell_in (read_cells rows.columns.columns.now rows.columns.read.now row) number
 
 -- what a test says of each of the rows
 abbrev pub said_in : (ℕ → Truth) → RowRange → List Truth

@@ -7,11 +7,11 @@ use Rattle.scan_base.specs.declared.value.Value.{Value}
 use Rattle.scan_base.specs.declared.value.Value.TheVariants.{Null}
 use Rattle.scan_base.specs.Comparison.{compared}
 use Rattle.arrays.specs.Indices.{IndicesAt}
-use Rattle.kernels.specs.declared.among.Packed.{Packed}
+use Rattle.kernels.specs.declared.code_membership.PackedIntegers.{PackedIntegers}
 use Rattle.kernels.specs.Entries.{unless_known}
 
 -- slots of these packed indices into a dictionary
-abbrev pub indices_into : List Value → Packed → IndicesAt
+abbrev pub indices_into : List Value → PackedIntegers → IndicesAt
 indices_into values indices =
     record {
       index = indices.integer;

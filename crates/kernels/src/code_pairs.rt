@@ -7,9 +7,9 @@ ghost use Rattle.arrays.specs.Column.{slot_of};
 ghost use Rattle.kernels.specs.Parts.{IsPart};
 ghost use Rattle.kernels.specs.TextPairs.{IsPlaceIfAny, ArePairTruths};
 
-use crate::kernel::{Kernel, Slots, mask_by, slot_by_slot};
+use crate::column_part::ColumnPart;
+use crate::kernel::{Kernel, SlotTruths, mask_by, slot_by_slot};
 use crate::mask::Mask;
-use crate::part::ColumnPart;
 use crate::text_columns::{CodedTexts, PlainTexts};
 use crate::text_pairs::{TextPairs, plain_compared};
 use crate::word::Word;
@@ -36,7 +36,7 @@ struct ByPair<'a> {
         pairs.now.right.now.dictionary.now truths.now },
 }
 
-impl<'a> Slots for ByPair<'a> {
+impl<'a> SlotTruths for ByPair<'a> {
     ghost use Rattle.scan_base.specs.Comparison.{compared};
     ghost use Rattle.arrays.specs.Column.{slot_of};
 

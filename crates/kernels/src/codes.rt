@@ -3,7 +3,7 @@
 ghost use Rattle.std.specs.Prelude.{◌≡◌, ◌==◌, ◌≤◌, ◌<◌, ◌≤ℤ◌, ◌<ℤ◌, ◌+◌, ◌-◌, ◌*◌, ◌^◌, ℕ, pos};
 ghost use Rattle.std.specs.Prelude.{negsuc, suc, nat_lt, if◌then◌else◌, length};
 ghost use Rattle.std.specs.Ordering.{int_cmp, is_eq};
-ghost use Rattle.arrow_schema.specs.DataType.{bit_width};
+ghost use Rattle.arrow_types.specs.DataType.{bit_width};
 ghost use Rattle.arrays.specs.Number.{byte_width, element_at, number_from};
 ghost use Rattle.kernels.specs.Codes.{code_at, is_code};
 ghost use Rattle.kernels.specs.Tests.{tests};
@@ -11,7 +11,7 @@ ghost use Rattle.kernels.specs.Words.{bit};
 ghost use Rattle.std.specs.Simd.Lanes.{mask_l};
 
 use arrays::Element;
-use arrow_schema::IntegerType;
+use arrow_types::IntegerType;
 use std::simd::prelude::*;
 use std::simd::{u8x64, u16x32, u32x16, u64x8};
 

@@ -2,11 +2,11 @@
 
 ghost use Rattle.std.specs.Prelude.{◌≡◌, ◌<◌, ◌+◌, ◌/◌, ◌^◌, ℕ, true, false, length, OnOk};
 ghost use Rattle.scan_base.specs.View.{pred_of};
-ghost use Rattle.kernels.specs.Kept.{Keeps, bit_among};
+ghost use Rattle.kernels.specs.KeptRows.{Keeps, bit_among};
 ghost use Rattle.kernels.specs.Parts.{AreRows};
-ghost use Rattle.kernels.specs.Rows.{IsOver, truths_of};
+ghost use Rattle.kernels.specs.Rows.{NamesOnlyRead, truths_of};
 
-use crate::part::RowRange;
+use crate::column_part::RowRange;
 use crate::walk::truths;
 use scan_base::Predicate;
 use std::alloc::{AllocError, Global};
@@ -24,7 +24,7 @@ pub(crate) fn keep_true(
     words: &mut [u64],
 ) -> Result<(), AllocError>
     requires there { AreRows rows.now }
-    requires over { IsOver rows.now.columns.read.now (pred_of predicate.now) }
+    requires over { NamesOnlyRead rows.now.columns.read.now (pred_of predicate.now) }
     requires small { rows.now.from + rows.now.len < 2 ^ 64 }
     requires long { length words.old ≡ (rows.now.len + 63) / 64 }
     ensures { OnOk result (Keeps
@@ -49,7 +49,7 @@ fn keep_part(
     words: &mut [u64],
 ) -> Result<(), AllocError>
     requires there { AreRows rows.now }
-    requires over { IsOver rows.now.columns.read.now (pred_of predicate.now) }
+    requires over { NamesOnlyRead rows.now.columns.read.now (pred_of predicate.now) }
     requires small { rows.now.from + rows.now.len < 2 ^ 64 }
     requires long { length words.old ≡ (rows.now.len + 63) / 64 }
     ensures { OnOk result (Keeps

@@ -9,12 +9,12 @@ ghost use Rattle.arrays.specs.declared.layout.Layout.TheVariants.{Indices as Ind
 ghost use Rattle.arrays.specs.Indices.{AreIndices};
 ghost use Rattle.kernels.specs.Entries.{truth_at, NamesAlone};
 ghost use Rattle.kernels.specs.Parts.{IsPart, AreRows, said_of};
-ghost use Rattle.kernels.specs.Rows.{IsOver, truths_of};
+ghost use Rattle.kernels.specs.Rows.{NamesOnlyRead, truths_of};
 
-use crate::among::Packed;
+use crate::code_membership::PackedIntegers;
+use crate::column_part::{ColumnPart, RowRange};
 use crate::entries::{ByEntry, truth_at, truths_at};
 use crate::mask::Mask;
-use crate::part::{ColumnPart, RowRange};
 use arrays::{Cells, Indices, Layout};
 use scan_base::{Operand, Predicate, ValueRef};
 use std::alloc::{AllocError, Global};
@@ -31,7 +31,7 @@ pub(crate) fn dictionary_leaf(
     rows: &RowRange<'_>,
 ) -> Result<Option<Mask>, AllocError>
     requires there { AreRows rows.now }
-    requires over { IsOver rows.now.columns.read.now (pred_of predicate.now) }
+    requires over { NamesOnlyRead rows.now.columns.read.now (pred_of predicate.now) }
     ensures { IfOk result (λ found. IfSome found (λ mask. mask
         ≡ truths_of rows.now.columns.columns.now rows.now.columns.read.now
         (pred_of predicate.now) rows.now.from rows.now.len)) }
@@ -204,7 +204,7 @@ fn indices_mask(
 }
 
 /// The indices of all `count` slots.
-pub(crate) fn packed_indices<'a>(cells: &Indices<'a>, count: usize) -> Packed<'a>
+pub(crate) fn packed_indices<'a>(cells: &Indices<'a>, count: usize) -> PackedIntegers<'a>
     requires stands { AreIndices cells.now }
     requires count { count ≡ (cells.now).len }
     ensures integer { result.integer ≡ (cells.now).index }
@@ -212,7 +212,7 @@ pub(crate) fn packed_indices<'a>(cells: &Indices<'a>, count: usize) -> Packed<'a
     ensures validity { result.validity.now ≡ (cells.now).validity }
     ensures count { result.count ≡ (cells.now).len }
 {
-    Packed {
+    PackedIntegers {
         integer: cells.index_type(),
         values: cells.values(),
         validity: cells.validity(),

@@ -10,8 +10,8 @@ ghost use Rattle.scan_base.specs.Value.{value_of};
 ghost use Rattle.scan_base.specs.View.{pred_of};
 ghost use Rattle.kernels.specs.Entries.{truth_at, truths_at, unless_known, AreTrueAt, IsPushed};
 
-use crate::among::{Among, Packed};
-use crate::kernel::{Kernel, Slots, mask_by, slot_by_slot};
+use crate::code_membership::{CodeMembership, PackedIntegers};
+use crate::kernel::{Kernel, SlotTruths, mask_by, slot_by_slot};
 use crate::mask::Mask;
 use crate::word::Word;
 use arrays::Dictionary;
@@ -96,12 +96,12 @@ fn push_true(indices: &mut Vec<u64>, index: usize, truth: Truth) -> Result<bool,
 /// The truths of slots by those of their entries, and of those that are null by that of NULL.
 #[derive(Clone, Copy, Drop)]
 pub(crate) struct ByEntry<'a> {
-    pub(crate) indices: Packed<'a>,
+    pub(crate) indices: PackedIntegers<'a>,
     pub(crate) truths: &'a [Truth],
     pub(crate) of_null: Truth,
 }
 
-impl<'a> Slots for ByEntry<'a> {
+impl<'a> SlotTruths for ByEntry<'a> {
     ghost use Rattle.kernels.specs.EntryTruths.{entry_truth};
 
     ghost count = { λ s. s.indices.count };
@@ -143,7 +143,7 @@ impl<'a> ByEntry<'a> {
     {
         match few_true(alloc, self.truths)? {
             Some(codes) => {
-                let kernel = Among {
+                let kernel = CodeMembership {
                     numbers: self.indices,
                     codes: codes.as_slice(),
                 };

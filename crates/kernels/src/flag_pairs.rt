@@ -6,7 +6,6 @@ ghost use Rattle.scan_base.specs.Comparison.{satisfies};
 ghost use Rattle.kernels.specs.Pairs.{HasFlags};
 ghost use Rattle.kernels.specs.Words.{bit};
 
-use crate::longs::valid_word;
 use crate::word::Word;
 use arrays::{Cells, Column, Layout};
 use scan_base::Comparison;
@@ -21,7 +20,7 @@ pub(crate) fn flag_word(column: &Column, from: usize) -> Option<Word>
     match column.layout() {
         Layout::Bools(cells) => Some(Word {
             truths: cells.values().word(first),
-            knowns: valid_word(cells.validity(), first),
+            knowns: cells.validity().valid_word(first),
         }),
         _ => None,
     }

@@ -6,16 +6,17 @@ ghost use Rattle.std.specs.Ordering.{bool_cmp};
 ghost use Rattle.scan_base.specs.Comparison.{compared, satisfies};
 ghost use Rattle.scan_base.specs.declared.value.Value.TheVariants.{Bool as Flag};
 ghost use Rattle.arrays.specs.Bools.{AreBools};
+ghost use Rattle.arrays.specs.Validity.{IsLong};
+ghost use Rattle.kernels.specs.Nulls.{IsLong-prop};
 ghost use Rattle.kernels.specs.Parts.{IsPart, said_of};
-ghost use Rattle.kernels.specs.Ranges.{validity_count};
 ghost use Rattle.kernels.specs.Words.{bit};
 
-use crate::kernel::{Kernel, Slots, mask_by};
-use crate::longs::{is_valid, of_test, valid_word};
+use crate::column_part::ColumnPart;
+use crate::kernel::{Kernel, SlotTruths, mask_by};
+use crate::longs::of_test;
 use crate::mask::Mask;
-use crate::part::ColumnPart;
 use crate::word::Word;
-use arrays::{Bools, Cells, Layout};
+use arrays::{Bools, Cells, Layout, Validity};
 use bitmap::Bits;
 use scan_base::{Comparison, Truth};
 use std::alloc::{AllocError, Global};
@@ -51,12 +52,12 @@ pub(crate) fn flags_compared(
 #[derive(Clone, Copy, Drop)]
 struct FlagTests<'a> {
     values: &'a Bits,
-    validity: &'a Option<Bits>,
+    validity: &'a Validity,
     count: usize,
     of_true: bool,
     of_false: bool,
     ghost room: { count ≡ length values.now },
-    ghost long: { validity_count validity.now count ≡ count },
+    ghost long: { IsLong validity.now count } by { IsLong-prop validity.now count },
 }
 
 // What a comparison with a truth value says of each.
@@ -76,7 +77,7 @@ fn flag_tests<'a>(cells: &Bools<'a>, comparison: Comparison, other: bool) -> Fla
     }
 }
 
-impl<'a> Slots for FlagTests<'a> {
+impl<'a> SlotTruths for FlagTests<'a> {
     ghost use Rattle.std.specs.Prelude.{false, get_or, if◌then◌else◌};
     ghost use Rattle.arrays.specs.Validity.{is_valid};
     ghost use Rattle.kernels.specs.Ranges.{where_known};
@@ -87,7 +88,7 @@ impl<'a> Slots for FlagTests<'a> {
         (if get_or s.values.now place false then s.of_true else s.of_false) };
 
     fn truth(&self, place: usize) -> Truth {
-        if !is_valid(self.validity, place) {
+        if !self.validity.is_valid(place) {
             return Truth::Unknown;
         }
         of_test(if self.values.get(place) {
@@ -105,7 +106,7 @@ impl<'a> Kernel for FlagTests<'a> {
         let _count = self.count;
         Word {
             truths: chosen_bits(self.values.word(from), self.of_true, self.of_false),
-            knowns: valid_word(self.validity, from),
+            knowns: self.validity.valid_word(from),
         }
     }
 }

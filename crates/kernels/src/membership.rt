@@ -9,7 +9,7 @@ ghost use Rattle.scan_base.specs.Truth.{truth_from, truth_or};
 ghost use Rattle.scan_base.specs.declared.comparison.Comparison.TheVariants.{Equal as EqualTo};
 ghost use Rattle.scan_base.specs.declared.value.Value.{Value};
 ghost use Rattle.scan_base.specs.declared.value.Value.TheVariants.{Int as IntValue};
-ghost use Rattle.arrow_schema.specs.DataType.{bit_width};
+ghost use Rattle.arrow_types.specs.DataType.{bit_width};
 ghost use Rattle.arrays.specs.declared.layout.Layout.TheVariants.{Integers as IntegersLayout};
 ghost use Rattle.arrays.specs.Integers.{AreIntegers};
 ghost use Rattle.arrays.specs.Layout.{layout_slot};
@@ -18,13 +18,13 @@ ghost use Rattle.kernels.specs.Codes.{is_among};
 ghost use Rattle.kernels.specs.Items.{AreCodesOf};
 ghost use Rattle.kernels.specs.Parts.{IsPart, said_of};
 
-use crate::among::{Among, Packed};
+use crate::code_membership::{CodeMembership, PackedIntegers};
 use crate::codes::code_of;
+use crate::column_part::ColumnPart;
 use crate::kernel::mask_by;
 use crate::mask::Mask;
-use crate::part::ColumnPart;
 use arrays::{Cells, Integers, Layout};
-use arrow_schema::IntegerType;
+use arrow_types::IntegerType;
 use scan_base::{Operand, Value};
 use std::alloc::{AllocError, Global};
 
@@ -68,7 +68,7 @@ fn integers_among(
 {
     match codes_of(alloc, cells.integer_type(), items)? {
         Some(codes) => {
-            let kernel = Among {
+            let kernel = CodeMembership {
                 numbers: packed_integers(cells),
                 codes: codes.as_slice(),
             };
@@ -80,7 +80,7 @@ fn integers_among(
 }
 
 // The numbers of integers.
-fn packed_integers<'a>(cells: &Integers<'a>) -> Packed<'a>
+fn packed_integers<'a>(cells: &Integers<'a>) -> PackedIntegers<'a>
     ensures integer { result.integer ≡ (cells.now).integer }
     ensures values { result.values.now ≡ (cells.now).values }
     ensures validity { result.validity.now ≡ (cells.now).validity }
@@ -88,7 +88,7 @@ fn packed_integers<'a>(cells: &Integers<'a>) -> Packed<'a>
     ensures stands { AreIntegers cells.now }
 {
     let count = cells.len();
-    Packed {
+    PackedIntegers {
         integer: cells.integer_type(),
         values: cells.values(),
         validity: cells.validity(),

@@ -3,17 +3,16 @@
 ghost use Rattle.std.specs.Prelude.{◌≡◌, ◌≤◌, ◌<◌, ◌+◌, ℕ, IfOk, IfSome};
 ghost use Rattle.scan_base.specs.Comparison.{nullness};
 ghost use Rattle.arrays.specs.Layout.{IsLayout};
-ghost use Rattle.kernels.specs.Nulls.{TellsNulls, null_truth};
+ghost use Rattle.arrays.specs.Validity.{IsLong};
+ghost use Rattle.kernels.specs.Nulls.{IsLong-prop, TellsNulls, null_truth};
 ghost use Rattle.kernels.specs.Parts.{IsPart, said_of};
-ghost use Rattle.kernels.specs.Ranges.{validity_count};
 
-use crate::kernel::{Kernel, Slots, mask_by};
-use crate::longs::{is_valid, of_test, valid_word};
+use crate::column_part::ColumnPart;
+use crate::kernel::{Kernel, SlotTruths, mask_by};
+use crate::longs::of_test;
 use crate::mask::Mask;
-use crate::part::ColumnPart;
 use crate::word::Word;
-use arrays::{Cells, Layout};
-use bitmap::Bits;
+use arrays::{Cells, Layout, Validity};
 use scan_base::Truth;
 use std::alloc::{AllocError, Global};
 
@@ -27,14 +26,14 @@ pub(crate) fn null_part(alloc: Global, part: &ColumnPart<'_>) -> Result<Option<M
     ensures { IfOk result (λ found. IfSome found (λ mask. mask ≡ said_of nullness part.now)) }
 {
     let column = part.column;
-    let count = column.first() + column.len();
+    let _len = column.len();
     if column.null_count() == 0 {
         let mask = Mask::of(alloc, Truth::False, part.len)?;
         return Ok(Some(mask));
     }
     match telling_bits(column.layout()) {
         Some(validity) => {
-            let kernel = null_slots(validity, count);
+            let kernel = null_slots(validity, column.slots().len());
             let mask = mask_by(alloc, &kernel, column.first() + part.from, part.len)?;
             Ok(Some(mask))
         }
@@ -42,8 +41,8 @@ pub(crate) fn null_part(alloc: Global, part: &ColumnPart<'_>) -> Result<Option<M
     }
 }
 
-// The validity bits of a layout, where they tell which slots are null: an index may lead to a null.
-fn telling_bits<'a>(layout: Layout<'a>) -> Option<&'a Option<Bits>>
+// Which slots of a layout are valid, where that tells which are null: an index may lead to a null.
+fn telling_bits<'a>(layout: Layout<'a>) -> Option<&'a Validity>
     requires { IsLayout layout }
     ensures { IfSome result (λ validity. TellsNulls layout.entry validity.now) }
 {
@@ -59,20 +58,20 @@ fn telling_bits<'a>(layout: Layout<'a>) -> Option<&'a Option<Bits>>
 // Whether each of `count` slots is null.
 #[derive(Clone, Copy, Drop)]
 struct NullSlots<'a> {
-    validity: &'a Option<Bits>,
+    validity: &'a Validity,
     count: usize,
-    ghost long: { count ≤ validity_count validity.now count },
+    ghost long: { IsLong validity.now count } by { IsLong-prop validity.now count },
 }
 
-fn null_slots<'a>(validity: &'a Option<Bits>, count: usize) -> NullSlots<'a>
-    requires { count ≤ validity_count validity.now count }
+fn null_slots<'a>(validity: &'a Validity, count: usize) -> NullSlots<'a>
+    requires { IsLong validity.now count }
     ensures validity { result.validity.now ≡ validity.now }
     ensures count { result.count ≡ count }
 {
     NullSlots { validity, count }
 }
 
-impl<'a> Slots for NullSlots<'a> {
+impl<'a> SlotTruths for NullSlots<'a> {
     ghost use Rattle.kernels.specs.Nulls.{null_truth};
 
     ghost count = { λ s. s.count };
@@ -81,7 +80,7 @@ impl<'a> Slots for NullSlots<'a> {
 
     fn truth(&self, place: usize) -> Truth {
         let _count = self.count;
-        of_test(!is_valid(self.validity, place))
+        of_test(!self.validity.is_valid(place))
     }
 }
 
@@ -91,7 +90,7 @@ impl<'a> Kernel for NullSlots<'a> {
     fn word(&self, from: usize) -> Word {
         let _count = self.count;
         Word {
-            truths: valid_word(self.validity, from) ^ u64::MAX,
+            truths: self.validity.valid_word(from) ^ u64::MAX,
             knowns: u64::MAX,
         }
     }

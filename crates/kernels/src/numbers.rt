@@ -7,24 +7,25 @@ ghost use Rattle.scan_base.specs.Predicate.{within};
 ghost use Rattle.scan_base.specs.declared.truth.Truth.{Truth};
 ghost use Rattle.scan_base.specs.declared.value.Value.{Value};
 ghost use Rattle.scan_base.specs.declared.value.Value.TheVariants.{Int as IntValue};
-ghost use Rattle.arrow_schema.specs.declared.data_type.IntegerType.TheVariants.{Int64};
+ghost use Rattle.arrow_types.specs.declared.data_type.IntegerType.TheVariants.{Int64};
 ghost use Rattle.arrays.specs.declared.layout.Layout.TheVariants.{Integers as IntegersLayout};
 ghost use Rattle.arrays.specs.declared.layout.Layout.TheVariants.{Decimals as DecimalsLayout};
 ghost use Rattle.arrays.specs.Decimals.{AreDecimals};
 ghost use Rattle.arrays.specs.Integers.{AreIntegers};
 ghost use Rattle.arrays.specs.Layout.{layout_slot};
 ghost use Rattle.arrays.specs.Number.{AreBytes, byte_width};
+ghost use Rattle.arrays.specs.Validity.{IsLong};
 ghost use Rattle.kernels.specs.Parts.{IsPart, said_of};
-ghost use Rattle.kernels.specs.Ranges.{validity_count};
 ghost use Rattle.kernels.specs.Ranging.{TestsBy};
 
+use crate::column_part::ColumnPart;
 use crate::longs::longs_in;
 use crate::mask::Mask;
-use crate::part::ColumnPart;
 use crate::range::Range;
-use crate::within::{Packed, cells_in};
-use arrays::{Cells, Decimals, Integers, Layout};
-use arrow_schema::IntegerType;
+use crate::range_membership::{PackedNumbers, cells_in};
+use arrays::{Cells, Decimals, Integer, Integers, Layout};
+use arrow_types::IntegerType;
+use num_traits::{Bounded, FromPrimitive};
 use scan_base::Comparison;
 use std::alloc::{AllocError, Global};
 
@@ -112,30 +113,46 @@ fn integers_in(
     ensures { (test : Value → Truth) → TestsBy range.now test → IfOk result (λ mask. mask ≡ map
         (λ place. test (layout_slot (IntegersLayout cells.now) place)) (range_with_len first len)) }
 {
-    let packed = packed_integers(cells);
     match cells.integer_type() {
-        IntegerType::Int8 => cells_in::<i8>(alloc, &packed, range, first, len),
-        IntegerType::Int16 => cells_in::<i16>(alloc, &packed, range, first, len),
-        IntegerType::Int32 => cells_in::<i32>(alloc, &packed, range, first, len),
-        IntegerType::Int64 => longs_in(alloc, &packed, range, first, len),
-        IntegerType::UInt8 => cells_in::<u8>(alloc, &packed, range, first, len),
-        IntegerType::UInt16 => cells_in::<u16>(alloc, &packed, range, first, len),
-        IntegerType::UInt32 => cells_in::<u32>(alloc, &packed, range, first, len),
-        IntegerType::UInt64 => cells_in::<u64>(alloc, &packed, range, first, len),
+        IntegerType::Int8 => typed_in::<i8>(alloc, cells, range, first, len),
+        IntegerType::Int16 => typed_in::<i16>(alloc, cells, range, first, len),
+        IntegerType::Int32 => typed_in::<i32>(alloc, cells, range, first, len),
+        IntegerType::Int64 => longs_in(alloc, &packed_integers(cells), range, first, len),
+        IntegerType::UInt8 => typed_in::<u8>(alloc, cells, range, first, len),
+        IntegerType::UInt16 => typed_in::<u16>(alloc, cells, range, first, len),
+        IntegerType::UInt32 => typed_in::<u32>(alloc, cells, range, first, len),
+        IntegerType::UInt64 => typed_in::<u64>(alloc, cells, range, first, len),
     }
 }
 
+// The same where the slots are of integers of a type.
+fn typed_in<E: Integer + Bounded + FromPrimitive>(
+    alloc: Global,
+    cells: &Integers<'_>,
+    range: &Range,
+    first: usize,
+    len: usize,
+) -> Result<Mask, AllocError>
+    requires kind { E.KIND ≡ (cells.now).integer }
+    requires within { first + len ≤ (cells.now).len }
+    requires small { first + len < 2 ^ 64 }
+    ensures { (test : Value → Truth) → TestsBy range.now test → IfOk result (λ mask. mask ≡ map
+        (λ place. test (layout_slot (IntegersLayout cells.now) place)) (range_with_len first len)) }
+{
+    cells_in::<E>(alloc, &packed_integers(cells), range, first, len)
+}
+
 // The packed numbers of slots of integers.
-fn packed_integers<'a>(cells: &Integers<'a>) -> Packed<'a>
+fn packed_integers<'a>(cells: &Integers<'a>) -> PackedNumbers<'a>
     ensures values { result.values.now ≡ (cells.now).values }
     ensures validity { result.validity.now ≡ (cells.now).validity }
     ensures count { result.count ≡ (cells.now).len }
     ensures room { byte_width (cells.now).integer * result.count ≤ length result.values.now }
-    ensures long { validity_count result.validity.now result.count ≡ result.count }
+    ensures long { IsLong result.validity.now result.count }
     ensures bytes { AreBytes result.values.now }
 {
     let count = cells.len();
-    Packed {
+    PackedNumbers {
         values: cells.values(),
         validity: cells.validity(),
         count,
@@ -143,16 +160,16 @@ fn packed_integers<'a>(cells: &Integers<'a>) -> Packed<'a>
 }
 
 // The packed numbers of so many slots of decimals.
-fn packed_decimals<'a>(cells: &Decimals<'a>, count: usize) -> Packed<'a>
+fn packed_decimals<'a>(cells: &Decimals<'a>, count: usize) -> PackedNumbers<'a>
     requires stands { AreDecimals cells.now }
     requires count { count ≡ (cells.now).len }
     ensures values { result.values.now ≡ (cells.now).values }
     ensures validity { result.validity.now ≡ (cells.now).validity }
     ensures count { result.count ≡ (cells.now).len }
     ensures room { 16 * result.count ≤ length result.values.now }
-    ensures long { validity_count result.validity.now result.count ≡ result.count }
+    ensures long { IsLong result.validity.now result.count }
 {
-    Packed {
+    PackedNumbers {
         values: cells.values(),
         validity: cells.validity(),
         count,

@@ -53,11 +53,11 @@ impl Octets for EqualTo {
 
 /// Whether a number is below another.
 #[derive(Clone, Copy, Drop)]
-pub(crate) struct Below {
+pub(crate) struct BelowLeast {
     pub(crate) least: i64,
 }
 
-impl Octets for Below {
+impl Octets for BelowLeast {
     ghost use Rattle.std.specs.Prelude.{int_lt};
 
     ghost says = { λ s x. int_lt x s.least };
@@ -70,11 +70,11 @@ impl Octets for Below {
 
 /// Whether a number is above another.
 #[derive(Clone, Copy, Drop)]
-pub(crate) struct Above {
+pub(crate) struct AboveMost {
     pub(crate) most: i64,
 }
 
-impl Octets for Above {
+impl Octets for AboveMost {
     ghost use Rattle.std.specs.Prelude.{int_lt};
 
     ghost says = { λ s x. int_lt s.most x };
@@ -87,12 +87,12 @@ impl Octets for Above {
 
 /// Whether a number is below one or above another.
 #[derive(Clone, Copy, Drop)]
-pub(crate) struct Outside {
+pub(crate) struct OutsideRange {
     pub(crate) least: i64,
     pub(crate) most: i64,
 }
 
-impl Octets for Outside {
+impl Octets for OutsideRange {
     ghost use Rattle.std.specs.Prelude.{int_lt, ◌||◌};
 
     ghost says = { λ s x. int_lt x s.least || int_lt s.most x };

@@ -7,16 +7,16 @@ ghost use Rattle.scan_base.specs.Predicate.{any_equal, operand_names, operand_va
 ghost use Rattle.kernels.specs.Leaves.{IsSideOf};
 ghost use Rattle.kernels.specs.Parts.{AreRows, cell_of, said_in};
 
+use crate::column_part::RowRange;
 use crate::compare::{compare_part, compare_parts, exchanged};
+use crate::constant_truth::values_compared;
 use crate::mask::Mask;
-use crate::part::RowRange;
-use crate::same::values_compared;
 use scan_base::{Comparison, Operand, Truth, ValueRef};
 use std::alloc::{AllocError, Global};
 
 /// `left comparison right`.
 #[derive(Clone, Copy, Drop)]
-pub(crate) struct Compared<'a> {
+pub(crate) struct OperandComparison<'a> {
     pub(crate) comparison: Comparison,
     pub(crate) left: &'a Operand<usize>,
     pub(crate) right: &'a Operand<usize>,
@@ -31,18 +31,18 @@ pub(crate) struct Bounds<'a> {
 
 /// A side of a comparison: the number of a column, or the value in each row.
 #[derive(Clone, Copy, Drop)]
-enum Side<'a> {
+enum OperandSide<'a> {
     Column(usize),
     Value(ValueRef<'a>),
 }
 
-fn side_of(operand: &Operand<usize>) -> Side<'_>
+fn side_of(operand: &Operand<usize>) -> OperandSide<'_>
     ensures { IsSideOf operand.now result }
 {
     match operand {
-        Operand::Column(number) => Side::Column(*number),
-        Operand::Literal(value) => Side::Value(value.borrowed()),
-        Operand::Date(day) => Side::Value(ValueRef::Int(i128::from(*day))),
+        Operand::Column(number) => OperandSide::Column(*number),
+        Operand::Literal(value) => OperandSide::Value(value.borrowed()),
+        Operand::Date(day) => OperandSide::Value(ValueRef::Int(i128::from(*day))),
     }
 }
 
@@ -53,7 +53,7 @@ fn side_of(operand: &Operand<usize>) -> Side<'_>
 /// `AllocError` where memory is refused.
 pub(crate) fn compare_leaf(
     alloc: Global,
-    leaf: &Compared<'_>,
+    leaf: &OperandComparison<'_>,
     rows: &RowRange<'_>,
 ) -> Result<Mask, AllocError>
     requires there { AreRows rows.now }
@@ -67,16 +67,16 @@ pub(crate) fn compare_leaf(
 {
     let comparison = leaf.comparison;
     match (side_of(leaf.left), side_of(leaf.right)) {
-        (Side::Column(number), Side::Value(value)) => {
+        (OperandSide::Column(number), OperandSide::Value(value)) => {
             compare_part(alloc, &rows.part(number), comparison, value)
         }
-        (Side::Value(value), Side::Column(number)) => {
+        (OperandSide::Value(value), OperandSide::Column(number)) => {
             compare_part(alloc, &rows.part(number), exchanged(comparison), value)
         }
-        (Side::Column(left), Side::Column(right)) => {
+        (OperandSide::Column(left), OperandSide::Column(right)) => {
             compare_parts(alloc, comparison, &rows.part(left), &rows.part(right))
         }
-        (Side::Value(left), Side::Value(right)) => {
+        (OperandSide::Value(left), OperandSide::Value(right)) => {
             values_compared(alloc, comparison, left, right, rows)
         }
     }
@@ -105,12 +105,12 @@ pub(crate) fn both_compared(
         (operand_value (cell_of rows.now row) bounds.now.low.now)
         (operand_value (cell_of rows.now row) bounds.now.high.now)) rows.now) }
 {
-    let above = Compared {
+    let above = OperandComparison {
         comparison: Comparison::GreaterOrEqual,
         left: operand,
         right: bounds.low,
     };
-    let below = Compared {
+    let below = OperandComparison {
         comparison: Comparison::LessOrEqual,
         left: operand,
         right: bounds.high,
@@ -141,7 +141,7 @@ pub(crate) fn any_compared(
 {
     let mut mask = Mask::of(alloc, Truth::False, rows.len)?;
     for index in (0..items.len()).rev() {
-        let equal = Compared {
+        let equal = OperandComparison {
             comparison: Comparison::Equal,
             left: operand,
             right: &items[index],

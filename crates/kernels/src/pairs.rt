@@ -1,9 +1,8 @@
 //! Columns that are compared with each other: 64 numbers or truth values at once, and other values
 //! one after another.
 
-ghost use Rattle.std.specs.Prelude.{◌≡◌, ◌≤◌, ◌<◌, ◌+◌, ◌*◌, ◌^◌, ℕ, pos, int_lt, FitsSigned};
+ghost use Rattle.std.specs.Prelude.{◌≡◌, ◌≤◌, ◌<◌, ◌+◌, ◌*◌, ◌^◌, ℕ, pos, int_lt};
 ghost use Rattle.std.specs.Prelude.{length, get_or, IfSome};
-ghost use Rattle.std.specs.Int.{w128};
 ghost use Rattle.std.specs.Ordering.{int_cmp, int_eq};
 ghost use Rattle.scan_base.specs.Comparison.{compared, satisfies};
 ghost use Rattle.arrays.specs.Column.{slot_of};
@@ -12,15 +11,13 @@ ghost use Rattle.kernels.specs.Pairs.{HasNumbers};
 ghost use Rattle.kernels.specs.Parts.{IsPart};
 ghost use Rattle.kernels.specs.Words.{bit, HasTruths};
 
+use crate::column_part::ColumnPart;
 use crate::flag_pairs::{compared_bits, flag_word};
-use crate::kernel::{Kernel, Slots, slot_by_slot};
-use crate::longs::valid_word;
+use crate::kernel::{Kernel, SlotTruths, slot_by_slot};
 use crate::pack::pack;
-use crate::part::ColumnPart;
 use crate::word::Word;
-use arrays::{Cells, Column, Element, Integers, Layout};
-use arrow_schema::IntegerType;
-use num_traits::AsPrimitive;
+use arrays::{Cells, Column, Element, Integer, Integers, Layout};
+use arrow_types::IntegerType;
 use scan_base::{Comparison, Truth};
 use std::simd::prelude::*;
 use std::simd::u8x64;
@@ -36,7 +33,7 @@ pub(crate) struct Pairs<'a> {
     ghost rights: { count ≤ right.now.len },
 }
 
-impl<'a> Slots for Pairs<'a> {
+impl<'a> SlotTruths for Pairs<'a> {
     ghost use Rattle.scan_base.specs.Comparison.{compared};
     ghost use Rattle.arrays.specs.Column.{slot_of};
 
@@ -127,12 +124,12 @@ fn fill_numbers(column: &Column, from: usize, block: &mut [i128; 64]) -> Option<
         Layout::Integers(cells) => {
             let _count = cells.len();
             fill_integers(&cells, first, block);
-            Some(valid_word(cells.validity(), first))
+            Some(cells.validity().valid_word(first))
         }
         Layout::Decimals(cells) => {
             let _count = column.slots().len();
             fill_cells::<i128>(cells.values(), first, block);
-            Some(valid_word(cells.validity(), first))
+            Some(cells.validity().valid_word(first))
         }
         _ => None,
     }
@@ -144,31 +141,38 @@ fn fill_integers(cells: &Integers<'_>, first: usize, block: &mut [i128; 64])
     ensures { (row : ℕ) → row < 64 → get_or block.new row (pos 0)
         ≡ integer_at (cells.now).integer (cells.now).values (first + row) }
 {
-    let _count = cells.len();
-    let values = cells.values();
     match cells.integer_type() {
-        IntegerType::Int8 => fill_cells::<i8>(values, first, block),
-        IntegerType::Int16 => fill_cells::<i16>(values, first, block),
-        IntegerType::Int32 => fill_cells::<i32>(values, first, block),
-        IntegerType::Int64 => fill_cells::<i64>(values, first, block),
-        IntegerType::UInt8 => fill_cells::<u8>(values, first, block),
-        IntegerType::UInt16 => fill_cells::<u16>(values, first, block),
-        IntegerType::UInt32 => fill_cells::<u32>(values, first, block),
-        IntegerType::UInt64 => fill_cells::<u64>(values, first, block),
+        IntegerType::Int8 => fill_typed::<i8>(cells, first, block),
+        IntegerType::Int16 => fill_typed::<i16>(cells, first, block),
+        IntegerType::Int32 => fill_typed::<i32>(cells, first, block),
+        IntegerType::Int64 => fill_typed::<i64>(cells, first, block),
+        IntegerType::UInt8 => fill_typed::<u8>(cells, first, block),
+        IntegerType::UInt16 => fill_typed::<u16>(cells, first, block),
+        IntegerType::UInt32 => fill_typed::<u32>(cells, first, block),
+        IntegerType::UInt64 => fill_typed::<u64>(cells, first, block),
     }
 }
 
+// The integers of a type of 64 slots from `first` on.
+fn fill_typed<E: Integer>(cells: &Integers<'_>, first: usize, block: &mut [i128; 64])
+    requires kind { E.KIND ≡ (cells.now).integer }
+    requires within { first + 64 ≤ (cells.now).len }
+    ensures { (row : ℕ) → row < 64 → get_or block.new row (pos 0)
+        ≡ integer_at (cells.now).integer (cells.now).values (first + row) }
+{
+    let _count = cells.len();
+    fill_cells::<E>(cells.values(), first, block);
+}
+
 // The 64 numbers of a type from `from` on.
-fn fill_cells<E: Element + AsPrimitive<i128>>(values: &[u8], from: usize, block: &mut [i128; 64])
+fn fill_cells<E: Element>(values: &[u8], from: usize, block: &mut [i128; 64])
     requires room { E.WIDTH * (from + 64) ≤ length values.now }
     requires small { from + 64 < 2 ^ 64 }
-    requires wide { (place : ℕ) →
-        FitsSigned w128 (E.value (E.of_bits (element_at E.WIDTH values.now place))) }
     ensures { (row : ℕ) → row < 64 → get_or block.new row (pos 0)
         ≡ E.value (E.of_bits (element_at E.WIDTH values.now (from + row))) }
 {
     for k in 0..64usize {
-        block[k] = E::read(values, from + k).as_();
+        block[k] = E::read(values, from + k).wide();
     }
 }
 

@@ -5,12 +5,12 @@ ghost use Rattle.arrays.specs.Column.{slot_of};
 ghost use Rattle.arrays.specs.Indices.{index_stands};
 ghost use Rattle.arrays.specs.declared.layout.Layout.TheVariants.{Texts as TextsLayout};
 ghost use Rattle.arrays.specs.declared.layout.Layout.TheVariants.{Indices as IndicesLayout};
-ghost use Rattle.kernels.specs.Ranges.{validity_count};
+ghost use Rattle.arrays.specs.Validity.{IsLong};
+ghost use Rattle.kernels.specs.Nulls.{IsLong-prop};
 ghost use Rattle.kernels.specs.TextPairs.{indices_into, value_of_code};
 
-use crate::among::Packed;
+use crate::code_membership::PackedIntegers;
 use crate::dictionaries::packed_indices;
-use crate::longs::is_valid;
 use crate::row_values::RowValues;
 use arrays::{Cells, Column, Dictionary, Indices, TextsRef};
 use scan_base::ValueRef;
@@ -25,7 +25,7 @@ pub(crate) struct PlainTexts<'a> {
     ghost begins: { first ≡ column.now.first },
     ghost within: { first + column.now.len ≤ cells.len },
     ghost small: { first + column.now.len < 2 ^ 64 },
-    ghost long: { validity_count cells.validity cells.len ≡ cells.len },
+    ghost long: { IsLong cells.validity cells.len } by { IsLong-prop cells.validity cells.len },
 }
 
 impl<'a> PlainTexts<'a> {
@@ -47,7 +47,7 @@ impl<'a> RowValues for PlainTexts<'a> {
 
     fn value_in(&self, row: usize) -> ValueRef<'_> {
         let place = self.first + row;
-        if !is_valid(self.cells.validity(), place) {
+        if !self.cells.validity().is_valid(place) {
             return ValueRef::Null;
         }
         ValueRef::Text(self.cells.get(place))
@@ -59,7 +59,7 @@ impl<'a> RowValues for PlainTexts<'a> {
 pub(crate) struct CodedTexts<'a> {
     pub(crate) column: &'a Column,
     pub(crate) dictionary: &'a Dictionary,
-    indices: Packed<'a>,
+    indices: PackedIntegers<'a>,
     first: usize,
     ghost layout: { column.now.layout ≡ IndicesLayout (indices_into dictionary.now indices) },
     ghost begins: { first ≡ column.now.first },

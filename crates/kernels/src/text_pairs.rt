@@ -6,9 +6,9 @@ ghost use Rattle.scan_base.specs.Comparison.{compared};
 ghost use Rattle.arrays.specs.Column.{slot_of};
 ghost use Rattle.kernels.specs.Parts.{IsPart};
 
-use crate::kernel::{Kernel, Slots, mask_by, slot_by_slot};
+use crate::column_part::ColumnPart;
+use crate::kernel::{Kernel, SlotTruths, mask_by, slot_by_slot};
 use crate::mask::Mask;
-use crate::part::ColumnPart;
 use crate::row_values::RowValues;
 use crate::text_columns::{CodedTexts, PlainTexts};
 use crate::word::Word;
@@ -27,7 +27,7 @@ pub(crate) struct TextPairs<'a, L: RowValues, R: RowValues> {
     ghost rights: { count ≤ (R.column right.now).len },
 }
 
-impl<'a, L: RowValues, R: RowValues> Slots for TextPairs<'a, L, R> {
+impl<'a, L: RowValues, R: RowValues> SlotTruths for TextPairs<'a, L, R> {
     ghost use Rattle.scan_base.specs.Comparison.{compared};
     ghost use Rattle.arrays.specs.Column.{slot_of};
 

@@ -10,21 +10,20 @@ ghost use Rattle.scan_base.specs.declared.truth.Truth.{Truth as TruthValue};
 ghost use Rattle.scan_base.specs.declared.value.Value.{Value as CellValue};
 ghost use Rattle.scan_base.specs.declared.value.Value.TheVariants.{Text};
 ghost use Rattle.scan_base.specs.Truth.{negated_if};
-ghost use Rattle.arrays.specs.Texts.{AreTexts};
+ghost use Rattle.arrays.specs.Validity.{IsLong};
+ghost use Rattle.kernels.specs.Nulls.{IsLong-prop};
 ghost use Rattle.kernels.specs.Parts.{IsPart, said_of};
-ghost use Rattle.kernels.specs.Ranges.{validity_count};
 ghost use Rattle.kernels.specs.Tests.{tests};
 ghost use Rattle.kernels.specs.TextTests.{AreCut, cut_at, is_far, is_text_at};
 ghost use Rattle.kernels.specs.Words.{bit};
 
-use crate::kernel::{Kernel, Slots, mask_by};
-use crate::longs::{is_valid, of_test, valid_word};
+use crate::column_part::ColumnPart;
+use crate::kernel::{Kernel, SlotTruths, mask_by};
+use crate::longs::of_test;
 use crate::mask::Mask;
 use crate::needle::Needle;
-use crate::part::ColumnPart;
 use crate::word::Word;
-use arrays::{Cells, Element, Layout, TextsRef};
-use bitmap::Bits;
+use arrays::{Cells, Element, Layout, TextsRef, Validity};
 use scan_base::{Comparison, Truth};
 use std::alloc::{AllocError, Global};
 use std::simd::prelude::*;
@@ -66,10 +65,10 @@ fn texts_equal(
         (λ mask. mask ≡ said_of (λ value. compared EqualTo value (Text other.now)) part.now)) }
 {
     let column = part.column;
-    let count = column.first() + column.len();
+    let _len = column.len();
     match column.layout() {
         Layout::Texts(cells) => {
-            let kernel = equal_texts(&cells, count, other);
+            let kernel = equal_texts(&cells, other);
             let mask = mask_by(alloc, &kernel, column.first() + part.from, part.len)?;
             Ok(Some(mask))
         }
@@ -82,32 +81,31 @@ fn texts_equal(
 struct EqualTexts<'a> {
     offsets: &'a [u8],
     bytes: &'a [u8],
-    validity: &'a Option<Bits>,
+    validity: &'a Validity,
     count: usize,
     needle: Needle<'a>,
     ghost cut: { AreCut offsets.now bytes.now count },
-    ghost long: { count ≤ validity_count validity.now count },
+    ghost long: { IsLong validity.now count } by { IsLong-prop validity.now count },
 }
 
-fn equal_texts<'a>(cells: &TextsRef<'a>, count: usize, text: &'a str) -> EqualTexts<'a>
-    requires stands { AreTexts cells.now }
-    requires within { count ≤ (cells.now).len }
+// Whether each of some slots of texts is a text.
+fn equal_texts<'a>(cells: &TextsRef<'a>, text: &'a str) -> EqualTexts<'a>
     ensures offsets { result.offsets.now ≡ (cells.now).offsets }
     ensures bytes { result.bytes.now ≡ (cells.now).bytes }
     ensures validity { result.validity.now ≡ (cells.now).validity }
-    ensures count { result.count ≡ count }
+    ensures count { result.count ≡ (cells.now).len }
     ensures needle { result.needle ≡ text.now }
 {
     EqualTexts {
         offsets: cells.offsets(),
         bytes: cells.bytes(),
         validity: cells.validity(),
-        count,
+        count: cells.len(),
         needle: Needle::new(text.as_bytes()),
     }
 }
 
-impl<'a> Slots for EqualTexts<'a> {
+impl<'a> SlotTruths for EqualTexts<'a> {
     ghost use Rattle.arrays.specs.Validity.{is_valid};
     ghost use Rattle.kernels.specs.Ranges.{where_known};
     ghost use Rattle.kernels.specs.TextTests.{is_text_at};
@@ -118,7 +116,7 @@ impl<'a> Slots for EqualTexts<'a> {
         (is_text_at s.needle s.offsets.now s.bytes.now place) };
 
     fn truth(&self, place: usize) -> Truth {
-        if !is_valid(self.validity, place) {
+        if !self.validity.is_valid(place) {
             return Truth::Unknown;
         }
         of_test(self.is_needle(place))
@@ -131,7 +129,7 @@ impl<'a> Kernel for EqualTexts<'a> {
     fn word(&self, from: usize) -> Word {
         Word {
             truths: self.equal_word(from, self.long_word(from)),
-            knowns: valid_word(self.validity, from),
+            knowns: self.validity.valid_word(from),
         }
     }
 }

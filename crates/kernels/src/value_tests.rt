@@ -7,9 +7,9 @@ ghost use Rattle.scan_base.specs.Value.{value_of};
 ghost use Rattle.arrays.specs.Column.{slot_of};
 ghost use Rattle.kernels.specs.Parts.{IsPart, said_of};
 
-use crate::kernel::{Kernel, Slots, mask_by, slot_by_slot};
+use crate::column_part::ColumnPart;
+use crate::kernel::{Kernel, SlotTruths, mask_by, slot_by_slot};
 use crate::mask::Mask;
-use crate::part::ColumnPart;
 use crate::row_values::{AnyColumn, RowValues};
 use crate::text_columns::{CodedTexts, PlainTexts};
 use crate::word::Word;
@@ -27,7 +27,7 @@ struct ValueTests<'a, C: RowValues> {
     ghost there: { count ≤ (C.column column.now).len },
 }
 
-impl<'a, C: RowValues> Slots for ValueTests<'a, C> {
+impl<'a, C: RowValues> SlotTruths for ValueTests<'a, C> {
     ghost use Rattle.scan_base.specs.Comparison.{compared};
     ghost use Rattle.scan_base.specs.Value.{value_of};
     ghost use Rattle.arrays.specs.Column.{slot_of};

@@ -4,8 +4,8 @@
 ghost use Rattle.std.specs.Prelude.{◌≡◌, ◌-◌, ◌<◌, ◌↔◌, [], IfOk, IsTrue, Some};
 ghost use Rattle.std.specs.Time.{instant_nanos};
 
-use command_ends::{AcceptFailure, Announced, Connect, Known, Listen};
-use grpc_frame::{Counted, Output};
+use command_ends::{AcceptFailure, Connect, Listen, PortLine, SeatView};
+use grpc_frame::{CountedEnd, Output};
 use scan_base::Fault;
 use std::io;
 use std::io::ErrorKind;
@@ -18,7 +18,7 @@ const WAIT_SECONDS: u64 = 5;
 /// The end of a client's stream that is written to. It can look whether the client is still there.
 #[derive(Drop)]
 pub struct SocketWriter<'a, R> {
-    counted: Counted<TcpStream>,
+    counted: CountedEnd<TcpStream>,
     clock: &'a R,
     // When a look first found that the client had ended what it sends, since bytes last went out.
     ended: Option<Instant>,
@@ -26,7 +26,7 @@ pub struct SocketWriter<'a, R> {
 
 impl<'a, R> SocketWriter<'a, R> {
     // No end of what the client sends was found yet.
-    fn new(counted: Counted<TcpStream>, clock: &'a R) -> SocketWriter<'a, R>
+    fn new(counted: CountedEnd<TcpStream>, clock: &'a R) -> SocketWriter<'a, R>
         ensures { result.counted ≡ counted }
     {
         SocketWriter {
@@ -132,16 +132,16 @@ impl<R: Net<Listener = TcpListener, Stream = TcpStream>> Connect for Loopback<'_
     ghost use Rattle.std.specs.Prelude.{IfSome};
     ghost use Rattle.command_ends.specs.Network.{AreNew};
 
-    type Reader = Counted<TcpStream>;
+    type Reader = CountedEnd<TcpStream>;
 
-    type Writer = Counted<TcpStream>;
+    type Writer = CountedEnd<TcpStream>;
 
     // Nothing was read or written yet.
     ghost connects = { λ _ _ made _. IfSome made (λ ends. AreNew ends) };
 
     ghost shares = { λ _ _ _. Unit {0} };
 
-    fn connect(&mut self, port: u16) -> io::Result<(Counted<TcpStream>, Counted<TcpStream>)> {
+    fn connect(&mut self, port: u16) -> io::Result<(CountedEnd<TcpStream>, CountedEnd<TcpStream>)> {
         ends_of(TcpStream::connect(self.rt, (Ipv4Addr::LOCALHOST, port))?)
     }
 
@@ -226,13 +226,13 @@ fn failure_of(error: &io::Error) -> AcceptFailure {
 
 impl<'a, K, R> Listen<K> for Port<'a, R>
 where
-    K: Known,
+    K: SeatView,
     R: Net<Listener = TcpListener, Stream = TcpStream> + Clock,
 {
     ghost use Rattle.std.specs.Prelude.{IfOk};
     ghost use Rattle.command_ends.specs.Network.{AreNew};
 
-    type Reader = Counted<TcpStream>;
+    type Reader = CountedEnd<TcpStream>;
 
     type Writer = SocketWriter<'a, R>;
 
@@ -295,9 +295,9 @@ where
     // Where the stream cannot be set up, the listener can still take others.
     fn accept(
         &mut self,
-        _announced: &Announced,
+        _announced: &PortLine,
         _seat: &K,
-    ) -> Result<(Counted<TcpStream>, SocketWriter<'a, R>), AcceptFailure> {
+    ) -> Result<(CountedEnd<TcpStream>, SocketWriter<'a, R>), AcceptFailure> {
         let Some(listener) = &self.listener else {
             return Err(AcceptFailure::Broken);
         };
@@ -311,14 +311,14 @@ where
     }
 
     // Both ends have the stream, and are dropped.
-    fn done(&mut self, _reader: Counted<TcpStream>, _writer: SocketWriter<'a, R>, _seat: &K) {}
+    fn done(&mut self, _reader: CountedEnd<TcpStream>, _writer: SocketWriter<'a, R>, _seat: &K) {}
 }
 
 // The ends of a stream, of which a read or a write fails after so long without a byte.
 fn set_up(
     stream: TcpStream,
     patience: Option<Duration>,
-) -> io::Result<(Counted<TcpStream>, Counted<TcpStream>)>
+) -> io::Result<(CountedEnd<TcpStream>, CountedEnd<TcpStream>)>
     ensures reads { IfOk result (λ ends. ends.0.failures ≡ 0) }
     ensures writes { IfOk result (λ ends. ends.1.failures ≡ 0) }
     ensures unread { IfOk result (λ ends. ends.0.given.bytes ≡ []) }
@@ -330,13 +330,13 @@ fn set_up(
 }
 
 // The ends of a stream. What is written goes out at once.
-fn ends_of(stream: TcpStream) -> io::Result<(Counted<TcpStream>, Counted<TcpStream>)>
+fn ends_of(stream: TcpStream) -> io::Result<(CountedEnd<TcpStream>, CountedEnd<TcpStream>)>
     ensures reads { IfOk result (λ ends. ends.0.failures ≡ 0) }
     ensures writes { IfOk result (λ ends. ends.1.failures ≡ 0) }
     ensures unread { IfOk result (λ ends. ends.0.given.bytes ≡ []) }
     ensures unwritten { IfOk result (λ ends. ends.1.taken.bytes ≡ []) }
 {
     stream.set_nodelay(true)?;
-    let counted = Counted::new(stream.try_clone()?);
-    Ok((Counted::new(stream), counted))
+    let counted = CountedEnd::new(stream.try_clone()?);
+    Ok((CountedEnd::new(stream), counted))
 }

@@ -1,7 +1,7 @@
 //! Counting the rows of a put that is cut anywhere, and the line that is printed.
 
-use crate::counting::RowCounter;
 use crate::meter::progress_line;
+use crate::row_counter::RowCounter;
 use std::alloc::AllocError;
 
 // A message of a put: the record of a batch of two rows.

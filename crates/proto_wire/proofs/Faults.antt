@@ -4,7 +4,7 @@ use Rattle.std.specs.Prelude.{nat_lt, nat_le, length, ◌==◌}
 use Rattle.scan_base.specs.declared.fault.Fault.{Fault}
 use Rattle.scan_base.specs.declared.fault.Fault.TheVariants.{BadProto}
 use Rattle.scan_base.specs.Reading.{◌>>=◌, demand}
-use Rattle.proto_wire.specs.Reading.{groups_within, varint_at, bytes_at, payload_at, is_field_number, field_at}
+use Rattle.proto_wire.specs.Reading.{groups_within, varint_at, front_bytes, payload_at, is_field_number, field_at}
 use Rattle.proto_wire.proofs.Then.{same_Err}
 
 abbrev OnlyBadProto : {A : Type 0} → Result A Fault → Type 0
@@ -29,16 +29,16 @@ varint_only : (bytes : List ℕ) → OnlyBadProto (varint_at bytes)
 unfolding varint_at
 varint_only bytes = then_only (groups_within 10 bytes) _ (groups_only 10 bytes) (λ groups. tt)
 
-bytes_only : (count : ℕ) (bytes : List ℕ) → OnlyBadProto (bytes_at count bytes)
+bytes_only : (count : ℕ) (bytes : List ℕ) → OnlyBadProto (front_bytes count bytes)
 bytes_only count bytes = if_only (nat_le count (length bytes)) _ _ tt refl
 
 payload_only : (wire : ℕ) (bytes : List ℕ) → OnlyBadProto (payload_at wire bytes)
 unfolding payload_at
 payload_only wire bytes =
     if_only (wire == 0) _ _ (then_only (varint_at bytes) _ (varint_only bytes) (λ value. tt))
-    (if_only (wire == 1) _ _ (then_only (bytes_at 8 bytes) _ (bytes_only 8 bytes) (λ fixed. tt))
-    (if_only (wire == 2) _ _ (then_only (varint_at bytes) _ (varint_only bytes) (λ len. then_only (bytes_at len.0 len.1) _ (bytes_only len.0 len.1) (λ chunk. tt)))
-    (if_only (wire == 5) _ _ (then_only (bytes_at 4 bytes) _ (bytes_only 4 bytes) (λ fixed. tt)) refl)))
+    (if_only (wire == 1) _ _ (then_only (front_bytes 8 bytes) _ (bytes_only 8 bytes) (λ fixed. tt))
+    (if_only (wire == 2) _ _ (then_only (varint_at bytes) _ (varint_only bytes) (λ len. then_only (front_bytes len.0 len.1) _ (bytes_only len.0 len.1) (λ chunk. tt)))
+    (if_only (wire == 5) _ _ (then_only (front_bytes 4 bytes) _ (bytes_only 4 bytes) (λ fixed. tt)) refl)))
 
 field_only : (bytes : List ℕ) → OnlyBadProto (field_at bytes)
 unfolding field_at

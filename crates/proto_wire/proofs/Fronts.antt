@@ -7,20 +7,20 @@ use Rattle.std.proofs.lemmas.List.{length-append, length-take-le, take-append-dr
 use Rattle.scan_base.specs.declared.fault.Fault.TheVariants.{BadProto}
 use Rattle.scan_base.specs.Reading.{◌>>=◌, demand}
 use Rattle.proto_wire.specs.Standard.{Content, Varint, Fixed64, Chunk, Fixed32, Entry, IsFieldNumber, IsGroups, wire_type, Holds, StandsInFront}
-use Rattle.proto_wire.specs.Reading.{varint_at, bytes_at, content_by, payload_at, is_field_number, field_at}
+use Rattle.proto_wire.specs.Reading.{varint_at, front_bytes, content_by, payload_at, is_field_number, field_at}
 use Rattle.proto_wire.proofs.Then.{same_front, then_ok, demanded, if_ok, split}
 use Rattle.proto_wire.proofs.Groups.{Front, varint_stands, varint_again}
 
 -- ---- so many bytes
 
-pub bytes_stand : (count : ℕ) (bytes part rest : List ℕ) → bytes_at count bytes ≡ Ok (part, rest) → (bytes ≡ part ++ rest) × (length part ≡ count)
+pub bytes_stand : (count : ℕ) (bytes part rest : List ℕ) → front_bytes count bytes ≡ Ok (part, rest) → (bytes ≡ part ++ rest) × (length part ≡ count)
 bytes_stand count bytes part rest e =
     let h = if_ok (nat_le count (length bytes)) _ BadProto (part, rest) e in
     let p = same_front (take count bytes) part (drop count bytes) rest h.1 in
     let le = leb-true count (length bytes) h.0 in
     (rw (← p.0, ← p.1) (sym (take-append-drop count bytes)), rw (← p.0) (length-take-le count bytes le))
 
-pub bytes_again : (part rest : List ℕ) (count : ℕ) → length part ≡ count → bytes_at count (part ++ rest) ≡ Ok (part, rest)
+pub bytes_again : (part rest : List ℕ) (count : ℕ) → length part ≡ count → front_bytes count (part ++ rest) ≡ Ok (part, rest)
 bytes_again part rest count e =
     rw (le-leb count (length (part ++ rest)) (omega (arith, e, length-append part rest)), take_at part rest count e, drop_at part rest count e) refl
 
@@ -36,24 +36,24 @@ varint_payload wire bytes content rest at e =
     let p = same_front (Varint value.0) content value.1 rest made in
     rw (← p.0, ← p.1) (record { wire_is = at; front = varint_stands bytes value.0 value.1 found }))
 
-fixed64_payload : (wire : ℕ) (bytes : List ℕ) (content : Content) (rest : List ℕ) → wire ≡ 1 → content_by (λ fixed. Fixed64 (from_le_bytes w64 fixed)) (bytes_at 8 bytes) ≡ Ok (content, rest) → Read wire content bytes rest
+fixed64_payload : (wire : ℕ) (bytes : List ℕ) (content : Content) (rest : List ℕ) → wire ≡ 1 → content_by (λ fixed. Fixed64 (from_le_bytes w64 fixed)) (front_bytes 8 bytes) ≡ Ok (content, rest) → Read wire content bytes rest
 fixed64_payload wire bytes content rest at e =
-    then_ok (bytes_at 8 bytes) (λ (fixed : List ℕ × List ℕ). Ok (Fixed64 (from_le_bytes w64 fixed.0), fixed.1)) (content, rest) e (λ fixed found made.
+    then_ok (front_bytes 8 bytes) (λ (fixed : List ℕ × List ℕ). Ok (Fixed64 (from_le_bytes w64 fixed.0), fixed.1)) (content, rest) e (λ fixed found made.
     let p = same_front (Fixed64 (from_le_bytes w64 fixed.0)) content fixed.1 rest made in
     let s = bytes_stand 8 bytes fixed.0 fixed.1 found in
     rw (← p.0, ← p.1) (record { wire_is = at; front = record { front = fixed.0; whole = s.0; holds = (s.1, refl) } }))
 
-fixed32_payload : (wire : ℕ) (bytes : List ℕ) (content : Content) (rest : List ℕ) → wire ≡ 5 → content_by (λ fixed. Fixed32 (from_le_bytes w32 fixed)) (bytes_at 4 bytes) ≡ Ok (content, rest) → Read wire content bytes rest
+fixed32_payload : (wire : ℕ) (bytes : List ℕ) (content : Content) (rest : List ℕ) → wire ≡ 5 → content_by (λ fixed. Fixed32 (from_le_bytes w32 fixed)) (front_bytes 4 bytes) ≡ Ok (content, rest) → Read wire content bytes rest
 fixed32_payload wire bytes content rest at e =
-    then_ok (bytes_at 4 bytes) (λ (fixed : List ℕ × List ℕ). Ok (Fixed32 (from_le_bytes w32 fixed.0), fixed.1)) (content, rest) e (λ fixed found made.
+    then_ok (front_bytes 4 bytes) (λ (fixed : List ℕ × List ℕ). Ok (Fixed32 (from_le_bytes w32 fixed.0), fixed.1)) (content, rest) e (λ fixed found made.
     let p = same_front (Fixed32 (from_le_bytes w32 fixed.0)) content fixed.1 rest made in
     let s = bytes_stand 4 bytes fixed.0 fixed.1 found in
     rw (← p.0, ← p.1) (record { wire_is = at; front = record { front = fixed.0; whole = s.0; holds = (s.1, refl) } }))
 
-chunk_payload : (wire : ℕ) (bytes : List ℕ) (content : Content) (rest : List ℕ) → wire ≡ 2 → (varint_at bytes >>= λ len. content_by Chunk (bytes_at len.0 len.1)) ≡ Ok (content, rest) → Read wire content bytes rest
+chunk_payload : (wire : ℕ) (bytes : List ℕ) (content : Content) (rest : List ℕ) → wire ≡ 2 → (varint_at bytes >>= λ len. content_by Chunk (front_bytes len.0 len.1)) ≡ Ok (content, rest) → Read wire content bytes rest
 chunk_payload wire bytes content rest at e =
-    then_ok (varint_at bytes) (λ (len : ℕ × List ℕ). bytes_at len.0 len.1 >>= λ (chunk : List ℕ × List ℕ). Ok (Chunk chunk.0, chunk.1)) (content, rest) e (λ len len_found after.
-    then_ok (bytes_at len.0 len.1) (λ (chunk : List ℕ × List ℕ). Ok (Chunk chunk.0, chunk.1)) (content, rest) after (λ chunk found made.
+    then_ok (varint_at bytes) (λ (len : ℕ × List ℕ). front_bytes len.0 len.1 >>= λ (chunk : List ℕ × List ℕ). Ok (Chunk chunk.0, chunk.1)) (content, rest) e (λ len len_found after.
+    then_ok (front_bytes len.0 len.1) (λ (chunk : List ℕ × List ℕ). Ok (Chunk chunk.0, chunk.1)) (content, rest) after (λ chunk found made.
     let p = same_front (Chunk chunk.0) content chunk.1 rest made in
     let v = varint_stands bytes len.0 len.1 len_found in
     let s = bytes_stand len.0 len.1 chunk.0 chunk.1 found in

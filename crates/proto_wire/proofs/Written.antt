@@ -8,7 +8,7 @@ use Rattle.std.proofs.lemmas.List.{take_more_set, take_at, take-take, drop_at, l
 use Rattle.std.proofs.lemmas.Grind.{flat_map-append}
 use Rattle.proto_wire.specs.Standard.{Content, Varint, Fixed64, Chunk, Fixed32, Entry, IsFieldNumber, IsVarint, Holds, IsField, IsFields, wire_type}
 use Rattle.proto_wire.specs.Reading.{varint_at}
-use Rattle.proto_wire.specs.Writing.{groups_of, varint, body, spelling, chunk_head, Fits, IsWritable}
+use Rattle.proto_wire.specs.Writing.{groups_of, varint, body, field_spelling, chunk_head, Fits, IsWritable}
 use Rattle.proto_wire.specs.Laws.{ChunksFollowHeads}
 use Rattle.proto_wire.specs.declared.field.Field.{Field}
 use Rattle.std.proofs.lemmas.List.Elements.{All-push}
@@ -95,8 +95,8 @@ body_holds (Fixed64 value) fits = (refl, sym (from_le_bytes-to_le_bytes_8 value 
 body_holds (Chunk chunk) fits = record { len = varint (length chunk); len_is = varint_is (length chunk) fits; whole = refl }
 body_holds (Fixed32 value) fits = (refl, sym (from_le_bytes-to_le_bytes_4 value fits))
 
-pub spelling_is : (entry : Entry) → IsWritable entry → IsField (spelling entry) entry
-unfolding spelling
+pub spelling_is : (entry : Entry) → IsWritable entry → IsField (field_spelling entry) entry
+unfolding field_spelling
 spelling_is entry h =
     let low = wire_low entry.content in
     let number = h.number_is in
@@ -116,10 +116,10 @@ gains old spelled entry f [] h = rw h (spelled, [], sym (append-nil spelled), f,
 gains old spelled entry f (first ∷ others) h =
     (h.0, h.1 ++ spelled, rw h.2 (append_assoc h.0 h.1 spelled), h.3, gains h.1 spelled entry f others h.4)
 
-pub spellings_are : (entries : List Entry) → All IsWritable entries → IsFields (flat_map spelling entries) entries
+pub spellings_are : (entries : List Entry) → All IsWritable entries → IsFields (flat_map field_spelling entries) entries
 spellings_are [] all = refl
 spellings_are (entry ∷ entries) all =
-    (spelling entry, flat_map spelling entries, refl, spelling_is entry (all 0 entry (omega arith)), spellings_are entries (λ k d lt. all (suc k) d (omega arith)))
+    (field_spelling entry, flat_map field_spelling entries, refl, spelling_is entry (all 0 entry (omega arith)), spellings_are entries (λ k d lt. all (suc k) d (omega arith)))
 
 -- ---- a writer that runs out of memory in the middle leaves what was there before it
 
@@ -136,14 +136,14 @@ has_number (first ∷ fields) zero field lt h = h.0
 has_number (first ∷ fields) (suc index) field lt h = has_number fields index field (omega arith) h.1
 
 -- one field more of a list is written
-pub written_more : (start old new : List ℕ) (fields : List Field) (index : ℕ) (field : Field) → index < length fields → (old ≡ start ++ message_of (take index fields)) × All IsWritable (map entry_of (take index fields)) → new ≡ old ++ spelling (entry_of (slice_index_or fields index field)) → IsWritable (entry_of (slice_index_or fields index field)) → (new ≡ start ++ message_of (take (index + 1) fields)) × All IsWritable (map entry_of (take (index + 1) fields))
+pub written_more : (start old new : List ℕ) (fields : List Field) (index : ℕ) (field : Field) → index < length fields → (old ≡ start ++ message_of (take index fields)) × All IsWritable (map entry_of (take index fields)) → new ≡ old ++ field_spelling (entry_of (slice_index_or fields index field)) → IsWritable (entry_of (slice_index_or fields index field)) → (new ≡ start ++ message_of (take (index + 1) fields)) × All IsWritable (map entry_of (take (index + 1) fields))
 written_more start old new fields index field lt before e h =
     let one : map entry_of (take (index + 1) fields) ≡ map entry_of (take index fields) ++ entry_of (slice_index_or fields index field) ∷ [] = map_more entry_of fields index field lt in
-    (rw (one, flat_map-append spelling (map entry_of (take index fields)) (entry_of (slice_index_or fields index field) ∷ []), append-nil (spelling (entry_of (slice_index_or fields index field))), ← append_assoc start (message_of (take index fields)) (spelling (entry_of (slice_index_or fields index field))), ← before.0) e, rw one (All-push IsWritable (map entry_of (take index fields)) (entry_of (slice_index_or fields index field)) before.1 h))
+    (rw (one, flat_map-append field_spelling (map entry_of (take index fields)) (entry_of (slice_index_or fields index field) ∷ []), append-nil (field_spelling (entry_of (slice_index_or fields index field))), ← append_assoc start (message_of (take index fields)) (field_spelling (entry_of (slice_index_or fields index field))), ← before.0) e, rw one (All-push IsWritable (map entry_of (take index fields)) (entry_of (slice_index_or fields index field)) before.1 h))
 
 -- the fields of a message, its tag and its length, turned
-pub message_written : (number : ℕ) (old chunk filled tagged whole turned : List ℕ) (start len n : ℕ) → filled ≡ old ++ chunk → tagged ≡ filled ++ varint (8 * number + 2) → whole ≡ tagged ++ varint len → start ≡ length old → len ≡ length chunk → n ≡ length whole → turned ≡ take start whole ++ (drop (start + len) whole ++ take len (drop start whole)) → take n (turned ++ drop (length turned) whole) ≡ old ++ spelling (chunk_entry number chunk)
-unfolding spelling
+pub message_written : (number : ℕ) (old chunk filled tagged whole turned : List ℕ) (start len n : ℕ) → filled ≡ old ++ chunk → tagged ≡ filled ++ varint (8 * number + 2) → whole ≡ tagged ++ varint len → start ≡ length old → len ≡ length chunk → n ≡ length whole → turned ≡ take start whole ++ (drop (start + len) whole ++ take len (drop start whole)) → take n (turned ++ drop (length turned) whole) ≡ old ++ field_spelling (chunk_entry number chunk)
+unfolding field_spelling
 message_written number old chunk filled tagged whole turned start len n a b d e long l t =
     let head : List ℕ = varint (8 * number + 2) ++ varint (length chunk) in
     let at : whole ≡ (old ++ chunk) ++ head = d ∙ rw (b, a, long) (append_assoc (old ++ chunk) (varint (8 * number + 2)) (varint (length chunk))) in
@@ -157,5 +157,5 @@ message_written number old chunk filled tagged whole turned start len n a b d e 
     take_at turned (drop (length turned) whole) n (as_long ∙ sym l) ∙ same ∙ ap (λ (t : List ℕ). old ++ t) (append_assoc (varint (8 * number + 2)) (varint (length chunk)) chunk)
 
 pub chunks_follow_heads : ChunksFollowHeads
-unfolding spelling chunk_head
+unfolding field_spelling chunk_head
 chunks_follow_heads number chunk = sym (append_assoc (varint (8 * number + 2)) (varint (length chunk)) chunk)

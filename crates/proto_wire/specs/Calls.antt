@@ -10,7 +10,7 @@ use Rattle.proto_wire.specs.declared.field.Payload.TheVariants as payloads
 use Rattle.proto_wire.specs.Standard.{Content, Varint, Fixed64, Chunk, Fixed32, Entry}
 use Rattle.proto_wire.specs.Standard.{IsFieldNumber, StandsInFront}
 use Rattle.proto_wire.specs.Reading.{field_at, fields_of}
-use Rattle.proto_wire.specs.Writing.{spelling}
+use Rattle.proto_wire.specs.Writing.{field_spelling}
 
 -- ---- a field of the code, without where it lies in memory
 
@@ -66,7 +66,7 @@ chunk_entry number chunk = record { number = number; content = Chunk chunk }
 
 -- the bytes of a message of these fields
 abbrev pub message_of : List Field → List ℕ
-message_of fields = flat_map spelling (map entry_of fields)
+message_of fields = flat_map field_spelling (map entry_of fields)
 
 -- the field that embeds a message of these fields
 abbrev pub message_entry : ℕ → List Field → Entry

@@ -2,7 +2,7 @@
 use Rattle.std.specs.Prelude.{◌≡◌, ◌↔◌, ◌<◌, ◌^◌, ◌++◌, ℕ, List, [], ◌∷◌, length, All, Ok, flat_map}
 use Rattle.proto_wire.specs.Standard.{Chunk, Entry, IsFields, StandsInFront}
 use Rattle.proto_wire.specs.Reading.{varint_at, field_at, fields_of}
-use Rattle.proto_wire.specs.Writing.{varint, spelling, chunk_head, IsWritable}
+use Rattle.proto_wire.specs.Writing.{varint, field_spelling, chunk_head, IsWritable}
 
 -- the bytes that read as a list of fields are that list in the standard's words, and no others are
 abbrev pub ReadingKeepsStandard : Type 0
@@ -36,17 +36,18 @@ VarintReadsBack = (n : ℕ) (rest : List ℕ) → n < 2 ^ 64 → varint_at (vari
 -- what is written for fields are those fields
 abbrev pub SpellingKeepsStandard : Type 0
 SpellingKeepsStandard =
-    (entries : List Entry) → All IsWritable entries → IsFields (flat_map spelling entries) entries
+    (entries : List Entry) → All IsWritable entries →
+    IsFields (flat_map field_spelling entries) entries
 
 -- bytes that are fields are, with a written field after them, the same fields and one more
 abbrev pub FieldsAreGained : Type 0
 FieldsAreGained =
     (bytes : List ℕ) (entries : List Entry) (entry : Entry)
     → IsFields bytes entries → IsWritable entry
-    → IsFields (bytes ++ spelling entry) (entries ++ entry ∷ [])
+    → IsFields (bytes ++ field_spelling entry) (entries ++ entry ∷ [])
 
 -- a field of bytes is its head, and then the bytes
 abbrev pub ChunksFollowHeads : Type 0
 ChunksFollowHeads = (number : ℕ) (chunk : List ℕ) →
-    spelling (record { number = number; content = Chunk chunk })
+    field_spelling (record { number = number; content = Chunk chunk })
     ≡ chunk_head number (length chunk) ++ chunk

@@ -22,8 +22,8 @@ unfoldable pub varint_at : List ℕ → Result (ℕ × List ℕ) Fault
 varint_at bytes = groups_within 10 bytes >>= λ groups. Ok (groups.0 % 2 ^ 64, groups.1)
 
 -- so many bytes at the front, and what follows them
-abbrev pub bytes_at : ℕ → List ℕ → Result (List ℕ × List ℕ) Fault
-bytes_at count bytes =
+abbrev pub front_bytes : ℕ → List ℕ → Result (List ℕ × List ℕ) Fault
+front_bytes count bytes =
     if nat_le count (length bytes) then Ok (take count bytes, drop count bytes) else Err BadProto
 
 -- what a field holds, made of what is read, and what follows it
@@ -36,10 +36,10 @@ unfoldable pub payload_at : ℕ → List ℕ → Result (Content × List ℕ) Fa
 payload_at wire bytes =
     if wire == 0 then content_by Varint (varint_at bytes)
     else (if wire == 1
-    then content_by (λ fixed. Fixed64 (from_le_bytes w64 fixed)) (bytes_at 8 bytes)
-    else (if wire == 2 then (varint_at bytes >>= λ len. content_by Chunk (bytes_at len.0 len.1))
+    then content_by (λ fixed. Fixed64 (from_le_bytes w64 fixed)) (front_bytes 8 bytes)
+    else (if wire == 2 then (varint_at bytes >>= λ len. content_by Chunk (front_bytes len.0 len.1))
     else (if wire == 5
-    then content_by (λ fixed. Fixed32 (from_le_bytes w32 fixed)) (bytes_at 4 bytes)
+    then content_by (λ fixed. Fixed32 (from_le_bytes w32 fixed)) (front_bytes 4 bytes)
     else Err BadProto)))
 
 -- a field may have this number

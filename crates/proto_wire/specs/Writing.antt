@@ -23,8 +23,8 @@ body (Chunk chunk) = varint (length chunk) ++ chunk
 body (Fixed32 value) = to_le_bytes w32 value
 
 -- what is written for a field
-unfoldable pub spelling : Entry → List ℕ
-spelling entry = varint (8 * entry.number + wire_type entry.content) ++ body entry.content
+unfoldable pub field_spelling : Entry → List ℕ
+field_spelling entry = varint (8 * entry.number + wire_type entry.content) ++ body entry.content
 
 -- what is written before the bytes of a field of so many bytes: its tag, of wire type 2, and its
 -- length

@@ -3,7 +3,7 @@
 ghost use Rattle.std.specs.Prelude.{◌≡◌, ◌+◌, ◌*◌, ◌<◌, ◌≤◌, ◌++◌, take, drop, length, map, All};
 ghost use Rattle.std.specs.Prelude.{OnOk, OnErr};
 ghost use Rattle.proto_wire.specs.Standard.{IsFieldNumber};
-ghost use Rattle.proto_wire.specs.Writing.{spelling, varint, chunk_head, IsWritable};
+ghost use Rattle.proto_wire.specs.Writing.{field_spelling, varint, chunk_head, IsWritable};
 ghost use Rattle.proto_wire.specs.Calls.{entry_of, varint_entry, chunk_entry, message_of};
 ghost use Rattle.proto_wire.specs.Calls.{message_entry, HaveFieldNumbers};
 
@@ -32,10 +32,11 @@ fn append_chunk(out: &mut Vec<u8>, chunk: &[u8]) -> Result<(), AllocError>
 }
 
 // Writes a field at the end, and may leave a piece where memory runs out.
-#[tactic(auto, unfolding(crate::specs::Writing::spelling))]
+#[tactic(auto, unfolding(crate::specs::Writing::field_spelling))]
 fn append_field(out: &mut Vec<u8>, field: &Field<'_>) -> Result<(), AllocError>
     requires { IsFieldNumber field.now.number }
-    ensures ok { OnOk result (out.new.items ≡ out.old.items ++ spelling (entry_of field.now)) }
+    ensures ok { OnOk result (out.new.items
+        ≡ out.old.items ++ field_spelling (entry_of field.now)) }
     ensures err { take (length out.old.items) out.new.items ≡ out.old.items }
     ensures entry { OnOk result (IsWritable (entry_of field.now)) }
 {
@@ -66,7 +67,8 @@ fn append_field(out: &mut Vec<u8>, field: &Field<'_>) -> Result<(), AllocError>
 /// `AllocError` where memory is refused. Nothing has changed then.
 pub fn put_field(out: &mut Vec<u8>, field: &Field<'_>) -> Result<(), AllocError>
     requires { IsFieldNumber field.now.number }
-    ensures ok { OnOk result (out.new.items ≡ out.old.items ++ spelling (entry_of field.now)) }
+    ensures ok { OnOk result (out.new.items
+        ≡ out.old.items ++ field_spelling (entry_of field.now)) }
     ensures entry { OnOk result (IsWritable (entry_of field.now)) }
     ensures err { OnErr result (out.new.items ≡ out.old.items) }
 {
@@ -87,7 +89,7 @@ pub fn put_field(out: &mut Vec<u8>, field: &Field<'_>) -> Result<(), AllocError>
 pub fn put_varint(out: &mut Vec<u8>, number: u32, value: u64) -> Result<(), AllocError>
     requires { IsFieldNumber number }
     ensures ok { OnOk result (out.new.items
-        ≡ out.old.items ++ spelling (varint_entry number value)) }
+        ≡ out.old.items ++ field_spelling (varint_entry number value)) }
     ensures entry { OnOk result (IsWritable (varint_entry number value)) }
     ensures err { OnErr result (out.new.items ≡ out.old.items) }
 {
@@ -102,7 +104,7 @@ pub fn put_varint(out: &mut Vec<u8>, number: u32, value: u64) -> Result<(), Allo
 pub fn put_bytes(out: &mut Vec<u8>, number: u32, content: &[u8]) -> Result<(), AllocError>
     requires { IsFieldNumber number }
     ensures ok { OnOk result (out.new.items
-        ≡ out.old.items ++ spelling (chunk_entry number content.now)) }
+        ≡ out.old.items ++ field_spelling (chunk_entry number content.now)) }
     ensures entry { OnOk result (IsWritable (chunk_entry number content.now)) }
     ensures err { OnErr result (out.new.items ≡ out.old.items) }
 {
@@ -137,7 +139,7 @@ fn append_message(out: &mut Vec<u8>, number: u32, fields: &[Field<'_>]) -> Resul
     requires number { IsFieldNumber number }
     requires fields { HaveFieldNumbers fields.now }
     ensures ok { OnOk result (out.new.items
-        ≡ out.old.items ++ spelling (message_entry number fields.now)) }
+        ≡ out.old.items ++ field_spelling (message_entry number fields.now)) }
     ensures err { take (length out.old.items) out.new.items ≡ out.old.items }
     ensures entry { OnOk result (IsWritable (message_entry number fields.now)) }
     ensures entries { OnOk result (All IsWritable (map entry_of fields.now)) }
@@ -160,7 +162,7 @@ pub fn put_message(out: &mut Vec<u8>, number: u32, fields: &[Field<'_>]) -> Resu
     requires number { IsFieldNumber number }
     requires fields { HaveFieldNumbers fields.now }
     ensures ok { OnOk result (out.new.items
-        ≡ out.old.items ++ spelling (message_entry number fields.now)) }
+        ≡ out.old.items ++ field_spelling (message_entry number fields.now)) }
     ensures entry { OnOk result (IsWritable (message_entry number fields.now)) }
     ensures entries { OnOk result (All IsWritable (map entry_of fields.now)) }
     ensures err { OnErr result (out.new.items ≡ out.old.items) }

@@ -11,9 +11,9 @@ use Rattle.query_binder.specs.declared.chain.Connective.TheVariants.{And, Or}
 use Rattle.typed_plan.specs.declared.class.Class.{Class}
 use Rattle.typed_plan.specs.Faults.{◌then◌, predicate_fault}
 use Rattle.scan_base.specs.View.{pred_of}
-use Rattle.query_binder.specs.declared.chain.Side.{Side}
-use Rattle.query_binder.specs.Chain.{SideAt, side_of, connected, first_of, sides_of}
-use Rattle.typed_plan.specs.Numbered.{predicate_map}
+use Rattle.query_binder.specs.declared.chain.ChainLink.{ChainLink}
+use Rattle.query_binder.specs.Chain.{LinkAt, link_of, connected, first_predicate, links_of}
+use Rattle.typed_plan.specs.NumberedPredicates.{predicate_map}
 
 -- how many operators a predicate has
 abbrev pub operators : {C : Type 0} → Pred C → ℕ
@@ -28,11 +28,11 @@ operators (null_test negated operand) = 0
 operators (constant truth) = 0
 
 -- a predicate with these after it, the last first
-abbrev pub chained : Pred ColumnName → List SideAt → Pred ColumnName
+abbrev pub chained : Pred ColumnName → List LinkAt → Pred ColumnName
 chained p [] = p
 chained p (side ∷ sides) = connected side.connective (chained p sides) side.predicate
 
-pub chained_first : (p : Pred ColumnName) → chained (first_of p) (sides_of p) ≡ p
+pub chained_first : (p : Pred ColumnName) → chained (first_predicate p) (links_of p) ≡ p
 chained_first (conjunction p q) = ap (λ left. conjunction left q) (chained_first p)
 chained_first (disjunction p q) = ap (λ left. disjunction left q) (chained_first p)
 chained_first (negation p) = refl
@@ -44,14 +44,14 @@ chained_first (null_test negated operand) = refl
 chained_first (constant truth) = refl
 
 -- the side that is nearest is after the predicate
-pub chained_nearest : (p : Pred ColumnName) (sides : List SideAt) (side : SideAt) →
+pub chained_nearest : (p : Pred ColumnName) (sides : List LinkAt) (side : LinkAt) →
     chained p (sides ++ side ∷ []) ≡ chained (connected side.connective p side.predicate) sides
 chained_nearest p [] side = refl
 chained_nearest p (far ∷ sides) side =
     ap (λ left. connected far.connective left far.predicate) (chained_nearest p sides side)
 
 -- a fault of what comes first is the chain's
-pub first_fault : (f : ColumnName → Result Class Fault) (p : Pred ColumnName) (sides : List SideAt) (fault : Fault) →
+pub first_fault : (f : ColumnName → Result Class Fault) (p : Pred ColumnName) (sides : List LinkAt) (fault : Fault) →
     predicate_fault f p ≡ Some fault → predicate_fault f (chained p sides) ≡ Some fault
 first_fault f p [] fault e = e
 first_fault f p (side ∷ sides) fault e = connected_fault side.connective (first_fault f p sides fault e)
@@ -79,12 +79,12 @@ connected_operators p q And = refl
 connected_operators p q Or = refl
 
 -- what a chain begins with has no more operators than the chain
-pub chained_grows : (p : Pred ColumnName) (sides : List SideAt) → operators p ≤ operators (chained p sides)
+pub chained_grows : (p : Pred ColumnName) (sides : List LinkAt) → operators p ≤ operators (chained p sides)
 chained_grows p [] = omega arith
 chained_grows p (side ∷ sides) =
     omega (arith, chained_grows p sides, connected_operators (chained p sides) side.predicate side.connective)
 
-pub first_operators : (p : Pred ColumnName) → operators (first_of p) ≤ operators p
+pub first_operators : (p : Pred ColumnName) → operators (first_predicate p) ≤ operators p
 first_operators (conjunction p q) = omega (arith, first_operators p)
 first_operators (disjunction p q) = omega (arith, first_operators p)
 first_operators (negation p) = omega arith
@@ -95,32 +95,32 @@ first_operators (membership negated operand items) = omega arith
 first_operators (null_test negated operand) = omega arith
 first_operators (constant truth) = omega arith
 
-pub chain_fault : (f : ColumnName → Result Class Fault) (p whole : Pred ColumnName) (sides : List SideAt)
+pub chain_fault : (f : ColumnName → Result Class Fault) (p whole : Pred ColumnName) (sides : List LinkAt)
     (fault : Fault) →
     chained p sides ≡ whole → predicate_fault f p ≡ Some fault → predicate_fault f whole ≡ Some fault
 chain_fault f p whole sides fault is e = ap (predicate_fault f) (sym is) ∙ first_fault f p sides fault e
 
 -- a predicate and a side, taken apart
-pub started : (side : Side) (left : Pred ColumnName) (fresh pushed all : List Side) → fresh ≡ [] →
+pub started : (side : ChainLink) (left : Pred ColumnName) (fresh pushed all : List ChainLink) → fresh ≡ [] →
     pushed ≡ fresh ++ side ∷ [] →
-    map side_of all ≡ map side_of pushed ++ sides_of left →
-    chained (first_of left) (map side_of all) ≡ connected side.connective left (pred_of side.predicate.now)
+    map link_of all ≡ map link_of pushed ++ links_of left →
+    chained (first_predicate left) (map link_of all) ≡ connected side.connective left (pred_of side.predicate.now)
 started side left fresh pushed all is_new is_pushed behind =
-    ap (chained (first_of left)) (behind
-    ∙ ap (λ sides. map side_of sides ++ sides_of left) (is_pushed ∙ ap (λ front. front ++ side ∷ []) is_new))
+    ap (chained (first_predicate left)) (behind
+    ∙ ap (λ sides. map link_of sides ++ links_of left) (is_pushed ∙ ap (λ front. front ++ side ∷ []) is_new))
     ∙ ap (λ p. connected side.connective p (pred_of side.predicate.now)) (chained_first left)
 
 -- the nearest side, taken from the sides that are left
-pub popped : (done whole : Pred ColumnName) (all rest : List Side) (side : Side) → all ≡ rest ++ side ∷ [] →
-    chained done (map side_of all) ≡ whole →
-    chained (connected side.connective done (pred_of side.predicate.now)) (map side_of rest) ≡ whole
+pub popped : (done whole : Pred ColumnName) (all rest : List ChainLink) (side : ChainLink) → all ≡ rest ++ side ∷ [] →
+    chained done (map link_of all) ≡ whole →
+    chained (connected side.connective done (pred_of side.predicate.now)) (map link_of rest) ≡ whole
 popped done whole all rest side is chain =
-    sym (chained_nearest done (map side_of rest) (side_of side))
-    ∙ ap (chained done) (sym (map-append side_of rest (side ∷ [])))
-    ∙ ap (λ sides. chained done (map side_of sides)) (sym is) ∙ chain
+    sym (chained_nearest done (map link_of rest) (link_of side))
+    ∙ ap (chained done) (sym (map-append link_of rest (side ∷ [])))
+    ∙ ap (λ sides. chained done (map link_of sides)) (sym is) ∙ chain
 
 -- a side has fewer operators than the chain
-pub side_operators : (done q left right : Pred ColumnName) (connective outer : Connective) (sides : List SideAt) →
+pub side_operators : (done q left right : Pred ColumnName) (connective outer : Connective) (sides : List LinkAt) →
     chained (connected connective done q) sides ≡ connected outer left right →
     operators q ≤ operators left + operators right
 side_operators done q left right connective outer sides is =

@@ -3,8 +3,8 @@ use Rattle.std.proofs.Common.{◌≡◌, ℕ, ◌==◌, true, false, not, ◌||�
 use Rattle.std.proofs.Common.{if◌then◌else◌, Result, Ok, Err, refl, sym, ap, ◌∙◌, arith, rules}
 use Rattle.std.specs.List.{list_any}
 use Rattle.std.proofs.lemmas.Bool.{or_parts}
-use Rattle.arrow_schema.specs.declared.schema.Field.{Field}
-use Rattle.arrow_schema.specs.declared.schema.Schema.{Schema}
+use Rattle.arrow_types.specs.declared.schema.Field.{Field}
+use Rattle.arrow_types.specs.declared.schema.Schema.{Schema}
 use Rattle.scan_base.specs.declared.fault.Fault.{Fault}
 use Rattle.scan_base.specs.declared.fault.Fault.TheVariants.{NotInSubset}
 use Rattle.sql_query.specs.declared.query.ColumnName.{ColumnName}
@@ -16,12 +16,12 @@ use Rattle.sql_query.specs.Sentence.{Sentence, is_aggregate, has_aggregate, is_g
 use Rattle.typed_plan.specs.declared.plan.Columns.TheVariants.{These}
 use Rattle.typed_plan.specs.declared.plan.Output.{Output}
 use Rattle.typed_plan.specs.declared.plan.Output.TheVariants.{Project, Groups}
-use Rattle.query_binder.specs.Bound.{expression_fault, may_select, select_fault, width_fault}
+use Rattle.query_binder.specs.NameRules.{expression_fault, may_select, select_fault, width_fault}
 use Rattle.typed_plan.specs.Faults.{◌then◌, must, found, first_in, fault_in}
-use Rattle.query_binder.specs.Listed.{column_fault, aggregate_fault}
+use Rattle.query_binder.specs.SelectList.{column_fault, aggregate_fault}
 use Rattle.query_binder.specs.Outcome.{Binds}
-use Rattle.query_binder.specs.Over.{output_fault}
-use Rattle.query_binder.specs.Planned.{number_of_item, aggregate_of, aggregates, chosen, output_for}
+use Rattle.query_binder.specs.PlaceTables.{output_fault}
+use Rattle.query_binder.specs.PlannedTree.{number_of_item, aggregate_of, aggregates, chosen, output_for}
 use Rattle.query_binder.specs.ResultSchema.{list_fields, select_fields}
 use Rattle.typed_plan.specs.Scope.{Scope, column_of, numbered}
 use Rattle.query_binder.proofs.Outcomes.{binds_as}

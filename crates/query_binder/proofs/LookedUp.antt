@@ -7,14 +7,14 @@ use Rattle.scan_base.specs.declared.fault.Fault.TheVariants.{NotInSubset, TableM
 use Rattle.sql_query.specs.declared.query.Place.{Place}
 use Rattle.sql_query.specs.Sentence.{Sentence, place_name, is_left_out_whole}
 use Rattle.table_versions.specs.Database.{Database, table_at}
-use Rattle.table_versions.specs.Stored.{CatalogAt, TableAt, plain, tables_of}
+use Rattle.table_versions.specs.StoredTables.{CatalogAt, TableAt, plain, tables_of}
 use Rattle.table_versions.specs.Table.{Name, Table}
 use Rattle.table_versions.proofs.Stores.{table_at-tables_of}
-use Rattle.query_binder.specs.Bound.{place_fault, places_fault, joins_fault, select_fault, fault_of, glance_of}
+use Rattle.query_binder.specs.NameRules.{place_fault, places_fault, joins_fault, select_fault, fault_of, glance_of}
 use Rattle.typed_plan.specs.Faults.{◌then◌, must, first_in, fault_in}
 use Rattle.query_binder.specs.NameClasses.{filter_fault}
-use Rattle.typed_plan.specs.Joined.{place_columns, scope_of}
-use Rattle.query_binder.specs.Over.{names_of}
+use Rattle.typed_plan.specs.JoinedRows.{place_columns, scope_of}
+use Rattle.query_binder.specs.PlaceTables.{names_of}
 use Rattle.typed_plan.specs.Scope.{column_of}
 
 looked_up : (catalog : CatalogAt) (names : List Name) (place : Place) (there : Option TableAt) →

@@ -26,9 +26,3 @@ fails_then first second whole fault is failed apart = is ∙ ap (λ one. one the
 pub holds_if_ok : {X : Type 0} (P : Type 0) (given : Result X Fault) → P → IfOk given (λ _. P)
 holds_if_ok P (Ok x) holds = holds
 holds_if_ok P (Err fault) holds = tt
-
--- what holds of a value wherever there is no fault
-pub if_bound : {X : Type 0} (fault : Option Fault) (P Q : X → Type 0) (given : Result X Fault) → Binds fault P given →
-    ((x : X) → fault ≡ None → P x → Q x) → IfOk given Q
-if_bound fault P Q (Ok x) bound more = more x bound.0 bound.1
-if_bound fault P Q (Err other) bound more = tt

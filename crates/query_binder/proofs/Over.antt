@@ -2,24 +2,24 @@
 use Rattle.std.proofs.Common.{◌≡◌, ◌≤◌, ◌-◌, false, not, List, [], ◌∷◌, ◌++◌, length, map, take, drop, get_or, Option, Some, None}
 use Rattle.std.proofs.Common.{ℕ, arith, refl, sym, ap, subst, ◌∙◌, append-nil, append_assoc}
 use Rattle.scan_base.specs.Predicate.{Pred}
-use Rattle.typed_plan.specs.Held.{tree_schemas}
+use Rattle.typed_plan.specs.HeldTables.{tree_schemas}
 use Rattle.std.proofs.lemmas.List.{take_all}
 use Rattle.scan_base.specs.declared.fault.Fault.TheVariants.{NotInSubset}
 use Rattle.sql_query.specs.declared.query.Join.{Join}
 use Rattle.sql_query.specs.declared.query.Place.{Place}
 use Rattle.sql_query.specs.Sentence.{Sentence, place_name, is_left_out_whole}
 use Rattle.table_versions.specs.Database.{table_at}
-use Rattle.table_versions.specs.Stored.{CatalogAt, TableAt, plain, table_of, tables_of}
+use Rattle.table_versions.specs.StoredTables.{CatalogAt, TableAt, plain, table_of, tables_of}
 use Rattle.table_versions.specs.Table.{Table}
 use Rattle.table_versions.proofs.Stores.{table_at-tables_of}
 use Rattle.typed_plan.specs.declared.plan.Columns.TheVariants.{All}
-use Rattle.query_binder.specs.Bound.{equality_fault, joins_fault, places_fault, rules_fault, fault_of}
+use Rattle.query_binder.specs.NameRules.{equality_fault, joins_fault, places_fault, rules_fault, fault_of}
 use Rattle.typed_plan.specs.Faults.{◌then◌, must, first_in}
-use Rattle.typed_plan.specs.Joined.{fields_in, place_columns, scope_after}
-use Rattle.query_binder.specs.Over.{AreTablesOf, places_of, columns_over, scan_over, joins_fault_over, scope_over, joined_over}
-use Rattle.query_binder.specs.Over.{tree_over, all_over, rest_fault, parts_fault, plan_over}
+use Rattle.typed_plan.specs.JoinedRows.{fields_in, place_columns, scope_after}
+use Rattle.query_binder.specs.PlaceTables.{AreTablesOf, places_of, columns_over, scan_over, joins_fault_over, scope_over, joined_over}
+use Rattle.query_binder.specs.PlaceTables.{tree_over, all_over, rest_fault, parts_fault, plan_over}
 use Rattle.typed_plan.specs.Plan.{Tree, scan, joined, PlanAt}
-use Rattle.query_binder.specs.Planned.{schema_in, place_tree, keys_of, joins_tree, where_kept, numbered_filter, output_for, plan_for}
+use Rattle.query_binder.specs.PlannedTree.{schema_in, place_tree, keys_of, joins_tree, where_kept, numbered_filter, output_for, plan_for}
 use Rattle.query_binder.specs.ResultSchema.{select_fields}
 use Rattle.typed_plan.specs.Scope.{Scope, columns_in}
 
@@ -97,11 +97,6 @@ others_are catalog first joins (table ∷ tables) are =
     let tail : AreTablesOf catalog (map (λ join. join.place) joins) tables = cc in
     subst (AreTablesOf catalog (map (λ join. join.place) joins))
     (sym (take_all (length (table ∷ tables) - 1) tables (omega arith))) tail
-
-pub some_tables : (catalog : CatalogAt) (first : Place) (joins : List Join) (tables : List TableAt) →
-    AreTablesOf catalog (places_of first joins) tables → 1 ≤ length tables
-some_tables catalog first joins [] are = cc
-some_tables catalog first joins (table ∷ tables) are = omega arith
 
 -- what is found after the places is what is found
 pub fault_is : (query : Sentence) (catalog : CatalogAt) (first : TableAt) (others : List TableAt) →

@@ -11,15 +11,15 @@ use Rattle.sql_query.specs.Sentence.{Sentence, place_name, is_left_out_whole}
 use Rattle.table_versions.specs.Table.{Name, Table}
 use Rattle.table_versions.specs.Database.{Database, table_at, columns_of}
 use Rattle.typed_plan.specs.Scope.{Scope, column_of}
-use Rattle.typed_plan.specs.Joined.{place_columns, scope_of, kept}
+use Rattle.typed_plan.specs.JoinedRows.{place_columns, scope_of, kept_rows}
 use Rattle.typed_plan.specs.Faults.{◌then◌, must, first_in, fault_in}
 use Rattle.query_binder.specs.NameClasses.{filter_fault}
-use Rattle.query_binder.specs.Bound.{place_fault, places_fault, joins_fault, select_fault, rules_fault, fault_of}
+use Rattle.query_binder.specs.NameRules.{place_fault, places_fault, joins_fault, select_fault, rules_fault, fault_of}
 use Rattle.typed_plan.specs.Plan.{Tree, joined as both, output_rows}
-use Rattle.query_binder.specs.Planned.{schema_in, place_tree, keys_of, joins_tree, from_tree, numbered_filter, where_kept}
-use Rattle.query_binder.specs.Planned.{output_for, plan_for}
-use Rattle.typed_plan.specs.Held.{tree_tables}
-use Rattle.typed_plan.specs.Typed.{IsOver}
+use Rattle.query_binder.specs.PlannedTree.{schema_in, place_tree, keys_of, joins_tree, from_tree, numbered_filter, where_kept}
+use Rattle.query_binder.specs.PlannedTree.{output_for, plan_for}
+use Rattle.typed_plan.specs.HeldTables.{tree_tables}
+use Rattle.typed_plan.specs.TypedPlans.{IsOver}
 use Rattle.query_binder.specs.Binding.{IsPlanOf}
 use Rattle.typed_plan.proofs.TypedNames.{then_none}
 use Rattle.query_binder.proofs.PlannedRows.{rows_are}
@@ -113,7 +113,7 @@ plan_means query database e =
       means =
           λ a b.
           ap (output_rows (output_for query scope)) (rows_are query database a b)
-          ∙ output_is query scope (kept query database a b) is.select;
+          ∙ output_is query scope (kept_rows query database a b) is.select;
       schema = refl;
       over = plan_over query database is;
     }

@@ -19,13 +19,13 @@ use Rattle.sql_query.specs.Sentence.{Sentence, is_aggregate, has_aggregate, is_g
 use Rattle.table_versions.specs.Table.{Row}
 use Rattle.typed_plan.specs.declared.plan.Aggregate.TheVariants as aggregate
 use Rattle.typed_plan.specs.declared.plan.Output.TheVariants.{Project, Groups}
-use Rattle.typed_plan.specs.Scope.{Scope, column_of, numbered, number_in, cell_of}
-use Rattle.typed_plan.specs.Grouped.{Group, same_key, with_row, groups_of}
-use Rattle.typed_plan.specs.Meaning.{value_in_row, value_in_group, selected, summed}
+use Rattle.typed_plan.specs.Scope.{Scope, column_of, numbered, number_in, named_cell}
+use Rattle.typed_plan.specs.GroupedRows.{Group, same_key, with_row, groups_of}
+use Rattle.typed_plan.specs.Meaning.{value_in_row, value_in_group, selected, group_values}
 use Rattle.typed_plan.specs.Faults.{◌then◌, must, found, first_in}
-use Rattle.query_binder.specs.Bound.{may_select, expression_fault, width_fault, select_fault}
+use Rattle.query_binder.specs.NameRules.{may_select, expression_fault, width_fault, select_fault}
 use Rattle.typed_plan.specs.Plan.{taken, answered, groups_by, output_rows}
-use Rattle.query_binder.specs.Planned.{number_of_item, chosen, key_place, aggregate_of, aggregates, output_for}
+use Rattle.query_binder.specs.PlannedTree.{number_of_item, chosen, key_place, aggregate_of, aggregates, output_for}
 use Rattle.typed_plan.proofs.TypedNames.{then_none}
 
 map_agree : {X Y : Type 0} (f g : X → Y) (xs : List X) → AllByRecursion (λ x. f x ≡ g x) xs → map f xs ≡ map g xs
@@ -82,7 +82,7 @@ groups_are : (scope : Scope) (names : List ColumnName) (rows : List Row) →
 groups_are scope [] rows = refl
 groups_are scope (name ∷ names) rows =
     fold_agree (λ groups row. with_row (map (cell_in row) (map (numbered scope) (name ∷ names))) row groups)
-    (λ groups row. with_row (map (cell_of scope row) (name ∷ names)) row groups)
+    (λ groups row. with_row (map (named_cell scope row) (name ∷ names)) row groups)
     (λ groups row. ap (λ key. with_row key row groups) (map-map (cell_in row) (numbered scope) (name ∷ names)))
     [] rows
 
@@ -124,12 +124,12 @@ fold_first key_of_row (row ∷ rows) groups all =
 -- where there is GROUP BY, a group's key is the values of its first row
 abbrev HasKeyOf : Scope → List ColumnName → Group → Type 0
 HasKeyOf scope [] group = Unit {0}
-HasKeyOf scope (name ∷ names) group = HasFirst (λ row. map (cell_of scope row) (name ∷ names)) group
+HasKeyOf scope (name ∷ names) group = HasFirst (λ row. map (named_cell scope row) (name ∷ names)) group
 
 groups_have : (scope : Scope) (names : List ColumnName) (rows : List Row) →
     AllByRecursion (HasKeyOf scope names) (groups_of scope names rows)
 groups_have scope [] rows = (tt, tt)
-groups_have scope (name ∷ names) rows = fold_first (λ row. map (cell_of scope row) (name ∷ names)) rows [] tt
+groups_have scope (name ∷ names) rows = fold_first (λ row. map (named_cell scope row) (name ∷ names)) rows [] tt
 
 -- ---- items of groups
 
@@ -148,20 +148,20 @@ later_name scope number name names other e = at (number == numbered scope name) 
 -- the value that stands at a column's place in the key is the row's
 key_found : (scope : Scope) (row : Row) (number : ℕ) (names : List ColumnName) →
     list_any (λ name. number == numbered scope name) names ≡ true →
-    cell_in (map (cell_of scope row) names) (key_place (map (numbered scope) names) number) ≡ cell_in row number
+    cell_in (map (named_cell scope row) names) (key_place (map (numbered scope) names) number) ≡ cell_in row number
 key_found scope row number [] e = cc
 key_found scope row number (name ∷ names) e =
     at (numbered scope name == number) refl (λ later. key_found scope row number names later)
   where
     at : (here : Bool) → (numbered scope name == number) ≡ here →
         (list_any (λ name. number == numbered scope name) names ≡ true →
-        cell_in (map (cell_of scope row) names) (key_place (map (numbered scope) names) number)
+        cell_in (map (named_cell scope row) names) (key_place (map (numbered scope) names) number)
         ≡ cell_in row number) →
-        cell_in (map (cell_of scope row) (name ∷ names))
+        cell_in (map (named_cell scope row) (name ∷ names))
         (if here then 0 else 1 + key_place (map (numbered scope) names) number) ≡ cell_in row number
     at true is later = ap (cell_in row) (eqb-true (numbered scope name) number is)
     at false is later =
-        ap (cell_in (map (cell_of scope row) (name ∷ names))) (one-add (key_place (map (numbered scope) names) number))
+        ap (cell_in (map (named_cell scope row) (name ∷ names))) (one-add (key_place (map (numbered scope) names) number))
         ∙ later (later_name scope number name names is e)
 
 -- where the query is grouped, a column that may be selected is one of GROUP BY
@@ -238,7 +238,7 @@ list_is query scope group (item ∷ items) grouped e has =
 group_is : (query : Sentence) (scope : Scope) (selecting : Select) (group : Group) → is_grouped query ≡ true →
     select_fault query scope selecting ≡ None → HasKeyOf scope query.group_by group →
     map (answered group) (aggregates scope (map (numbered scope) query.group_by) selecting)
-    ≡ summed scope selecting group
+    ≡ group_values scope selecting group
 group_is query scope select.All group grouped e has = refl
 group_is query scope (select.List items) group grouped e has =
     list_is query scope group items grouped
@@ -251,7 +251,7 @@ group_is query scope (select.List items) group grouped e has =
 pub output_is : (query : Sentence) (scope : Scope) (rows : List Row) →
     select_fault query scope query.select ≡ None →
     output_rows (output_for query scope) rows
-    ≡ (if is_grouped query then map (summed scope query.select) (groups_of scope query.group_by rows)
+    ≡ (if is_grouped query then map (group_values scope query.select) (groups_of scope query.group_by rows)
     else map (selected scope query.select) rows)
 output_is query scope rows e = at (is_grouped query) refl
   where
@@ -260,14 +260,14 @@ output_is query scope rows e = at (is_grouped query) refl
         (if grouped then Groups (map (numbered scope) query.group_by)
         (aggregates scope (map (numbered scope) query.group_by) query.select)
         else Project (chosen scope query.select)) rows
-        ≡ (if grouped then map (summed scope query.select) (groups_of scope query.group_by rows)
+        ≡ (if grouped then map (group_values scope query.select) (groups_of scope query.group_by rows)
         else map (selected scope query.select) rows)
     at true is =
         let keys = map (numbered scope) query.group_by in
         let answer = λ (group : Group). map (answered group) (aggregates scope keys query.select) in
         ap (map answer) (groups_are scope query.group_by rows)
-        ∙ map_agree answer (summed scope query.select) (groups_of scope query.group_by rows)
-        (all_mapped (HasKeyOf scope query.group_by) (λ group. answer group ≡ summed scope query.select group)
+        ∙ map_agree answer (group_values scope query.select) (groups_of scope query.group_by rows)
+        (all_mapped (HasKeyOf scope query.group_by) (λ group. answer group ≡ group_values scope query.select group)
         (λ group has. group_is query scope query.select group is e has) (groups_of scope query.group_by rows)
         (groups_have scope query.group_by rows))
     at false is =

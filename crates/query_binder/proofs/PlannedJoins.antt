@@ -4,7 +4,7 @@ use Rattle.std.proofs.Common.{nat_lt, None, Result, Ok, Err, refl, sym, ap, subs
 use Rattle.std.specs.List.{list_all}
 use Rattle.std.proofs.lemmas.Bool.{and_from}
 use Rattle.std.proofs.lemmas.List.{length-map, map-append}
-use Rattle.arrow_schema.specs.declared.data_type.DataType.{DataType}
+use Rattle.arrow_types.specs.declared.data_type.DataType.{DataType}
 use Rattle.scan_base.specs.declared.fault.Fault.{Fault}
 use Rattle.scan_base.specs.declared.fault.Fault.TheVariants.{NotInSubset}
 use Rattle.sql_query.specs.declared.query.Equality.{Equality}
@@ -13,14 +13,14 @@ use Rattle.sql_query.specs.declared.query.Place.{Place}
 use Rattle.table_versions.specs.Database.{Database}
 use Rattle.typed_plan.specs.declared.class.Class.{Class}
 use Rattle.typed_plan.specs.declared.class.Class.TheVariants.{Number, Text, Truth, Date}
-use Rattle.query_binder.specs.Bound.{crosses, equality_fault, joins_fault}
+use Rattle.query_binder.specs.NameRules.{crosses, equality_fault, joins_fault}
 use Rattle.typed_plan.specs.Faults.{◌then◌, must, first_in, compare_fault}
 use Rattle.query_binder.specs.NameClasses.{class_of_name}
-use Rattle.typed_plan.specs.Joined.{place_columns, scope_after}
+use Rattle.typed_plan.specs.JoinedRows.{place_columns, scope_after}
 use Rattle.typed_plan.specs.Plan.{Tree, joined}
-use Rattle.query_binder.specs.Planned.{place_tree, key_of, keys_of, joins_tree}
+use Rattle.query_binder.specs.PlannedTree.{place_tree, join_key, keys_of, joins_tree}
 use Rattle.typed_plan.specs.Scope.{Scope, numbered}
-use Rattle.typed_plan.specs.Typed.{tree_types, class_of_number, key_fault, spans, IsTypedTree}
+use Rattle.typed_plan.specs.TypedPlans.{tree_types, class_of_number, key_fault, spans, IsTypedTree}
 use Rattle.typed_plan.proofs.ClassFollows.{compare_follows}
 use Rattle.query_binder.proofs.ScopeTypes.{type_in, scope_types, class_follows, place_types}
 use Rattle.typed_plan.proofs.TypedNames.{then_none}
@@ -53,7 +53,7 @@ compare_turned (Err fault) b e = cc
 -- a key of two columns of one class has no fault
 key_agrees : (types : List DataType) (seam one other : ℕ) →
     compare_fault (class_of_number types one) (class_of_number types other) ≡ None →
-    key_fault types (key_of seam one other) ≡ None
+    key_fault types (join_key seam one other) ≡ None
 key_agrees types seam one other e = elim (nat_lt one seam) as (λ b.
     key_fault types (if b then record { left = one; right = other } else record { left = other; right = one }) ≡ None) [
       | true ↦ e
@@ -61,7 +61,7 @@ key_agrees types seam one other e = elim (nat_lt one seam) as (λ b.
     ]
 
 -- a key of two columns that cross has one on each side
-key_spans : (seam one other : ℕ) → crosses seam one other ≡ true → spans seam (key_of seam one other) ≡ true
+key_spans : (seam one other : ℕ) → crosses seam one other ≡ true → spans seam (join_key seam one other) ≡ true
 key_spans seam one other e = of_sides (nat_lt one seam) (nat_lt other seam) refl refl e
   where
     of_sides : (a b : Bool) → nat_lt one seam ≡ a → nat_lt other seam ≡ b → (if a then not b else b) ≡ true →
@@ -72,8 +72,8 @@ key_spans seam one other e = of_sides (nat_lt one seam) (nat_lt other seam) refl
     of_sides false false first second f = cc
 
 equality_typed : (seam : ℕ) (scope : Scope) (equality : Equality) → equality_fault seam scope equality ≡ None →
-    (key_fault (scope_types scope) (key_of seam (numbered scope equality.left) (numbered scope equality.right)) ≡ None)
-    × (spans seam (key_of seam (numbered scope equality.left) (numbered scope equality.right)) ≡ true)
+    (key_fault (scope_types scope) (join_key seam (numbered scope equality.left) (numbered scope equality.right)) ≡ None)
+    × (spans seam (join_key seam (numbered scope equality.left) (numbered scope equality.right)) ≡ true)
 equality_typed seam scope equality e =
     let left = numbered scope equality.left in
     let right = numbered scope equality.right in
@@ -95,7 +95,7 @@ keys_typed seam scope (equality ∷ on) e =
     let parts = then_none (equality_fault seam scope equality) (first_in (equality_fault seam scope) on) e in
     let here = equality_typed seam scope equality parts.0 in
     let others = keys_typed seam scope on parts.1 in
-    let key = key_of seam (numbered scope equality.left) (numbered scope equality.right) in (
+    let key = join_key seam (numbered scope equality.left) (numbered scope equality.right) in (
       ap (λ fault. fault then first_in (key_fault (scope_types scope)) (keys_of seam scope on)) here.0 ∙ others.0,
       and_from (spans seam key) (list_all (spans seam) (keys_of seam scope on)) here.1 others.1,
     )

@@ -6,9 +6,9 @@ use Rattle.std.specs.List.{list_all, list_any}
 use Rattle.std.proofs.lemmas.Bool.{and_from, or_parts, eqb-true, eq-eqb, lt-ltb, ltb-true}
 use Rattle.std.proofs.lemmas.Option.{slice_get-map}
 use Rattle.std.proofs.Math.Numerals.{one-add}
-use Rattle.arrow_schema.specs.declared.data_type.DataType.{DataType}
-use Rattle.arrow_schema.specs.declared.data_type.DataType.TheVariants.{Utf8}
-use Rattle.arrow_schema.specs.Answer.{answered_at, answered_from, answered_field}
+use Rattle.arrow_types.specs.declared.data_type.DataType.{DataType}
+use Rattle.arrow_types.specs.declared.data_type.DataType.TheVariants.{Utf8}
+use Rattle.arrow_types.specs.Answer.{answered_at, answered_from, answered_field}
 use Rattle.scan_base.specs.declared.fault.Fault.{Fault}
 use Rattle.scan_base.specs.declared.fault.Fault.TheVariants.{NotInSubset, TypeClash}
 use Rattle.sql_query.specs.declared.query.ColumnName.{ColumnName}
@@ -20,14 +20,14 @@ use Rattle.sql_query.specs.declared.query.SelectItem.{SelectItem}
 use Rattle.sql_query.specs.Sentence.{Sentence, is_aggregate, has_aggregate, is_grouped, is_all}
 use Rattle.typed_plan.specs.declared.plan.Output.{Output}
 use Rattle.typed_plan.specs.declared.plan.Output.TheVariants.{Project, Groups}
-use Rattle.query_binder.specs.Bound.{may_select, expression_fault, width_fault, select_fault}
+use Rattle.query_binder.specs.NameRules.{may_select, expression_fault, width_fault, select_fault}
 use Rattle.typed_plan.specs.Class.{can_sum}
 use Rattle.typed_plan.specs.Faults.{◌then◌, must, found, first_in, fault_in}
 use Rattle.query_binder.specs.NameClasses.{sums_at}
-use Rattle.query_binder.specs.Planned.{number_of_item, chosen, key_place, aggregate_of, aggregates, output_for}
+use Rattle.query_binder.specs.PlannedTree.{number_of_item, chosen, key_place, aggregate_of, aggregates, output_for}
 use Rattle.query_binder.specs.ResultSchema.{field_at, expression_field, list_fields, numbered_fields, select_fields}
 use Rattle.typed_plan.specs.Scope.{Scope, ScopeColumn, column_of, number_in, numbered}
-use Rattle.typed_plan.specs.Typed.{types_of, type_at, has_item, item_type, output_types, HasOutput}
+use Rattle.typed_plan.specs.TypedPlans.{types_of, type_at, has_item, item_type, output_types, HasOutput}
 use Rattle.query_binder.proofs.PlannedJoins.{must_none}
 use Rattle.query_binder.proofs.ScopeTypes.{type_in, scope_types, numbered_there}
 use Rattle.typed_plan.proofs.TypedNames.{then_none}

@@ -23,13 +23,13 @@ use Rattle.table_versions.specs.Table.{Row}
 use Rattle.table_versions.specs.Database.{Database}
 use Rattle.typed_plan.specs.declared.plan.JoinKey.{JoinKey}
 use Rattle.typed_plan.specs.Scope.{Scope, numbered}
-use Rattle.typed_plan.specs.Joined.{place_columns, place_rows, scope_of, fits_on, extensions, rows_after, rows_between}
-use Rattle.typed_plan.specs.Joined.{passes, kept}
-use Rattle.typed_plan.specs.Numbered.{predicate_map}
+use Rattle.typed_plan.specs.JoinedRows.{place_columns, place_rows, scope_of, fits_on, extensions, rows_after, rows_between}
+use Rattle.typed_plan.specs.JoinedRows.{meets_where, kept_rows}
+use Rattle.typed_plan.specs.NumberedPredicates.{predicate_map}
 use Rattle.typed_plan.proofs.Numbered.{truth_of-map}
 use Rattle.typed_plan.specs.Plan.{Tree, joined as both, is_true, fits, joined_rows, tree_rows}
-use Rattle.query_binder.specs.Planned.{place_tree, key_of, keys_of, joins_tree, from_tree, numbered_filter, where_kept}
-use Rattle.query_binder.specs.Planned.{plan_for}
+use Rattle.query_binder.specs.PlannedTree.{place_tree, join_key, keys_of, joins_tree, from_tree, numbered_filter, where_kept}
+use Rattle.query_binder.specs.PlannedTree.{plan_for}
 
 -- ---- ON
 
@@ -67,7 +67,7 @@ are_equal row one other = keeps (compared Equal (cell_in row one) (cell_in row o
 
 -- the order of a key's cells does not matter
 key_is : (seam one other : ℕ) (row : Row) →
-    are_equal row (key_of seam one other).left (key_of seam one other).right ≡ are_equal row one other
+    are_equal row (join_key seam one other).left (join_key seam one other).right ≡ are_equal row one other
 key_is seam one other row = ordered (nat_lt one seam)
   where
     ordered : (earlier : Bool) →
@@ -126,18 +126,18 @@ filter-all (x ∷ xs) = ap (λ ys. x ∷ ys) (filter-all xs)
 where_are : (scope : Scope) (filtering : Option (Pred ColumnName)) (tree : Tree) (database : Database)
     (cut : List Row → List Row) →
     tree_rows (where_kept (numbered_filter scope filtering) tree) database cut
-    ≡ filter (passes scope filtering) (tree_rows tree database cut)
+    ≡ filter (meets_where scope filtering) (tree_rows tree database cut)
 where_are scope None tree database cut = sym (filter-all (tree_rows tree database cut))
 where_are scope (Some predicate) tree database cut =
-    filter_agree (is_true (predicate_map (numbered scope) predicate)) (passes scope (Some predicate))
+    filter_agree (is_true (predicate_map (numbered scope) predicate)) (meets_where scope (Some predicate))
     (λ row. ap keeps (truth_of-map (cell_in row) (numbered scope) predicate)) (tree_rows tree database cut)
 
 -- the tree gives the rows of FROM and WHERE
 pub rows_are : (query : Sentence) (database : Database) (a b : ℕ) →
-    tree_rows (plan_for query database).tree database (rows_between a b) ≡ kept query database a b
+    tree_rows (plan_for query database).tree database (rows_between a b) ≡ kept_rows query database a b
 rows_are query database a b =
     let scope = scope_of query database in
     where_are scope query.filter (from_tree query database) database (rows_between a b)
-    ∙ ap (filter (passes scope query.filter))
+    ∙ ap (filter (meets_where scope query.filter))
     (joins_are database (place_columns database query.first) (place_tree database query.first) query.joins
     (rows_between a b))

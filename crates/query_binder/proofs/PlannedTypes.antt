@@ -2,7 +2,7 @@
 use Rattle.std.proofs.Common.{◌≡◌, ℕ, ◌==◌, Bool, true, false, not, ◌&&◌, if◌then◌else◌, List, [], ◌∷◌, map, length}
 use Rattle.std.proofs.Common.{Option, Some, None, refl, sym, ap, subst, ◌∙◌, arith}
 use Rattle.std.proofs.lemmas.Bool.{not-true, or_parts, ne_eqb}
-use Rattle.arrow_schema.specs.Answer.{answered_from}
+use Rattle.arrow_types.specs.Answer.{answered_from}
 use Rattle.scan_base.specs.declared.fault.Fault.TheVariants.{NotInSubset}
 use Rattle.scan_base.specs.Predicate.{Pred}
 use Rattle.sql_query.specs.declared.query.ColumnName.{ColumnName}
@@ -10,15 +10,15 @@ use Rattle.sql_query.specs.declared.query.Join.{Join}
 use Rattle.sql_query.specs.Sentence.{Sentence, is_grouped, is_all, is_left_out_whole}
 use Rattle.table_versions.specs.Database.{Database}
 use Rattle.typed_plan.specs.declared.plan.Output.{Output}
-use Rattle.query_binder.specs.Bound.{places_fault, joins_fault, select_fault, rules_fault, fault_of}
+use Rattle.query_binder.specs.NameRules.{places_fault, joins_fault, select_fault, rules_fault, fault_of}
 use Rattle.typed_plan.specs.Faults.{◌then◌, must, first_in, fault_in, predicate_fault}
 use Rattle.query_binder.specs.NameClasses.{class_of_name, filter_fault}
-use Rattle.typed_plan.specs.Joined.{place_columns, scope_of}
-use Rattle.typed_plan.specs.Numbered.{predicate_map}
+use Rattle.typed_plan.specs.JoinedRows.{place_columns, scope_of}
+use Rattle.typed_plan.specs.NumberedPredicates.{predicate_map}
 use Rattle.typed_plan.specs.Plan.{Tree}
-use Rattle.query_binder.specs.Planned.{place_tree, joins_tree, from_tree, numbered_filter, where_kept, output_for, plan_for}
+use Rattle.query_binder.specs.PlannedTree.{place_tree, joins_tree, from_tree, numbered_filter, where_kept, output_for, plan_for}
 use Rattle.typed_plan.specs.Scope.{Scope, column_of, numbered}
-use Rattle.typed_plan.specs.Typed.{class_of_number, is_place, output_types, HasOutput, is_grouping, IsTyped}
+use Rattle.typed_plan.specs.TypedPlans.{class_of_number, is_place, output_types, HasOutput, is_grouping, IsTyped}
 use Rattle.typed_plan.proofs.ClassFollows.{predicate_follows}
 use Rattle.query_binder.proofs.PlannedJoins.{must_none, HasTypes, joins_typed}
 use Rattle.query_binder.proofs.PlannedOutput.{output_typed}

@@ -4,12 +4,11 @@ use Rattle.std.proofs.Common.{refl, pos, negsuc, true, false, List, [], ◌∷�
 use Rattle.std.proofs.Common.{arith}
 use Rattle.std.specs.Fmt.{decimal}
 use Rattle.std.proofs.lemmas.Fmt.{decimal_digit}
-use Rattle.arrow_schema.specs.declared.data_type.DataType.{DataType}
-use Rattle.arrow_schema.specs.declared.data_type.DataType.TheVariants.{Integer, Utf8, Bool as Flag, Decimal128, Date}
-use Rattle.arrow_schema.specs.declared.data_type.DataType.TheVariants.{Dictionary}
-use Rattle.arrow_schema.specs.declared.data_type.IntegerType.TheVariants.{Int8, Int32, Int64, UInt64}
-use Rattle.arrow_schema.specs.declared.schema.Field.{Field}
-use Rattle.arrow_schema.specs.declared.schema.Schema.{Schema}
+use Rattle.arrow_types.specs.declared.data_type.DataType.{DataType}
+use Rattle.arrow_types.specs.declared.data_type.DataType.TheVariants.{Integer, Utf8, Bool as Flag, Decimal128, Date, Dictionary}
+use Rattle.arrow_types.specs.declared.data_type.IntegerType.TheVariants.{Int8, Int32, Int64, UInt64}
+use Rattle.arrow_types.specs.declared.schema.Field.{Field}
+use Rattle.arrow_types.specs.declared.schema.Schema.{Schema}
 use Rattle.scan_base.specs.declared.comparison.Comparison.TheVariants.{Less, Equal, Greater}
 use Rattle.scan_base.specs.declared.fault.Fault.TheVariants.{TableMissing, UnknownName, TypeClash, NotInSubset}
 use Rattle.scan_base.specs.declared.fault.Fault.TheVariants.{LimitReached}
@@ -31,10 +30,10 @@ use Rattle.scan_base.specs.declared.put_options.IfExists.{IfExists}
 use Rattle.scan_base.specs.declared.put_options.IfExists.TheVariants as present
 use Rattle.scan_base.specs.declared.put_options.IfNotExist.TheVariants as absent
 use Rattle.table_versions.specs.Table.{Name, Row}
-use Rattle.table_versions.specs.Database.{Database, Put, version}
+use Rattle.table_versions.specs.Database.{Database, Put, version_after}
 use Rattle.typed_plan.specs.Meaning.{meaning}
 use Rattle.typed_plan.proofs.Whole.{whole_meaning}
-use Rattle.query_binder.specs.Bound.{rules_fault, fault_of}
+use Rattle.query_binder.specs.NameRules.{rules_fault, fault_of}
 use Rattle.query_binder.specs.ResultSchema.{result_schema}
 
 abbrev named : Name → ColumnName
@@ -234,10 +233,10 @@ log =
     ∷ put present.Append a_column ((int 6 ∷ []) ∷ (int 7 ∷ []) ∷ [])
     ∷ put present.Replace (field (codes "b") Utf8 ∷ []) [] ∷ []
 
-second_endpoint : meaning (from_t select.All) (version log 1) 2 5 ≡ (int 3 ∷ []) ∷ (int 4 ∷ []) ∷ (int 5 ∷ []) ∷ []
+second_endpoint : meaning (from_t select.All) (version_after log 1) 2 5 ≡ (int 3 ∷ []) ∷ (int 4 ∷ []) ∷ (int 5 ∷ []) ∷ []
 second_endpoint = refl
 
-first_endpoint : meaning (from_t select.All) (version log 1) 0 2 ≡ (int 1 ∷ []) ∷ (int 2 ∷ []) ∷ []
+first_endpoint : meaning (from_t select.All) (version_after log 1) 0 2 ≡ (int 1 ∷ []) ∷ (int 2 ∷ []) ∷ []
 first_endpoint = refl
 
 -- no fault, and each of them

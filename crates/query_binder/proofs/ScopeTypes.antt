@@ -6,21 +6,21 @@ use Rattle.std.proofs.lemmas.Bool.{lt-ltb}
 use Rattle.std.proofs.lemmas.List.{length-map}
 use Rattle.std.proofs.lemmas.Option.{slice_get-map, slice_get-get_or}
 use Rattle.std.proofs.lemmas.Simd.{map-map}
-use Rattle.arrow_schema.specs.declared.data_type.DataType.{DataType}
-use Rattle.arrow_schema.specs.declared.data_type.DataType.TheVariants.{Utf8}
-use Rattle.arrow_schema.specs.declared.schema.Field.{Field}
+use Rattle.arrow_types.specs.declared.data_type.DataType.{DataType}
+use Rattle.arrow_types.specs.declared.data_type.DataType.TheVariants.{Utf8}
+use Rattle.arrow_types.specs.declared.schema.Field.{Field}
 use Rattle.scan_base.specs.declared.fault.Fault.{Fault}
 use Rattle.sql_query.specs.declared.query.ColumnName.{ColumnName}
 use Rattle.sql_query.specs.declared.query.Place.{Place}
 use Rattle.sql_query.specs.Sentence.{place_name}
 use Rattle.table_versions.specs.Table.{Table}
 use Rattle.table_versions.specs.Database.{Database, table_at}
-use Rattle.typed_plan.specs.Scope.{Scope, ScopeColumn, stands_for, numbers_of, the_only, column_of, numbered, number_in}
+use Rattle.typed_plan.specs.Scope.{Scope, ScopeColumn, stands_for, named_numbers, the_only, column_of, numbered, number_in}
 use Rattle.typed_plan.specs.Faults.{fault_in}
 use Rattle.query_binder.specs.NameClasses.{class_at, class_of_column, class_of_name}
-use Rattle.typed_plan.specs.Joined.{fields_in, place_columns}
-use Rattle.query_binder.specs.Planned.{schema_in, place_tree}
-use Rattle.typed_plan.specs.Typed.{types_of, tree_types, class_if_there, class_of_number}
+use Rattle.typed_plan.specs.JoinedRows.{fields_in, place_columns}
+use Rattle.query_binder.specs.PlannedTree.{schema_in, place_tree}
+use Rattle.typed_plan.specs.TypedPlans.{types_of, tree_types, class_if_there, class_of_number}
 use Rattle.typed_plan.proofs.ClassFollows.{Follows}
 
 abbrev pub type_in : ScopeColumn → DataType
@@ -32,12 +32,12 @@ scope_types scope = map type_in scope
 
 -- a number that a name stands for is one of a column
 above : (first : ℕ) (name : ColumnName) (columns : Scope) (number : ℕ) (rest : List ℕ) →
-    numbers_of first name columns ≡ number ∷ rest →
+    named_numbers first name columns ≡ number ∷ rest →
     number < first + length columns
 above first name [] number rest e = cc
 above first name (column ∷ columns) number rest e =
     elim (stands_for name column) as (λ b.
-    (if b then first ∷ numbers_of (first + 1) name columns else numbers_of (first + 1) name columns) ≡ number ∷ rest →
+    (if b then first ∷ named_numbers (first + 1) name columns else named_numbers (first + 1) name columns) ≡ number ∷ rest →
     number < first + length (column ∷ columns)) [
       | true ↦ λ d. let same : first ≡ number = cc in omega (arith, same)
       | false ↦ λ d. omega (arith, above (first + 1) name columns number rest d)
@@ -53,7 +53,7 @@ only_within (first ∷ other ∷ rest) width number below e = cc
 
 pub meant_within : (scope : Scope) (name : ColumnName) (number : ℕ) → column_of scope name ≡ Ok number →
     number < length scope
-meant_within scope name number e = only_within (numbers_of 0 name scope) (length scope) number
+meant_within scope name number e = only_within (named_numbers 0 name scope) (length scope) number
     (λ first rest f. omega (arith, above 0 name scope first rest f)) e
 
 -- the number of a name without a fault is one of a column

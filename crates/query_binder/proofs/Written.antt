@@ -9,13 +9,13 @@ use Rattle.std.proofs.lemmas.List.{length-map, length-append}
 use Rattle.std.proofs.lemmas.List.Elements.{All-nil, All-cons, All-head, All-tail, All-append, All-get_or}
 use Rattle.std.proofs.lemmas.Option.{slice_get-get_or}
 use Rattle.std.proofs.lemmas.Str.{IsAscii-append, IsUtf8-from_ascii}
-use Rattle.arrow_schema.specs.declared.data_type.DataType.{DataType}
-use Rattle.arrow_schema.specs.declared.data_type.DataType.TheVariants.{Integer, Utf8, Decimal128}
-use Rattle.arrow_schema.specs.declared.data_type.IntegerType.TheVariants.{Int64}
-use Rattle.arrow_schema.specs.declared.schema.Field.{Field}
-use Rattle.arrow_schema.specs.Answer.{answered_at, answered_from, answered_field}
-use Rattle.arrow_schema.specs.Schema.{IsName, IsField, IsSchema}
-use Rattle.arrow_schema.proofs.Answered.{answered_typed, answered_apart}
+use Rattle.arrow_types.specs.declared.data_type.DataType.{DataType}
+use Rattle.arrow_types.specs.declared.data_type.DataType.TheVariants.{Integer, Utf8, Decimal128}
+use Rattle.arrow_types.specs.declared.data_type.IntegerType.TheVariants.{Int64}
+use Rattle.arrow_types.specs.declared.schema.Field.{Field}
+use Rattle.arrow_types.specs.Answer.{answered_at, answered_from, answered_field}
+use Rattle.arrow_types.specs.Schema.{IsName, IsField, IsSchema}
+use Rattle.arrow_types.proofs.Answered.{answered_typed, answered_apart}
 use Rattle.scan_base.specs.declared.fault.Fault.{Fault}
 use Rattle.scan_base.specs.declared.fault.Fault.TheVariants.{LimitReached}
 use Rattle.scan_base.specs.Limits.{most_columns}
@@ -27,16 +27,16 @@ use Rattle.sql_query.specs.declared.query.Select.{Select}
 use Rattle.sql_query.specs.declared.query.Select.TheVariants as select
 use Rattle.sql_query.specs.declared.query.SelectItem.{SelectItem}
 use Rattle.sql_query.specs.Sentence.{Sentence, place_name}
-use Rattle.table_versions.specs.Stored.{TableAt}
+use Rattle.table_versions.specs.StoredTables.{TableAt}
 use Rattle.table_versions.specs.Table.{Name}
-use Rattle.query_binder.specs.Bound.{expression_fault, select_fault, width_fault}
+use Rattle.query_binder.specs.NameRules.{expression_fault, select_fault, width_fault}
 use Rattle.typed_plan.specs.Faults.{must, found, first_in, fault_in}
-use Rattle.query_binder.specs.Listed.{CanBeWritten}
-use Rattle.query_binder.specs.Named.{IsNameIfThere, HasNames}
-use Rattle.query_binder.specs.Over.{columns_over}
+use Rattle.query_binder.specs.SelectList.{CanBeWritten}
+use Rattle.query_binder.specs.Aliases.{IsNameIfThere, HasNames}
+use Rattle.query_binder.specs.PlaceTables.{columns_over}
 use Rattle.query_binder.specs.ResultSchema.{field_at, aggregate_name, expression_field, item_field, list_fields, numbered_fields, select_fields}
 use Rattle.typed_plan.specs.Scope.{Scope, ScopeColumn, columns_in, column_of, numbered}
-use Rattle.typed_plan.specs.Typed.{types_of}
+use Rattle.typed_plan.specs.TypedPlans.{types_of}
 use Rattle.query_binder.proofs.ScopeTypes.{numbered_within, scope_types, type_in}
 use Rattle.query_binder.proofs.PlannedOutput.{all_types}
 use Rattle.typed_plan.proofs.TypedNames.{then_none}

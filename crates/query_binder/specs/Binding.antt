@@ -1,13 +1,11 @@
 -- What binding a query gives.
-use Rattle.std.specs.Prelude.{◌≡◌, ℕ, None}
+use Rattle.std.specs.Prelude.{◌≡◌, ℕ}
 use Rattle.sql_query.specs.Sentence.{Sentence}
 use Rattle.table_versions.specs.Database.{Database}
-use Rattle.query_binder.specs.Bound.{fault_of}
 use Rattle.typed_plan.specs.Meaning.{meaning}
 use Rattle.query_binder.specs.ResultSchema.{result_schema}
 use Rattle.typed_plan.specs.Plan.{PlanAt, plan_rows}
-use Rattle.query_binder.specs.Planned.{plan_for}
-use Rattle.typed_plan.specs.Typed.{IsOver, IsTyped}
+use Rattle.typed_plan.specs.TypedPlans.{IsOver}
 
 -- the plan gives the rows that the query means, on each range of the first place
 abbrev pub Means : PlanAt → Sentence → Database → Type 0
@@ -18,9 +16,3 @@ pub record IsPlanOf (query : Sentence) (database : Database) (plan : PlanAt) : T
   pub means : Means plan query database
   pub schema : plan.schema ≡ result_schema query database
   pub over : IsOver plan.tree database
-
--- the plan that the parts of a query name is a plan of the query, and well typed, wherever the
--- rules find no fault
-abbrev pub PlansMean : Type 0
-PlansMean = (query : Sentence) (database : Database) → fault_of query database ≡ None →
-    IsPlanOf query database (plan_for query database) × IsTyped (plan_for query database)

@@ -1,10 +1,10 @@
 pub mod NameClasses
-pub mod Bound
+pub mod NameRules
 pub mod ResultSchema
 pub mod Chain
 pub mod Outcome
-pub mod Named
+pub mod Aliases
 pub mod Binding
-pub mod Planned
-pub mod Over
-pub mod Listed
+pub mod PlannedTree
+pub mod PlaceTables
+pub mod SelectList

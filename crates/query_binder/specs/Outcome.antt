@@ -8,7 +8,7 @@ use Rattle.scan_base.specs.View.{pred_of}
 use Rattle.sql_query.specs.declared.query.ColumnName.{ColumnName}
 use Rattle.typed_plan.specs.Faults.{predicate_fault}
 use Rattle.query_binder.specs.NameClasses.{class_of_name}
-use Rattle.typed_plan.specs.Numbered.{predicate_map}
+use Rattle.typed_plan.specs.NumberedPredicates.{predicate_map}
 use Rattle.typed_plan.specs.Scope.{Scope, numbered}
 
 -- Ok where there is no fault, and the value is as said; else the first fault, or want of memory

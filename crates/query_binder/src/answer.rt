@@ -1,9 +1,9 @@
 //! The columns of a result.
 
 ghost use Rattle.std.specs.Prelude.{◌≡◌, IfOk, unwrap_or};
-ghost use Rattle.arrow_schema.specs.Answer.{answered_field};
+ghost use Rattle.arrow_types.specs.Answer.{answered_field};
 
-use arrow_schema::Field;
+use arrow_types::Field;
 use scan_base::Text;
 use std::alloc::AllocError;
 

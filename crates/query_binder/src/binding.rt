@@ -1,28 +1,28 @@
 //! Binding: the names of a query become columns, and the query a plan.
 
 ghost use Rattle.std.specs.Prelude.{◌≡◌, ◌∷◌, false, Err, IfOk, IfSome, map, option_map};
-ghost use Rattle.arrow_schema.specs.Schema.{IsSchema};
+ghost use Rattle.arrow_types.specs.Schema.{IsSchema};
 ghost use Rattle.scan_base.specs.View.{pred_of};
 ghost use Rattle.sql_query.specs.Sentence.{sentence_of, is_left_out_whole};
-ghost use Rattle.table_versions.specs.Stored.{tables_of};
+ghost use Rattle.table_versions.specs.StoredTables.{tables_of};
 ghost use Rattle.query_binder.specs.Binding.{IsPlanOf};
-ghost use Rattle.query_binder.specs.Bound.{fault_of, glance_of};
+ghost use Rattle.query_binder.specs.NameRules.{fault_of, glance_of};
 ghost use Rattle.query_binder.specs.NameClasses.{filter_fault};
-ghost use Rattle.typed_plan.specs.Held.{HoldsFrom, tree_tables};
-ghost use Rattle.query_binder.specs.Listed.{CanBeWritten};
-ghost use Rattle.query_binder.specs.Named.{HasNames};
+ghost use Rattle.typed_plan.specs.HeldTables.{HoldsFrom, tree_tables};
+ghost use Rattle.query_binder.specs.SelectList.{CanBeWritten};
+ghost use Rattle.query_binder.specs.Aliases.{HasNames};
 ghost use Rattle.query_binder.specs.Outcome.{Binds};
-ghost use Rattle.query_binder.specs.Over.{parts_fault, plan_over, rest_fault};
-ghost use Rattle.query_binder.specs.Planned.{plan_for, numbered_filter, where_kept, output_for};
+ghost use Rattle.query_binder.specs.PlaceTables.{parts_fault, plan_over, rest_fault};
+ghost use Rattle.query_binder.specs.PlannedTree.{plan_for, numbered_filter, where_kept, output_for};
 ghost use Rattle.query_binder.specs.ResultSchema.{select_fields};
 ghost use Rattle.typed_plan.specs.View.{tree_of, plan_of};
 
-use crate::joining::Joined;
+use crate::joining::JoinedPlaces;
 use crate::places::{check_joins, place_tables};
 use crate::predicate::number_predicate;
 use crate::scope::Scope;
 use crate::selection::bind_output;
-use arrow_schema::Schema;
+use arrow_types::Schema;
 use scan_base::{Fault, Predicate};
 use sql_query::{ColumnName, Query};
 use std::alloc::{AllocError, Global};
@@ -83,7 +83,7 @@ fn bind_parts(
         ≡ plan_over (sentence_of query.now) first.now others.now) result }
     ensures named { HasNames query.now.select → IfOk result (λ parts. IsSchema parts.2) }
 {
-    let joined = Joined::of_place(alloc, &query.first, first)?;
+    let joined = JoinedPlaces::of_place(alloc, &query.first, first)?;
     let joined = joined.with_all(alloc, query.joins.as_slice(), others)?;
     bind_rest(alloc, query, joined)
 }
@@ -92,7 +92,7 @@ fn bind_parts(
 fn bind_rest(
     alloc: Global,
     query: &Query,
-    joined: Joined<'_>,
+    joined: JoinedPlaces<'_>,
 ) -> Result<(Plan, Output, Schema), Fault>
     requires { is_left_out_whole (sentence_of query.now) ≡ false }
     ensures bound { Binds (rest_fault (sentence_of query.now) joined.entry.scope)
@@ -105,7 +105,7 @@ fn bind_rest(
     ensures named { CanBeWritten joined.entry.scope → HasNames query.now.select →
         IfOk result (λ parts. IsSchema parts.2) }
 {
-    let Joined { scope, tree } = joined;
+    let JoinedPlaces { scope, tree } = joined;
     let filter = bind_filter(alloc, &scope, &query.filter)?;
     let (output, schema) = bind_output(alloc, &scope, query)?;
     let plan = filtered(alloc, filter, tree)?;

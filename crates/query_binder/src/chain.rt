@@ -3,7 +3,7 @@
 
 ghost use Rattle.std.specs.Prelude.{◌≡◌, ◌++◌, IfOk, OnOk, map};
 ghost use Rattle.scan_base.specs.View.{pred_of};
-ghost use Rattle.query_binder.specs.Chain.{connected, first_of, side_of, sides_of};
+ghost use Rattle.query_binder.specs.Chain.{connected, first_predicate, link_of, links_of};
 
 use scan_base::Predicate;
 use sql_query::ColumnName;
@@ -18,7 +18,7 @@ pub(crate) enum Connective {
 
 // What stands after a predicate in a chain.
 #[derive(Drop)]
-pub(crate) struct Side<'p> {
+pub(crate) struct ChainLink<'p> {
     pub(crate) connective: Connective,
     pub(crate) predicate: &'p Predicate<ColumnName>,
 }
@@ -46,11 +46,11 @@ impl Connective {
 // The first predicate of a chain. What stands after it is added to the sides, the last first.
 pub(crate) fn first_of<'p>(
     chain: &'p Predicate<ColumnName>,
-    sides: &mut Vec<Side<'p>>,
+    sides: &mut Vec<ChainLink<'p>>,
 ) -> Result<&'p Predicate<ColumnName>, AllocError>
-    ensures first { IfOk result (λ first. pred_of first.now ≡ first_of (pred_of chain.now)) }
-    ensures behind { OnOk result (map side_of sides.new.items
-        ≡ map side_of sides.old.items ++ sides_of (pred_of chain.now)) }
+    ensures first { IfOk result (λ first. pred_of first.now ≡ first_predicate (pred_of chain.now)) }
+    ensures behind { OnOk result (map link_of sides.new.items
+        ≡ map link_of sides.old.items ++ links_of (pred_of chain.now)) }
 {
     let mut first = chain;
     loop {
@@ -59,7 +59,7 @@ pub(crate) fn first_of<'p>(
             Predicate::Or(left, right) => (Connective::Or, left, right),
             _ => return Ok(first),
         };
-        sides.push(Side {
+        sides.push(ChainLink {
             connective,
             predicate,
         })?;

@@ -1,14 +1,15 @@
 //! FROM: the columns of its places, and the tree that gives their rows.
 
 ghost use Rattle.std.specs.Prelude.{◌≡◌, ◌++◌, IfOk, length};
-ghost use Rattle.query_binder.specs.Bound.{crosses, equality_fault};
+ghost use Rattle.query_binder.specs.NameRules.{crosses, equality_fault};
 ghost use Rattle.typed_plan.specs.Faults.{must, first_in};
-ghost use Rattle.query_binder.specs.Listed.{CanBeWritten};
+ghost use Rattle.query_binder.specs.SelectList.{CanBeWritten};
 ghost use Rattle.query_binder.specs.Outcome.{Binds};
-ghost use Rattle.query_binder.specs.Over.{columns_over, scan_over, joined_over, joins_fault_over};
-ghost use Rattle.query_binder.specs.Over.{scope_over, tree_over};
+ghost use Rattle.query_binder.specs.PlaceTables.{columns_over, scan_over, joined_over};
+ghost use Rattle.query_binder.specs.PlaceTables.{joins_fault_over};
+ghost use Rattle.query_binder.specs.PlaceTables.{scope_over, tree_over};
 ghost use Rattle.typed_plan.specs.Plan.{joined as joined_trees};
-ghost use Rattle.query_binder.specs.Planned.{key_of, keys_of};
+ghost use Rattle.query_binder.specs.PlannedTree.{join_key, keys_of};
 ghost use Rattle.typed_plan.specs.Scope.{numbered};
 ghost use Rattle.typed_plan.specs.View.{tree_of};
 ghost use Rattle.scan_base.specs.declared.fault.Fault.TheVariants.{NotInSubset as LeftOut};
@@ -22,24 +23,24 @@ use typed_plan::{Class, Columns, JoinKey, Plan};
 
 // The columns of the places so far, and the tree that gives their rows.
 #[derive(Drop)]
-pub(crate) struct Joined<'a> {
+pub(crate) struct JoinedPlaces<'a> {
     pub(crate) scope: Scope<'a>,
     pub(crate) tree: Plan,
 }
 
-impl<'a> Joined<'a> {
+impl<'a> JoinedPlaces<'a> {
     // One place.
     pub(crate) fn of_place(
         alloc: Global,
         place: &'a Place,
         table: &'a TableVersion,
-    ) -> Result<Joined<'a>, AllocError>
+    ) -> Result<JoinedPlaces<'a>, AllocError>
         ensures scope { IfOk result (λ joined. joined.scope ≡ columns_over place.now table.now) }
         ensures tree { IfOk result (λ joined. tree_of joined.tree ≡ scan_over place.now table.now) }
         ensures written { IfOk result (λ joined. CanBeWritten joined.scope) }
     {
         let fields = table.schema().fields.as_slice();
-        Ok(Joined {
+        Ok(JoinedPlaces {
             scope: Scope::of_place(alloc, place.name(), fields)?,
             tree: scan(alloc, place, table)?,
         })
@@ -51,7 +52,7 @@ impl<'a> Joined<'a> {
         alloc: Global,
         joins: &'a [Join],
         tables: &'a [TableVersion],
-    ) -> Result<Joined<'a>, Fault>
+    ) -> Result<JoinedPlaces<'a>, Fault>
         ensures bound { Binds (joins_fault_over self.entry.scope joins.now tables.now)
             (λ joined. (joined.scope ≡ scope_over self.entry.scope joins.now tables.now)
             × (tree_of joined.tree
@@ -76,7 +77,7 @@ impl<'a> Joined<'a> {
         alloc: Global,
         join: &'a Join,
         table: &'a TableVersion,
-    ) -> Result<Joined<'a>, Fault>
+    ) -> Result<JoinedPlaces<'a>, Fault>
         ensures bound { Binds (first_in (equality_fault (length self.entry.scope)
             (self.entry.scope ++ columns_over join.now.place table.now)) join.now.on)
             (λ joined. (joined.scope ≡ self.entry.scope ++ columns_over join.now.place table.now)
@@ -85,10 +86,10 @@ impl<'a> Joined<'a> {
         ensures written { CanBeWritten self.entry.scope →
             IfOk result (λ joined. CanBeWritten joined.scope) }
     {
-        let Joined { mut scope, tree } = self;
+        let JoinedPlaces { mut scope, tree } = self;
         let on = push_join(alloc, &mut scope, join, table)?;
         let tree = join_trees(alloc, tree, scan(alloc, &join.place, table)?, on)?;
-        Ok(Joined { scope, tree })
+        Ok(JoinedPlaces { scope, tree })
     }
 }
 
@@ -157,7 +158,7 @@ fn bind_on(
 // the seam.
 fn bind_equality(scope: &Scope<'_>, seam: usize, equality: &Equality) -> Result<JoinKey, Fault>
     ensures { Binds (equality_fault seam scope.now equality.now)
-        (λ key. key ≡ key_of seam (numbered scope.now equality.now.left)
+        (λ key. key ≡ join_key seam (numbered scope.now equality.now.left)
         (numbered scope.now equality.now.right)) result }
 {
     let left = scope.column_of(&equality.left)?;
@@ -172,7 +173,7 @@ fn bind_equality(scope: &Scope<'_>, seam: usize, equality: &Equality) -> Result<
 // The key of two columns, of which one stands before the seam and one does not.
 fn key_across(seam: usize, left: usize, right: usize) -> Result<JoinKey, Fault>
     ensures { Binds (must (crosses seam left right) LeftOut)
-        (λ key. key ≡ key_of seam left right) result }
+        (λ key. key ≡ join_key seam left right) result }
 {
     match (left < seam, right < seam) {
         (true, false) => Ok(JoinKey { left, right }),

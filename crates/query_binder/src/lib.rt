@@ -4,7 +4,7 @@
 mod answer;
 pub mod binding;
 mod chain;
-mod grouped;
+mod group_by;
 mod joining;
 mod places;
 mod predicate;
@@ -12,6 +12,3 @@ mod scope;
 mod selection;
 
 pub use crate::binding::bind;
-
-/// How many columns a result may have.
-pub const MAX_COLUMNS: usize = 64;

@@ -4,11 +4,11 @@ ghost use Rattle.std.specs.Prelude.{◌≡◌, [], Some, map};
 ghost use Rattle.std.specs.List.{list_any};
 ghost use Rattle.std.specs.Str.{bytes_eq};
 ghost use Rattle.table_versions.specs.Database.{table_at};
-ghost use Rattle.table_versions.specs.Stored.{tables_of};
-ghost use Rattle.query_binder.specs.Bound.{place_fault, places_fault};
+ghost use Rattle.table_versions.specs.StoredTables.{tables_of};
+ghost use Rattle.query_binder.specs.NameRules.{place_fault, places_fault};
 ghost use Rattle.typed_plan.specs.Faults.{fault_in};
 ghost use Rattle.query_binder.specs.Outcome.{Binds, Finds};
-ghost use Rattle.query_binder.specs.Over.{AreTablesOf, names_of, places_of};
+ghost use Rattle.query_binder.specs.PlaceTables.{AreTablesOf, names_of, places_of};
 
 use scan_base::{Fault, Text};
 use sql_query::{Join, Place, Query};

@@ -6,11 +6,11 @@ ghost use Rattle.scan_base.specs.View.{pred_of};
 ghost use Rattle.typed_plan.specs.Scope.{numbered};
 ghost use Rattle.typed_plan.specs.Faults.{operand_class, compare_fault, items_fault, fault_in};
 ghost use Rattle.query_binder.specs.NameClasses.{class_of_name};
-ghost use Rattle.typed_plan.specs.Numbered.{operand_map};
+ghost use Rattle.typed_plan.specs.NumberedPredicates.{operand_map};
 ghost use Rattle.query_binder.specs.Chain.{connected};
 ghost use Rattle.query_binder.specs.Outcome.{Binds, BindsPredicate};
 
-use crate::chain::{Connective, Side, first_of};
+use crate::chain::{ChainLink, Connective, first_of};
 use crate::scope::Scope;
 use scan_base::{Comparison, Fault, Items, Operand, Predicate, Truth};
 use sql_query::ColumnName;
@@ -218,7 +218,7 @@ fn number_chain(
         (connected connective (pred_of left.now) (pred_of right.now)) result }
 {
     let mut sides = Vec::new(alloc);
-    sides.push(Side {
+    sides.push(ChainLink {
         connective,
         predicate: right,
     })?;

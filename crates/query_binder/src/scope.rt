@@ -7,7 +7,7 @@ ghost use Rattle.query_binder.specs.ResultSchema.{select_fields};
 ghost use Rattle.sql_query.specs.declared.query.Select.TheVariants.{All};
 
 use crate::answer::answer_field;
-use arrow_schema::Field;
+use arrow_types::Field;
 use scan_base::{Fault, Items, Text};
 use sql_query::ColumnName;
 use std::alloc::{AllocError, Global};

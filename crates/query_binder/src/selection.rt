@@ -3,21 +3,20 @@
 ghost use Rattle.std.specs.Prelude.{◌≡◌, false, length, map};
 ghost use Rattle.sql_query.specs.Sentence.{sentence_of, is_left_out_whole};
 ghost use Rattle.sql_query.specs.declared.query.Select.TheVariants.{All as AllColumns};
-ghost use Rattle.query_binder.specs.Bound.{width_fault};
+ghost use Rattle.query_binder.specs.NameRules.{width_fault};
 ghost use Rattle.typed_plan.specs.declared.plan.Columns.TheVariants.{All, These as Chosen};
 ghost use Rattle.typed_plan.specs.declared.plan.Output.TheVariants.{Project as Taking};
 ghost use Rattle.typed_plan.specs.Faults.{◌then◌, fault_in, first_in};
-ghost use Rattle.query_binder.specs.Listed.{column_fault};
+ghost use Rattle.query_binder.specs.SelectList.{column_fault};
 ghost use Rattle.query_binder.specs.Outcome.{Binds};
-ghost use Rattle.query_binder.specs.Over.{output_fault};
-ghost use Rattle.query_binder.specs.Planned.{number_of_item, output_for};
+ghost use Rattle.query_binder.specs.PlaceTables.{output_fault};
+ghost use Rattle.query_binder.specs.PlannedTree.{number_of_item, output_for};
 ghost use Rattle.query_binder.specs.ResultSchema.{item_field, list_fields, select_fields};
 
-use crate::MAX_COLUMNS;
 use crate::answer::answer_field;
-use crate::grouped::bind_groups;
+use crate::group_by::bind_groups;
 use crate::scope::Scope;
-use arrow_schema::{Field, Schema};
+use arrow_types::{Field, MAX_COLUMNS, Schema};
 use scan_base::{Fault, Items};
 use sql_query::{Expression, Query, Select, SelectItem};
 use std::alloc::Global;

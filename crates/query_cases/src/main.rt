@@ -3,16 +3,15 @@
 //! making and answers worked out by hand.
 #![tactic(auto)]
 
+mod case_notation;
 mod cases;
 mod merges;
 mod puts;
 mod rows;
 mod sentences;
 mod texts;
-mod written;
 
-use hash_seed::HashSeed;
-use scan_base::Fault;
+use scan_base::{Fault, HashSeed};
 use std::alloc::Global;
 use std::io;
 use std::sync::Arc;
@@ -31,7 +30,7 @@ fn main(rt: HostRuntime) -> io::Result<()> {
     let catalog = CatalogVersion::empty(alloc, HashSeed::new(&rt)?);
     let mut snapshot = Snapshot::new(0, Arc::new(alloc, catalog)?);
     for line in rt.lines(alloc) {
-        let line = written::plain(alloc, line?.as_str())?;
+        let line = case_notation::plain(alloc, line?.as_str())?;
         let (kind, case) = line.as_str().split_once(' ').unwrap_or((line.as_str(), ""));
         if kind == "put" {
             let (next, fault) = after_put(alloc, snapshot, case);

@@ -1,22 +1,21 @@
 //! Groups of two parts of rows, of which those of the second are merged after those of the first.
 
 ghost use Rattle.std.specs.Prelude.{◌≡◌, ◌≤◌, ◌<◌, ◌∷◌, [], All, IfOk, None, length};
-ghost use Rattle.arrow_schema.specs.declared.data_type.DataType.TheVariants.{Integer};
-ghost use Rattle.arrow_schema.specs.declared.data_type.IntegerType.TheVariants.{Int64};
+ghost use Rattle.arrow_types.specs.declared.data_type.DataType.TheVariants.{Integer};
+ghost use Rattle.arrow_types.specs.declared.data_type.IntegerType.TheVariants.{Int64};
 ghost use Rattle.arrays.specs.Batch.{BatchAt};
-ghost use Rattle.arrays.specs.Typed.{AreOf};
-ghost use Rattle.grouping.specs.Fed.{AreTyped, HasItems};
+ghost use Rattle.arrays.specs.TypedLayouts.{AreOf};
+ghost use Rattle.grouping.specs.FedRows.{AreTyped, HasItems};
 
 use crate::rows::push_rows;
 use array_select::{Selection, column_of_int64s};
 use arrays::{Batch, Column};
-use arrow_schema::{DataType, IntegerType};
+use arrow_types::{DataType, IntegerType};
 use grouping::{Answers, Grouping, Groups};
-use hash_seed::HashSeed;
-use scan_base::Fault;
+use scan_base::{Fault, HashSeed};
 use std::alloc::{AllocError, Global};
 use typed_plan::Aggregate;
-use work_watch::Unwatched;
+use work_watch::NoWatch;
 
 static TYPES: [DataType; 2] = [
     DataType::Integer(IntegerType::Int64),
@@ -149,7 +148,7 @@ fn merged_of(alloc: Global, seed: HashSeed, shape: Grouping<'_>) -> Result<Optio
 {
     let mut groups = groups_of(alloc, seed, shape, 0)?;
     let others = groups_of(alloc, seed, shape, 1)?;
-    groups.merge(alloc, others, &mut Unwatched)?;
+    groups.merge(alloc, others, &mut NoWatch)?;
     let mut answers = groups.finish(alloc)?;
     Ok(answers.next(alloc, shape.batches)?)
 }

@@ -10,7 +10,7 @@ use table_versions::CatalogVersion;
 
 // What a scan gave: the cells of its rows, how many batches, and how many batches were opened.
 #[derive(Drop)]
-struct Given {
+struct ScanOutput {
     cells: String,
     batches: usize,
     opened: usize,
@@ -45,14 +45,14 @@ fn scanned(
     catalog: &CatalogVersion,
     sql: &str,
     (from, to): (usize, usize),
-) -> Result<Given, Fault> {
+) -> Result<ScanOutput, Fault> {
     let plan = bind(alloc, &parse(alloc, sql)?, catalog)?;
     let mut scan = Scan::new(alloc, catalog.seed(), plan, from..to)?;
     let mut cells = String::new(alloc);
     for batches in 0..usize::MAX {
         let Some(batch) = scan.next(alloc)? else {
             let opened = scan.opened().len();
-            return Ok(Given {
+            return Ok(ScanOutput {
                 cells,
                 batches,
                 opened,
@@ -98,7 +98,7 @@ fn range_before(case: &str) -> ((usize, usize), &str) {
 /// The cells of a range of rows, how many batches were given, and how many were opened.
 pub fn of_range(alloc: Global, catalog: &CatalogVersion, case: &str) -> Result<String, Fault> {
     let (range, sql) = range_before(case);
-    let Given {
+    let ScanOutput {
         cells,
         batches,
         opened,

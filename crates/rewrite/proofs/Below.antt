@@ -6,12 +6,12 @@ use Rattle.std.proofs.lemmas.Bool.{and_from, and_parts, and_right, or_left, or_r
 use Rattle.scan_base.specs.Predicate.{Pred, conjunction, disjunction, negation, truth_test, comparing, between, membership, null_test, constant, names_only}
 use Rattle.rewrite.specs.Conjuncts.{conjuncts, is_sure, parts_of, all_of, names_some, is_between, is_of_one, is_of_one_place, place_widths}
 use Rattle.rewrite.specs.Laws.{PushedStandBelow}
-use Rattle.rewrite.specs.Pushed.{is_left, is_behind, is_right, is_both, moved, above, pushed, is_pushed}
+use Rattle.rewrite.specs.PushedFilters.{is_left, is_behind, is_right, is_both, moved, above, pushed, is_pushed}
 use Rattle.rewrite.specs.Places.{tree_width}
-use Rattle.typed_plan.specs.Numbered.{predicate_map}
+use Rattle.typed_plan.specs.NumberedPredicates.{predicate_map}
 use Rattle.typed_plan.specs.Plan.{Tree, scan, filtered, joined}
 use Rattle.std.proofs.lemmas.List.{length-append}
-use Rattle.typed_plan.specs.Typed.{is_place, tree_types}
+use Rattle.typed_plan.specs.TypedPlans.{is_place, tree_types}
 use Rattle.rewrite.proofs.Naming.{weaker}
 
 -- ---- parts that are no conjunctions

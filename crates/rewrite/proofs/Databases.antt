@@ -5,19 +5,19 @@ use Rattle.std.specs.Str.{bytes_eq}
 use Rattle.std.proofs.Math.Seq.{drop-append_seam}
 use Rattle.std.proofs.lemmas.List.{length-append, length-map, map-append}
 use Rattle.std.proofs.lemmas.List.Elements.{All-head, All-tail}
-use Rattle.arrow_schema.specs.declared.schema.Field.{Field}
-use Rattle.arrow_schema.specs.declared.schema.Schema.{Schema}
+use Rattle.arrow_types.specs.declared.schema.Field.{Field}
+use Rattle.arrow_types.specs.declared.schema.Schema.{Schema}
 use Rattle.table_versions.specs.Database.{Database, table_at, columns_of}
 use Rattle.table_versions.specs.Table.{Name, Row, Table}
 use Rattle.table_versions.specs.Valid.{IsRow, IsTable, IsDatabase}
 use Rattle.typed_plan.proofs.Scans.{some_schema}
-use Rattle.typed_plan.specs.Held.{tree_tables, tree_schemas}
-use Rattle.typed_plan.specs.Joined.{rows_in, rows_between}
+use Rattle.typed_plan.specs.HeldTables.{tree_tables, tree_schemas}
+use Rattle.typed_plan.specs.JoinedRows.{rows_in, rows_between}
 use Rattle.typed_plan.specs.Plan.{Tree, scan, filtered, joined, is_true, joined_rows, tree_rows, PlanAt, output_rows}
-use Rattle.typed_plan.specs.Typed.{IsOver}
+use Rattle.typed_plan.specs.TypedPlans.{IsOver}
 use Rattle.rewrite.specs.Laws.{AreWide}
 use Rattle.rewrite.specs.Places.{rows_over}
-use Rattle.rewrite.specs.Same.{SameRows, SameOverPlaces}
+use Rattle.rewrite.specs.SameRows.{SameRows, SameOverPlaces}
 
 -- a table for each of the columns of tables
 tables_wide : (tree : Tree) → length (tree_tables tree) ≡ length (tree_schemas tree)

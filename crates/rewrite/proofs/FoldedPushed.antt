@@ -2,25 +2,25 @@
 use Rattle.std.proofs.Common.{◌≡◌, ℕ, ◌-◌, Bool, true, false, not, cond, List, [], ◌∷◌, ◌++◌, length, map, filter, drop, refl, sym, ap, ◌∙◌, subst}
 use Rattle.std.specs.List.{list_all}
 use Rattle.std.proofs.lemmas.Bool.{and_from, and_parts}
-use Rattle.arrow_schema.specs.declared.schema.Schema.{Schema}
+use Rattle.arrow_types.specs.declared.schema.Schema.{Schema}
 use Rattle.scan_base.specs.declared.predicate.Operand.{Operand}
 use Rattle.scan_base.specs.declared.predicate.Operand.TheVariants as operand
 use Rattle.scan_base.specs.Predicate.{Pred, conjunction, disjunction, negation, truth_test, comparing, between, membership, null_test, constant, operand_names}
 use Rattle.table_versions.specs.Database.{Database}
 use Rattle.table_versions.specs.Table.{Row}
-use Rattle.typed_plan.specs.Held.{tree_schemas}
-use Rattle.typed_plan.specs.Numbered.{operand_map, predicate_map}
+use Rattle.typed_plan.specs.HeldTables.{tree_schemas}
+use Rattle.typed_plan.specs.NumberedPredicates.{operand_map, predicate_map}
 use Rattle.typed_plan.specs.Plan.{Tree, scan, filtered, joined}
-use Rattle.typed_plan.specs.Typed.{IsOver}
+use Rattle.typed_plan.specs.TypedPlans.{IsOver}
 use Rattle.typed_plan.specs.View.{BoundAt, tree_of}
 use Rattle.rewrite.proofs.FoldedTrees.{folded_schemas}
 use Rattle.rewrite.proofs.PushedRows.{pushed_schemas}
 use Rattle.rewrite.specs.Conjuncts.{conjuncts, is_sure, parts_of, all_of}
-use Rattle.rewrite.specs.Folded.{is_folded, is_folded_tree, folded_tree}
+use Rattle.rewrite.specs.FoldedPredicates.{is_folded, is_folded_tree, folded_tree}
 use Rattle.rewrite.specs.Laws.{AreWide}
 use Rattle.rewrite.specs.Places.{tree_width}
-use Rattle.rewrite.specs.Pushed.{is_left, is_right, is_both, moved, above, pushed}
-use Rattle.rewrite.specs.Same.{StandsFor}
+use Rattle.rewrite.specs.PushedFilters.{is_left, is_right, is_both, moved, above, pushed}
+use Rattle.rewrite.specs.SameRows.{StandsFor}
 
 -- ---- predicates with other numbers
 

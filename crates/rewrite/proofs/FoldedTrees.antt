@@ -3,8 +3,8 @@ use Rattle.std.proofs.Common.{◌≡◌, ℕ, Bool, true, false, cond, List, ◌
 use Rattle.std.specs.List.{list_all}
 use Rattle.std.proofs.lemmas.Bool.{and_from}
 use Rattle.std.proofs.lemmas.List.Elements.{filter_agree}
-use Rattle.arrow_schema.specs.declared.data_type.DataType.{DataType}
-use Rattle.arrow_schema.specs.declared.schema.Schema.{Schema}
+use Rattle.arrow_types.specs.declared.data_type.DataType.{DataType}
+use Rattle.arrow_types.specs.declared.schema.Schema.{Schema}
 use Rattle.scan_base.specs.declared.fault.Fault.{Fault}
 use Rattle.scan_base.specs.declared.value.Value.TheVariants.{Null}
 use Rattle.scan_base.specs.Predicate.{Pred, conjunction, disjunction, negation, truth_test, comparing, between, membership, null_test, constant, cell_in, truth_of}
@@ -14,15 +14,15 @@ use Rattle.table_versions.specs.Table.{Row}
 use Rattle.typed_plan.proofs.TypedNames.{then_none}
 use Rattle.typed_plan.specs.declared.class.Class.{Class}
 use Rattle.typed_plan.specs.Faults.{◌then◌, predicate_fault, first_in}
-use Rattle.typed_plan.specs.Held.{tree_schemas}
-use Rattle.typed_plan.specs.Joined.{rows_between}
+use Rattle.typed_plan.specs.HeldTables.{tree_schemas}
+use Rattle.typed_plan.specs.JoinedRows.{rows_between}
 use Rattle.typed_plan.specs.Plan.{Tree, scan, filtered, joined, is_true, joined_rows, tree_rows, output_rows}
-use Rattle.typed_plan.specs.Typed.{class_of_number, tree_types, is_grouping, is_place, IsTypedTree, key_fault, spans}
+use Rattle.typed_plan.specs.TypedPlans.{class_of_number, tree_types, is_grouping, is_place, IsTypedTree, key_fault, spans}
 use Rattle.typed_plan.specs.View.{BoundAt, tree_of}
 use Rattle.rewrite.proofs.Folding.{folded_keeps, folded_names}
-use Rattle.rewrite.specs.Folded.{names_none, folded_atom, folded, folded_tree, is_folded, is_folded_tree}
+use Rattle.rewrite.specs.FoldedPredicates.{names_none, folded_atom, folded, folded_tree, is_folded, is_folded_tree}
 use Rattle.rewrite.specs.Places.{rows_over}
-use Rattle.rewrite.specs.Same.{StandsFor}
+use Rattle.rewrite.specs.SameRows.{StandsFor}
 
 pub folded_types : (tree : Tree) → tree_types (folded_tree tree) ≡ tree_types tree
 folded_types (scan table schema columns) = refl

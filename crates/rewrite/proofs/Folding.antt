@@ -9,7 +9,7 @@ use Rattle.scan_base.specs.declared.value.Value.TheVariants.{Null}
 use Rattle.scan_base.specs.Comparison.{nullness}
 use Rattle.scan_base.specs.Predicate.{Pred, conjunction, disjunction, negation, truth_test, comparing, between, membership, null_test, constant, truth_of, operand_value, any_equal, operand_names}
 use Rattle.scan_base.specs.Truth.{truth_not, truth_is, negated_if}
-use Rattle.rewrite.specs.Folded.{names_none, folded_atom, folded, is_folded, is_atom, FoldingKeepsTruths, FoldedNamesColumns}
+use Rattle.rewrite.specs.FoldedPredicates.{names_none, folded_atom, folded, is_folded, is_atom, FoldingKeepsTruths, FoldedNamesColumns}
 
 module _ {C : Type 0} (one other : C → Value) where
   operand_same : (o : Operand C) → operand_names (λ column. false) o ≡ true → operand_value one o ≡ operand_value other o

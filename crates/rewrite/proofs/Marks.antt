@@ -4,7 +4,7 @@ use Rattle.std.specs.List.{list_all, list_any}
 use Rattle.std.proofs.Math.ListN.{length-replicate}
 use Rattle.std.proofs.lemmas.Bool.{and_from, and_parts, or_left, or_right, ltb-true, ltb-false, lt-ltb, le-ltb, eqb-true, eqb-false, eq-eqb}
 use Rattle.std.proofs.lemmas.List.{length-append, length-set, length-take-le, length-drop}
-use Rattle.arrow_schema.specs.declared.data_type.DataType.{DataType}
+use Rattle.arrow_types.specs.declared.data_type.DataType.{DataType}
 use Rattle.scan_base.specs.declared.comparison.Comparison.TheVariants.{Equal}
 use Rattle.scan_base.specs.declared.predicate.Operand.{Operand}
 use Rattle.scan_base.specs.declared.predicate.Operand.TheVariants as operand
@@ -19,10 +19,10 @@ use Rattle.typed_plan.specs.declared.plan.Output.TheVariants.{Project, Groups}
 use Rattle.typed_plan.specs.Class.{can_sum}
 use Rattle.typed_plan.specs.Faults.{first_in}
 use Rattle.typed_plan.specs.Plan.{Tree, scan, filtered, joined}
-use Rattle.typed_plan.specs.Typed.{tree_types, IsTypedTree, key_fault, HasOutput, has_item, type_at}
+use Rattle.typed_plan.specs.TypedPlans.{tree_types, IsTypedTree, key_fault, HasOutput, has_item, type_at}
 use Rattle.rewrite.specs.Places.{tree_width}
-use Rattle.rewrite.specs.Pruned.{is_used, names_column, key_names, tree_names, item_names, output_names, uses_key, uses_item, uses_output, AreUsed}
-use Rattle.rewrite.specs.Uses.{with_column, with_columns, with_operand, with_operands, with_predicate, with_keys, with_tree, with_item, with_items, with_output, uses_of}
+use Rattle.rewrite.specs.PrunedColumns.{is_used, names_column, key_names, tree_names, item_names, output_names, uses_key, uses_item, uses_output, AreUsed}
+use Rattle.rewrite.specs.Uses.{with_column, with_uses, with_operand, with_operands, with_predicate, with_keys, with_tree, with_item, with_items, with_output, uses_of}
 use Rattle.rewrite.proofs.NamedColumns.{named_pass}
 use Rattle.rewrite.proofs.UsedColumns.{used_of_left, used_of_right, used_take, used_drop}
 
@@ -75,10 +75,10 @@ marked_column c uses = (length-set uses c true, λ n lt. by n lt (c == n) refl)
     by n lt true e = ap (λ k. is_used (set uses k true) n) (eqb-true c n e) ∙ set_same uses n lt ∙ or_true (is_used uses n)
     by n lt false e = set_other uses c n (eqb-false c n e) ∙ or_false (is_used uses n)
 
-marked_columns : (cs : List ℕ) (uses : List Bool) → Marked uses (with_columns cs uses) (λ n. list_any (λ c. c == n) cs)
+marked_columns : (cs : List ℕ) (uses : List Bool) → Marked uses (with_uses cs uses) (λ n. list_any (λ c. c == n) cs)
 marked_columns [] uses = marked_none uses
 marked_columns (c ∷ cs) uses =
-    marked_both uses (with_column c uses) (with_columns cs (with_column c uses)) (λ n. c == n) (λ n. list_any (λ k. k == n) cs)
+    marked_both uses (with_column c uses) (with_uses cs (with_column c uses)) (λ n. c == n) (λ n. list_any (λ k. k == n) cs)
     (marked_column c uses) (marked_columns cs (with_column c uses))
 
 -- ---- predicates
@@ -230,8 +230,8 @@ marked_output (Project All) uses = (
 )
 marked_output (Project (These columns)) uses = marked_columns columns uses
 marked_output (Groups keys items) uses =
-    marked_both uses (with_columns keys uses) (with_items items (with_columns keys uses)) (λ n. list_any (λ c. c == n) keys) (λ n. list_any (item_names n) items)
-    (marked_columns keys uses) (marked_items items (with_columns keys uses))
+    marked_both uses (with_uses keys uses) (with_items items (with_uses keys uses)) (λ n. list_any (λ c. c == n) keys) (λ n. list_any (item_names n) items)
+    (marked_columns keys uses) (marked_items items (with_uses keys uses))
 
 -- ---- plans
 

@@ -5,8 +5,8 @@ use Rattle.std.proofs.lemmas.Bool.{and_from, and_parts, and_left, and_right, eq-
 use Rattle.scan_base.specs.declared.predicate.Operand.{Operand}
 use Rattle.scan_base.specs.declared.predicate.Operand.TheVariants as operand
 use Rattle.scan_base.specs.Predicate.{Pred, conjunction, disjunction, negation, truth_test, comparing, between, membership, null_test, constant, operand_names, names_only}
-use Rattle.typed_plan.specs.Numbered.{operand_map, predicate_map}
-use Rattle.rewrite.specs.Pruned.{names_column}
+use Rattle.typed_plan.specs.NumberedPredicates.{operand_map, predicate_map}
+use Rattle.rewrite.specs.PrunedColumns.{names_column}
 use Rattle.rewrite.proofs.Naming.{weaker}
 
 -- ---- other numbers

@@ -1,21 +1,21 @@
 -- A plan with a pruned tree is well typed, and stands for the one that it was made of.
 use Rattle.std.proofs.Common.{◌≡◌, ◌≤◌, ℕ, Bool, true, List, length, map, refl, sym, ap, ◌∙◌, subst, arith}
 use Rattle.std.specs.List.{AllByRecursion}
-use Rattle.arrow_schema.specs.Answer.{answered_from}
-use Rattle.arrow_schema.specs.declared.data_type.DataType.{DataType}
-use Rattle.arrow_schema.specs.declared.schema.Schema.{Schema}
+use Rattle.arrow_types.specs.Answer.{answered_from}
+use Rattle.arrow_types.specs.declared.data_type.DataType.{DataType}
+use Rattle.arrow_types.specs.declared.schema.Schema.{Schema}
 use Rattle.scan_base.specs.Predicate.{Pred, names_only}
 use Rattle.table_versions.specs.Table.{Name}
 use Rattle.typed_plan.specs.declared.plan.Columns.{Columns}
 use Rattle.typed_plan.specs.declared.plan.JoinKey.{JoinKey}
 use Rattle.typed_plan.specs.declared.plan.Output.{Output}
-use Rattle.typed_plan.specs.Held.{tree_tables}
+use Rattle.typed_plan.specs.HeldTables.{tree_tables}
 use Rattle.typed_plan.specs.Plan.{Tree, scan, filtered, joined, output_rows}
-use Rattle.typed_plan.specs.Typed.{tree_types, IsTyped, HasOutput, output_types, is_grouping}
+use Rattle.typed_plan.specs.TypedPlans.{tree_types, IsTyped, HasOutput, output_types, is_grouping}
 use Rattle.typed_plan.specs.View.{BoundAt, tree_of, plan_of}
 use Rattle.rewrite.specs.Places.{rows_over, tree_width}
-use Rattle.rewrite.specs.Pruned.{kept, is_used, numbers_of, output_in, pruned, uses_output, AreUsed, IsPruned}
-use Rattle.rewrite.specs.Same.{SameOverPlaces, StandsFor}
+use Rattle.rewrite.specs.PrunedColumns.{used_of, is_used, numbers_of, output_in, pruned, uses_output, AreUsed, IsPruned}
+use Rattle.rewrite.specs.SameRows.{SameOverPlaces, StandsFor}
 use Rattle.rewrite.specs.Uses.{uses_of}
 use Rattle.rewrite.proofs.Databases.{same_of_places}
 use Rattle.rewrite.proofs.Marks.{plan_used}
@@ -54,7 +54,7 @@ pruned_stands new old was tree output tables schema =
     let rows = rows_over (tree_of old.plan) places in
     ap (λ (some : Tree). output_rows new.output (rows_over some places)) tree
     ∙ ap (output_rows new.output) (pruning_keeps_rows uses (tree_of old.plan) places used.0 wide)
-    ∙ ap (λ (o : Output). output_rows o (map (kept uses) rows)) output
+    ∙ ap (λ (o : Output). output_rows o (map (used_of uses) rows)) output
     ∙ result_kept uses old.output used.1 rows
     (subst (λ n. AllByRecursion (IsWide n) rows) (sym (used_width uses (tree_of old.plan) used.0)) (wide_rows (tree_of old.plan) places wide)) in
     record {

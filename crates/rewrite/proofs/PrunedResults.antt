@@ -12,9 +12,9 @@ use Rattle.typed_plan.specs.declared.plan.Aggregate.TheVariants.{Key, CountRows,
 use Rattle.typed_plan.specs.declared.plan.Columns.TheVariants.{All, These}
 use Rattle.typed_plan.specs.declared.plan.Output.{Output}
 use Rattle.typed_plan.specs.declared.plan.Output.TheVariants.{Project, Groups}
-use Rattle.typed_plan.specs.Grouped.{Group, same_key, with_row, count_of, sum_of}
+use Rattle.typed_plan.specs.GroupedRows.{Group, same_key, with_row, count_of, sum_of}
 use Rattle.typed_plan.specs.Plan.{answered, groups_by, output_rows, taken}
-use Rattle.rewrite.specs.Pruned.{kept, is_used, number_in, item_in, output_in, uses_item, uses_output}
+use Rattle.rewrite.specs.PrunedColumns.{used_of, is_used, used_number, item_in, output_in, uses_item, uses_output}
 use Rattle.rewrite.proofs.PrunedRows.{cell_kept}
 use Rattle.rewrite.proofs.PushedRows.{IsWide}
 use Rattle.rewrite.proofs.UsedColumns.{kept_whole}
@@ -25,24 +25,24 @@ module _ (uses : List Bool) where
   AreFull rows = AllByRecursion (IsWide (length uses)) rows
 
   cells_kept : (columns : List ℕ) → list_all (is_used uses) columns ≡ true → (row : Row) → length row ≡ length uses →
-      map (cell_in (kept uses row)) (map (number_in uses) columns) ≡ map (cell_in row) columns
+      map (cell_in (used_of uses row)) (map (used_number uses) columns) ≡ map (cell_in row) columns
   cells_kept [] u row full = refl
   cells_kept (column ∷ columns) u row full =
       let parts = and_parts (is_used uses column) (list_all (is_used uses) columns) u in
-      ap (λ (value : Value). value ∷ map (cell_in (kept uses row)) (map (number_in uses) columns)) (cell_kept uses row column full parts.0)
+      ap (λ (value : Value). value ∷ map (cell_in (used_of uses row)) (map (used_number uses) columns)) (cell_kept uses row column full parts.0)
       ∙ ap (λ (values : List Value). cell_in row column ∷ values) (cells_kept columns parts.1 row full)
 
   taken_these : (columns : List ℕ) → list_all (is_used uses) columns ≡ true → (rows : List Row) → AreFull rows →
-      taken (These (map (number_in uses) columns)) (map (kept uses) rows) ≡ taken (These columns) rows
+      taken (These (map (used_number uses) columns)) (map (used_of uses) rows) ≡ taken (These columns) rows
   taken_these columns u [] full = refl
   taken_these columns u (row ∷ rows) full =
-      ap (λ (first : Row). first ∷ taken (These (map (number_in uses) columns)) (map (kept uses) rows)) (cells_kept columns u row full.0)
+      ap (λ (first : Row). first ∷ taken (These (map (used_number uses) columns)) (map (used_of uses) rows)) (cells_kept columns u row full.0)
       ∙ ap (λ (rest : List Row). map (cell_in row) columns ∷ rest) (taken_these columns u rows full.1)
 
-  taken_whole : list_all (λ used. used) uses ≡ true → (rows : List Row) → AreFull rows → map (kept uses) rows ≡ rows
+  taken_whole : list_all (λ used. used) uses ≡ true → (rows : List Row) → AreFull rows → map (used_of uses) rows ≡ rows
   taken_whole u [] full = refl
   taken_whole u (row ∷ rows) full =
-      ap (λ (first : Row). first ∷ map (kept uses) rows) (kept_whole uses row full.0 u) ∙ ap (λ (rest : List Row). row ∷ rest) (taken_whole u rows full.1)
+      ap (λ (first : Row). first ∷ map (used_of uses) rows) (kept_whole uses row full.0 u) ∙ ap (λ (rest : List Row). row ∷ rest) (taken_whole u rows full.1)
 
   -- ---- groups
 
@@ -51,7 +51,7 @@ module _ (uses : List Bool) where
   group_of key rows = record { key = key; rows = rows }
 
   abbrev group_in : Group → Group
-  group_in group = group_of group.key (map (kept uses) group.rows)
+  group_in group = group_of group.key (map (used_of uses) group.rows)
 
   abbrev AreGroups : List Group → Type 0
   AreGroups groups = AllByRecursion (λ (group : Group). AreFull group.rows) groups
@@ -71,17 +71,17 @@ module _ (uses : List Bool) where
       one_with (same_key group.key key) key row group groups full h.0 h.1 (groups_with key row full groups h.1)
 
   one_kept : (b : Bool) (key : List Value) (row : Row) (group : Group) (groups more : List Group) → more ≡ map group_in (with_row key row groups) →
-      cond b (group_of group.key (map (kept uses) group.rows ++ kept uses row ∷ []) ∷ map group_in groups) (group_in group ∷ more)
+      cond b (group_of group.key (map (used_of uses) group.rows ++ used_of uses row ∷ []) ∷ map group_in groups) (group_in group ∷ more)
       ≡ map group_in (cond b (group_of group.key (group.rows ++ row ∷ []) ∷ groups) (group ∷ with_row key row groups))
   one_kept true key row group groups more e =
-      ap (λ (rows : List Row). group_of group.key rows ∷ map group_in groups) (sym (map-append (kept uses) group.rows (row ∷ [])))
+      ap (λ (rows : List Row). group_of group.key rows ∷ map group_in groups) (sym (map-append (used_of uses) group.rows (row ∷ [])))
   one_kept false key row group groups more e = ap (λ (rest : List Group). group_in group ∷ rest) e
 
   with_kept : (key : List Value) (row : Row) (groups : List Group) →
-      with_row key (kept uses row) (map group_in groups) ≡ map group_in (with_row key row groups)
+      with_row key (used_of uses row) (map group_in groups) ≡ map group_in (with_row key row groups)
   with_kept key row [] = refl
   with_kept key row (group ∷ groups) =
-      one_kept (same_key group.key key) key row group groups (with_row key (kept uses row) (map group_in groups)) (with_kept key row groups)
+      one_kept (same_key group.key key) key row group groups (with_row key (used_of uses row) (map group_in groups)) (with_kept key row groups)
 
   module _ (keys : List ℕ) (u : list_all (is_used uses) keys ≡ true) where
     -- groups with a row more
@@ -89,36 +89,36 @@ module _ (uses : List Bool) where
     more_groups groups row = with_row (map (cell_in row) keys) row groups
 
     abbrev more_kept : List Group → Row → List Group
-    more_kept groups row = with_row (map (cell_in row) (map (number_in uses) keys)) row groups
+    more_kept groups row = with_row (map (cell_in row) (map (used_number uses) keys)) row groups
 
     all_groups : (rows : List Row) → AreFull rows → (groups : List Group) → AreGroups groups →
-        (fold more_kept (map group_in groups) (map (kept uses) rows) ≡ map group_in (fold more_groups groups rows)) × AreGroups (fold more_groups groups rows)
+        (fold more_kept (map group_in groups) (map (used_of uses) rows) ≡ map group_in (fold more_groups groups rows)) × AreGroups (fold more_groups groups rows)
     all_groups [] full groups h = (refl, h)
     all_groups (row ∷ rows) full groups h =
         let key = map (cell_in row) keys in
-        let one : more_kept (map group_in groups) (kept uses row) ≡ map group_in (more_groups groups row) =
-        ap (λ (values : List Value). with_row values (kept uses row) (map group_in groups)) (cells_kept keys u row full.0) ∙ with_kept key row groups in
+        let one : more_kept (map group_in groups) (used_of uses row) ≡ map group_in (more_groups groups row) =
+        ap (λ (values : List Value). with_row values (used_of uses row) (map group_in groups)) (cells_kept keys u row full.0) ∙ with_kept key row groups in
         let rest = all_groups rows full.1 (more_groups groups row) (groups_with key row full.0 groups h) in
-        (ap (λ (some : List Group). fold more_kept some (map (kept uses) rows)) one ∙ rest.0, rest.1)
+        (ap (λ (some : List Group). fold more_kept some (map (used_of uses) rows)) one ∙ rest.0, rest.1)
 
   groups_kept : (keys : List ℕ) → list_all (is_used uses) keys ≡ true → (rows : List Row) → AreFull rows →
-      (groups_by (map (number_in uses) keys) (map (kept uses) rows) ≡ map group_in (groups_by keys rows)) × AreGroups (groups_by keys rows)
+      (groups_by (map (used_number uses) keys) (map (used_of uses) rows) ≡ map group_in (groups_by keys rows)) × AreGroups (groups_by keys rows)
   groups_kept [] u rows full = (refl, (full, tt))
   groups_kept (key ∷ keys) u rows full = all_groups (key ∷ keys) u rows full [] tt
 
   -- ---- items
 
   column_kept : (column : ℕ) → is_used uses column ≡ true → (rows : List Row) → AreFull rows →
-      map (λ (row : Row). cell_in row (number_in uses column)) (map (kept uses) rows) ≡ map (λ (row : Row). cell_in row column) rows
+      map (λ (row : Row). cell_in row (used_number uses column)) (map (used_of uses) rows) ≡ map (λ (row : Row). cell_in row column) rows
   column_kept column u [] full = refl
   column_kept column u (row ∷ rows) full =
-      ap (λ (value : Value). value ∷ map (λ (one : Row). cell_in one (number_in uses column)) (map (kept uses) rows)) (cell_kept uses row column full.0 u)
+      ap (λ (value : Value). value ∷ map (λ (one : Row). cell_in one (used_number uses column)) (map (used_of uses) rows)) (cell_kept uses row column full.0 u)
       ∙ ap (λ (values : List Value). cell_in row column ∷ values) (column_kept column u rows full.1)
 
   item_kept : (item : Aggregate) → uses_item uses item ≡ true → (group : Group) → AreFull group.rows →
       answered (group_in group) (item_in uses item) ≡ answered group item
   item_kept (Key place) u group full = refl
-  item_kept CountRows u group full = ap (λ (n : ℕ). Int (pos n)) (length-map group.rows (kept uses))
+  item_kept CountRows u group full = ap (λ (n : ℕ). Int (pos n)) (length-map group.rows (used_of uses))
   item_kept (Count column) u group full = ap count_of (column_kept column u group.rows full)
   item_kept (Sum column) u group full = ap sum_of (column_kept column u group.rows full)
 
@@ -139,7 +139,7 @@ module _ (uses : List Bool) where
 
   -- every result
   pub result_kept : (output : Output) → uses_output uses output ≡ true → (rows : List Row) → AllByRecursion (IsWide (length uses)) rows →
-      output_rows (output_in uses output) (map (kept uses) rows) ≡ output_rows output rows
+      output_rows (output_in uses output) (map (used_of uses) rows) ≡ output_rows output rows
   result_kept (Project All) u rows full = taken_whole u rows full
   result_kept (Project (These columns)) u rows full = taken_these columns u rows full
   result_kept (Groups keys items) u rows full =

@@ -6,14 +6,14 @@ use Rattle.std.proofs.lemmas.List.{drop-take, map-append}
 use Rattle.std.proofs.lemmas.List.Folds.{list_all-append}
 use Rattle.std.proofs.Math.Seq.{take-length, take-add}
 use Rattle.scan_base.specs.Predicate.{Pred, conjunction, disjunction, negation, truth_test, comparing, between, membership, null_test, constant, names_only}
-use Rattle.typed_plan.specs.Numbered.{predicate_map}
+use Rattle.typed_plan.specs.NumberedPredicates.{predicate_map}
 use Rattle.typed_plan.specs.Plan.{Tree, scan, filtered, joined}
-use Rattle.typed_plan.specs.Typed.{is_place}
+use Rattle.typed_plan.specs.TypedPlans.{is_place}
 use Rattle.rewrite.specs.Conjuncts.{conjuncts, names_some, is_between, is_of_one, is_of_one_place, place_widths}
-use Rattle.rewrite.specs.Folded.{is_folded, is_folded_tree}
+use Rattle.rewrite.specs.FoldedPredicates.{is_folded, is_folded_tree}
 use Rattle.rewrite.specs.Places.{tree_width}
-use Rattle.rewrite.specs.Pruned.{is_used, number_in, pruned, AreUsed}
-use Rattle.rewrite.specs.Pushed.{is_pushed}
+use Rattle.rewrite.specs.PrunedColumns.{is_used, used_number, pruned, AreUsed}
+use Rattle.rewrite.specs.PushedFilters.{is_pushed}
 use Rattle.rewrite.proofs.Below.{total, all_widths}
 use Rattle.rewrite.proofs.FoldedPushed.{folded_map}
 use Rattle.rewrite.proofs.NamedColumns.{names_only-map, names_agree}
@@ -25,7 +25,7 @@ use Rattle.rewrite.proofs.UsedColumns.{count, number_lt, number_le}
 pub pruned_folded : (uses : List Bool) (tree : Tree) → is_folded_tree (pruned uses tree) ≡ is_folded_tree tree
 pruned_folded uses (scan table schema columns) = refl
 pruned_folded uses (filtered predicate tree) =
-    ap (λ b. b && is_folded_tree (pruned uses tree)) (folded_map (number_in uses) predicate) ∙ ap (λ b. is_folded predicate && b) (pruned_folded uses tree)
+    ap (λ b. b && is_folded_tree (pruned uses tree)) (folded_map (used_number uses) predicate) ∙ ap (λ b. is_folded predicate && b) (pruned_folded uses tree)
 pruned_folded uses (joined left right on) =
     ap (λ b. b && is_folded_tree (pruned (drop (tree_width left) uses) right)) (pruned_folded (take (tree_width left) uses) left)
     ∙ ap (λ b. is_folded_tree left && b) (pruned_folded (drop (tree_width left) uses) right)
@@ -88,7 +88,7 @@ pruned_widths uses (joined left right on) u =
 
 module _ (uses : List Bool) (p : Pred ℕ) (used : names_only (is_used uses) p ≡ true) where
   abbrev seen : Pred ℕ
-  seen = predicate_map (number_in uses) p
+  seen = predicate_map (used_number uses) p
 
   of_place : (first width : ℕ) →
       names_only (is_between (count (take first uses)) (count (take width (drop first uses)))) seen ≡ names_only (is_between first width) p
@@ -96,11 +96,11 @@ module _ (uses : List Bool) (p : Pred ℕ) (used : names_only (is_used uses) p �
       let from = count (take first uses) in
       let more = count (take width (drop first uses)) in
       let to : from + more ≡ count (take (first + width) uses) = sym (ap count (take-add first width uses) ∙ count-append (take first uses) (take width (drop first uses))) in
-      names_only-map (is_between from more) (number_in uses) p
-      ∙ names_agree (is_used uses) (λ n. is_between from more (number_in uses n)) (is_between first width)
+      names_only-map (is_between from more) (used_number uses) p
+      ∙ names_agree (is_used uses) (λ n. is_between from more (used_number uses n)) (is_between first width)
       (λ n u.
-      ap (λ b. b && nat_lt (number_in uses n) (from + more)) (number_le uses first n u)
-      ∙ ap (λ k. nat_le first n && nat_lt (number_in uses n) k) to
+      ap (λ b. b && nat_lt (used_number uses n) (from + more)) (number_le uses first n u)
+      ∙ ap (λ k. nat_le first n && nat_lt (used_number uses n) k) to
       ∙ ap (λ b. nat_le first n && b) (number_lt uses (first + width) n u)) p used
 
   of_one : (widths : List ℕ) (first : ℕ) → is_of_one (count (take first uses)) (widths_in (drop first uses) widths) seen ≡ is_of_one first widths p
@@ -116,7 +116,7 @@ module _ (uses : List Bool) (p : Pred ℕ) (used : names_only (is_used uses) p �
 
   of_one_place : (widths : List ℕ) → is_of_one_place (widths_in uses widths) seen ≡ is_of_one_place widths p
   of_one_place widths =
-      ap (λ b. not b && is_of_one 0 (widths_in uses widths) seen) (names_only-map (λ column. false) (number_in uses) p)
+      ap (λ b. not b && is_of_one 0 (widths_in uses widths) seen) (names_only-map (λ column. false) (used_number uses) p)
       ∙ ap (λ b. names_some p && b) (of_one widths 0)
 
 -- ---- conjuncts
@@ -150,12 +150,12 @@ module _ (test : ℕ → Bool) where
   conjuncts_name (constant truth) h = refl
 
 stays_below : (uses : List Bool) (widths : List ℕ) (ps : List (Pred ℕ)) → list_all (names_only (is_used uses)) ps ≡ true →
-    list_all (λ part. not (is_of_one_place (widths_in uses widths) part)) (map (predicate_map (number_in uses)) ps)
+    list_all (λ part. not (is_of_one_place (widths_in uses widths) part)) (map (predicate_map (used_number uses)) ps)
     ≡ list_all (λ part. not (is_of_one_place widths part)) ps
 stays_below uses widths [] h = refl
 stays_below uses widths (p ∷ ps) h =
     let parts = and_parts (names_only (is_used uses) p) (list_all (names_only (is_used uses)) ps) h in
-    ap (λ b. not b && list_all (λ part. not (is_of_one_place (widths_in uses widths) part)) (map (predicate_map (number_in uses)) ps))
+    ap (λ b. not b && list_all (λ part. not (is_of_one_place (widths_in uses widths) part)) (map (predicate_map (used_number uses)) ps))
     (of_one_place uses p parts.0 widths)
     ∙ ap (λ b. not (is_of_one_place widths p) && b) (stays_below uses widths ps parts.1)
 
@@ -163,10 +163,10 @@ pub pruned_below : (uses : List Bool) (tree : Tree) → AreUsed uses tree → is
 pruned_below uses (scan table schema columns) u = refl
 pruned_below uses (filtered predicate tree) u =
     let new = pruned uses tree in
-    let parts = conjuncts (predicate_map (number_in uses) predicate) in
+    let parts = conjuncts (predicate_map (used_number uses) predicate) in
     ap (λ b. (b || list_all (λ part. not (is_of_one_place (place_widths new) part)) parts) && is_pushed new) (pruned_place uses tree)
     ∙ ap (λ some. (is_place tree || list_all (λ part. not (is_of_one_place some part)) parts) && is_pushed new) (pruned_widths uses tree u.1)
-    ∙ ap (λ some. (is_place tree || list_all (λ part. not (is_of_one_place (widths_in uses (place_widths tree)) part)) some) && is_pushed new) (conjuncts-map (number_in uses) predicate)
+    ∙ ap (λ some. (is_place tree || list_all (λ part. not (is_of_one_place (widths_in uses (place_widths tree)) part)) some) && is_pushed new) (conjuncts-map (used_number uses) predicate)
     ∙ ap (λ b. (is_place tree || b) && is_pushed new) (stays_below uses (place_widths tree) (conjuncts predicate) (conjuncts_name (is_used uses) predicate u.0))
     ∙ ap (λ b. (is_place tree || list_all (λ part. not (is_of_one_place (place_widths tree) part)) (conjuncts predicate)) && b) (pruned_below uses tree u.1)
 pruned_below uses (joined left right on) u =

@@ -6,12 +6,12 @@ use Rattle.std.proofs.lemmas.List.Elements.{filter_agree}
 use Rattle.scan_base.specs.Predicate.{Pred, cell_in}
 use Rattle.rewrite.specs.Conjuncts.{parts_of, all_of, all_true}
 use Rattle.rewrite.specs.Laws.{AreWide, PushingKeepsRows}
-use Rattle.rewrite.specs.Pushed.{is_left, is_right, is_both, moved, above, pushed}
+use Rattle.rewrite.specs.PushedFilters.{is_left, is_right, is_both, moved, above, pushed}
 use Rattle.rewrite.specs.Places.{first_rows, rows_over, tree_width}
-use Rattle.arrow_schema.specs.declared.schema.Schema.{Schema}
+use Rattle.arrow_types.specs.declared.schema.Schema.{Schema}
 use Rattle.table_versions.specs.Table.{Row}
-use Rattle.typed_plan.specs.Held.{tree_schemas}
-use Rattle.typed_plan.specs.Typed.{tree_types, type_at, types_of}
+use Rattle.typed_plan.specs.HeldTables.{tree_schemas}
+use Rattle.typed_plan.specs.TypedPlans.{tree_types, type_at, types_of}
 use Rattle.typed_plan.specs.Plan.{Tree, scan, filtered, joined, taken, is_true, fits, joined_rows}
 use Rattle.typed_plan.specs.declared.plan.Columns.TheVariants.{All, These}
 use Rattle.typed_plan.specs.declared.plan.JoinKey.{JoinKey}

@@ -2,23 +2,23 @@
 use Rattle.std.proofs.Common.{◌≡◌, ℕ, Bool, true, false, not, cond, List, [], ◌∷◌, ◌++◌, length, map, filter, None, IsTrue, refl, sym, ap, ◌∙◌, subst}
 use Rattle.std.specs.List.{list_all, AllByRecursion}
 use Rattle.std.proofs.lemmas.Bool.{and_parts}
-use Rattle.arrow_schema.specs.declared.data_type.DataType.{DataType}
+use Rattle.arrow_types.specs.declared.data_type.DataType.{DataType}
 use Rattle.scan_base.specs.Predicate.{Pred, conjunction, disjunction, negation, truth_test, comparing, between, membership, null_test, constant}
 use Rattle.table_versions.specs.Table.{Name}
 use Rattle.typed_plan.proofs.TypedNames.{then_none}
 use Rattle.typed_plan.specs.declared.plan.JoinKey.{JoinKey}
 use Rattle.typed_plan.specs.Faults.{◌then◌, predicate_fault, first_in}
-use Rattle.typed_plan.specs.Held.{tree_tables}
+use Rattle.typed_plan.specs.HeldTables.{tree_tables}
 use Rattle.typed_plan.specs.Plan.{Tree, scan, filtered, joined, output_rows}
-use Rattle.typed_plan.specs.Typed.{class_of_number, tree_types, is_grouping, is_place, IsTypedTree, key_fault, spans}
+use Rattle.typed_plan.specs.TypedPlans.{class_of_number, tree_types, is_grouping, is_place, IsTypedTree, key_fault, spans}
 use Rattle.rewrite.proofs.Databases.{same_of_places}
 use Rattle.rewrite.proofs.PushedRows.{pushing_keeps_rows}
 use Rattle.rewrite.proofs.WellTyped.{fault_of_left, fault_of_right}
 use Rattle.rewrite.specs.Conjuncts.{conjuncts, is_sure, parts_of, all_of}
 use Rattle.rewrite.specs.Places.{rows_over, tree_width}
-use Rattle.rewrite.specs.Same.{SameOverPlaces, StandsFor}
+use Rattle.rewrite.specs.SameRows.{SameOverPlaces, StandsFor}
 use Rattle.typed_plan.specs.View.{BoundAt, tree_of, plan_of}
-use Rattle.rewrite.specs.Pushed.{is_left, is_behind, is_right, is_both, moved, above, pushed}
+use Rattle.rewrite.specs.PushedFilters.{is_left, is_behind, is_right, is_both, moved, above, pushed}
 
 -- predicates that are well typed over columns of these types
 abbrev AreTyped : List DataType → List (Pred ℕ) → Type 0

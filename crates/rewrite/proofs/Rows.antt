@@ -1,6 +1,6 @@
 -- Worked rows: predicates folded, filters pushed below joins, and columns left out, worked out by hand.
 use Rattle.std.proofs.Common.{◌≡◌, ℕ, List, [], ◌∷◌, refl, pos}
-use Rattle.arrow_schema.specs.declared.schema.Schema.{Schema}
+use Rattle.arrow_types.specs.declared.schema.Schema.{Schema}
 use Rattle.scan_base.specs.declared.comparison.Comparison.TheVariants.{Less, Equal}
 use Rattle.scan_base.specs.declared.predicate.Operand.{Operand}
 use Rattle.scan_base.specs.declared.predicate.Operand.TheVariants as operand
@@ -15,9 +15,9 @@ use Rattle.typed_plan.specs.declared.plan.JoinKey.{JoinKey}
 use Rattle.typed_plan.specs.declared.plan.Output.TheVariants.{Project, Groups}
 use Rattle.typed_plan.specs.Plan.{Tree, scan, filtered, joined}
 use Rattle.rewrite.specs.Conjuncts.{parts_of}
-use Rattle.rewrite.specs.Folded.{folded}
-use Rattle.rewrite.specs.Pruned.{pruned, output_in}
-use Rattle.rewrite.specs.Pushed.{pushed}
+use Rattle.rewrite.specs.FoldedPredicates.{folded}
+use Rattle.rewrite.specs.PrunedColumns.{pruned, output_in}
+use Rattle.rewrite.specs.PushedFilters.{pushed}
 use Rattle.rewrite.specs.Uses.{uses_of}
 
 abbrev number : ℕ → Operand ℕ

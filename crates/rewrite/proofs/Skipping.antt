@@ -6,10 +6,10 @@ use Rattle.std.proofs.lemmas.List.Elements.{filter_agree}
 use Rattle.scan_base.specs.Predicate.{Pred}
 use Rattle.rewrite.specs.Conjuncts.{conjuncts, all_true}
 use Rattle.rewrite.specs.Laws.{AreWide, SameThrough, SkippingKeepsRows}
-use Rattle.rewrite.specs.Pushed.{is_left, is_behind, moved}
+use Rattle.rewrite.specs.PushedFilters.{is_left, is_behind, moved}
 use Rattle.rewrite.specs.Places.{rows_over, tree_width}
 use Rattle.table_versions.specs.Table.{Row}
-use Rattle.typed_plan.specs.Held.{tree_schemas}
+use Rattle.typed_plan.specs.HeldTables.{tree_schemas}
 use Rattle.typed_plan.specs.Plan.{Tree, scan, filtered, joined, is_true, fits, joined_rows}
 use Rattle.typed_plan.specs.declared.plan.JoinKey.{JoinKey}
 use Rattle.rewrite.proofs.Filters.{filter-all, filter-none, filter-filter, filter-map, filter-flat_map}

@@ -9,7 +9,7 @@ use Rattle.scan_base.specs.declared.truth.Truth.{Truth}
 use Rattle.scan_base.specs.declared.truth.Truth.TheVariants.{True, False, Unknown}
 use Rattle.scan_base.specs.Truth.{keeps, truth_and}
 use Rattle.rewrite.specs.Conjuncts.{conjuncts, is_sure, parts_of, all_of, all_true}
-use Rattle.rewrite.specs.Pushed.{is_left, is_behind, is_right, is_both, moved}
+use Rattle.rewrite.specs.PushedFilters.{is_left, is_behind, is_right, is_both, moved}
 use Rattle.table_versions.specs.Table.{Row}
 use Rattle.typed_plan.specs.Plan.{is_true}
 use Rattle.typed_plan.proofs.Numbered.{truth_of-map}

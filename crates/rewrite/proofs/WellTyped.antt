@@ -2,8 +2,8 @@
 use Rattle.std.proofs.Common.{◌≡◌, ◌<◌, ◌≤◌, ℕ, zero, suc, ◌-◌, Bool, true, not, ◌&&◌, List, [], ◌∷◌, ◌++◌, length, map, nat_lt, slice_get, None, Result, refl, sym, ap, ◌∙◌, subst, arith}
 use Rattle.std.specs.List.{list_all}
 use Rattle.std.proofs.lemmas.Bool.{and_parts, ltb-true, ltb-false, not-true}
-use Rattle.arrow_schema.specs.declared.data_type.DataType.{DataType}
-use Rattle.arrow_schema.specs.declared.schema.Schema.{Schema}
+use Rattle.arrow_types.specs.declared.data_type.DataType.{DataType}
+use Rattle.arrow_types.specs.declared.schema.Schema.{Schema}
 use Rattle.scan_base.specs.declared.fault.Fault.{Fault}
 use Rattle.scan_base.specs.declared.predicate.Operand.{Operand}
 use Rattle.scan_base.specs.declared.predicate.Operand.TheVariants as operand
@@ -12,10 +12,10 @@ use Rattle.typed_plan.proofs.ClassFollows.{predicate_follows}
 use Rattle.typed_plan.specs.declared.class.Class.{Class}
 use Rattle.typed_plan.specs.declared.plan.Output.{Output}
 use Rattle.typed_plan.specs.Faults.{fault_in, operand_class, items_fault, predicate_fault}
-use Rattle.typed_plan.specs.Numbered.{predicate_map}
-use Rattle.arrow_schema.specs.Answer.{answered_from}
+use Rattle.typed_plan.specs.NumberedPredicates.{predicate_map}
+use Rattle.arrow_types.specs.Answer.{answered_from}
 use Rattle.typed_plan.specs.Plan.{Tree, PlanAt}
-use Rattle.typed_plan.specs.Typed.{class_if_there, class_of_number, tree_types, is_place, IsTypedTree, IsTyped, HasOutput, output_types}
+use Rattle.typed_plan.specs.TypedPlans.{class_if_there, class_of_number, tree_types, is_place, IsTypedTree, IsTyped, HasOutput, output_types}
 
 -- ---- predicates whose columns have the same classes
 

@@ -3,10 +3,10 @@ use Rattle.std.specs.Prelude.{◌≡◌, ℕ, true, List, [], ◌++◌, length, 
 use Rattle.std.specs.List.{AllByRecursion, filter}
 use Rattle.scan_base.specs.Predicate.{Pred}
 use Rattle.rewrite.specs.Conjuncts.{conjuncts, all_true}
-use Rattle.rewrite.specs.Pushed.{is_left, is_behind, moved, pushed, is_pushed}
+use Rattle.rewrite.specs.PushedFilters.{is_left, is_behind, moved, pushed, is_pushed}
 use Rattle.rewrite.specs.Places.{first_rows, rows_over, tree_width}
 use Rattle.table_versions.specs.Table.{Row}
-use Rattle.typed_plan.specs.Held.{tree_schemas}
+use Rattle.typed_plan.specs.HeldTables.{tree_schemas}
 use Rattle.typed_plan.specs.Plan.{Tree, scan, filtered, joined, taken}
 
 -- each row of a place has a cell for each column of its table

@@ -1,8 +1,8 @@
 pub mod Places
 pub mod Conjuncts
-pub mod Pushed
+pub mod PushedFilters
 pub mod Laws
-pub mod Pruned
+pub mod PrunedColumns
 pub mod Uses
-pub mod Folded
-pub mod Same
+pub mod FoldedPredicates
+pub mod SameRows

@@ -19,9 +19,9 @@ abbrev pub with_column : ℕ → List Bool → List Bool
 with_column number uses = slice_set uses number true
 
 -- .. and those of several columns
-abbrev pub with_columns : List ℕ → List Bool → List Bool
-with_columns [] uses = uses
-with_columns (number ∷ numbers) uses = with_columns numbers (with_column number uses)
+abbrev pub with_uses : List ℕ → List Bool → List Bool
+with_uses [] uses = uses
+with_uses (number ∷ numbers) uses = with_uses numbers (with_column number uses)
 
 -- .. and those of an operand
 abbrev pub with_operand : Operand ℕ → List Bool → List Bool
@@ -74,8 +74,8 @@ with_items (item ∷ items) uses = with_items items (with_item item uses)
 -- .. and those of a result
 abbrev pub with_output : Output → List Bool → List Bool
 with_output (Project All) uses = replicate (length uses) true
-with_output (Project (These columns)) uses = with_columns columns uses
-with_output (Groups keys items) uses = with_items items (with_columns keys uses)
+with_output (Project (These columns)) uses = with_uses columns uses
+with_output (Groups keys items) uses = with_items items (with_uses keys uses)
 
 -- which columns of a plan's rows are used
 abbrev pub uses_of : Tree → Output → List Bool

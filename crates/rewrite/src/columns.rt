@@ -19,11 +19,11 @@ pub(crate) trait ColumnTest {
 
 // The columns left of a seam.
 #[derive(Drop)]
-pub(crate) struct Before {
+pub(crate) struct BeforeSeam {
     pub(crate) seam: usize,
 }
 
-impl ColumnTest for Before {
+impl ColumnTest for BeforeSeam {
     ghost use Rattle.std.specs.Prelude.{nat_lt};
 
     ghost passes = { λ before column. nat_lt column before.seam };
@@ -35,11 +35,11 @@ impl ColumnTest for Before {
 
 // The columns from a seam on.
 #[derive(Drop)]
-pub(crate) struct Behind {
+pub(crate) struct AfterSeam {
     pub(crate) seam: usize,
 }
 
-impl ColumnTest for Behind {
+impl ColumnTest for AfterSeam {
     ghost use Rattle.std.specs.Prelude.{nat_lt, not};
 
     ghost passes = { λ behind column. not (nat_lt column behind.seam) };

@@ -1,8 +1,8 @@
 //! What holds of every rewritten plan. Each law is a function whose contract says it.
 
-ghost use Rattle.rewrite.specs.Folded.{FoldingKeepsTruths, FoldedNamesColumns};
+ghost use Rattle.rewrite.specs.FoldedPredicates.{FoldingKeepsTruths, FoldedNamesColumns};
 ghost use Rattle.rewrite.specs.Laws.{PushingKeepsRows, PushedStandBelow, SkippingKeepsRows};
-ghost use Rattle.rewrite.specs.Pruned.{PruningKeepsRows};
+ghost use Rattle.rewrite.specs.PrunedColumns.{PruningKeepsRows};
 
 /// A folded predicate has the truth that it had, in every row, and each comparison, BETWEEN, IN and
 /// IS NULL of it names a column.

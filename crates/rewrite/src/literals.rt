@@ -4,9 +4,10 @@ ghost use Rattle.std.specs.Prelude.{◌≡◌, true, false};
 ghost use Rattle.std.specs.List.{list_all};
 ghost use Rattle.scan_base.specs.Predicate.{operand_names};
 ghost use Rattle.scan_base.specs.View.{pred_of};
-ghost use Rattle.rewrite.specs.Folded.{names_none, folded, folded_atom, folded_tree, is_atom};
-ghost use Rattle.rewrite.specs.Folded.{is_folded_tree};
-ghost use Rattle.rewrite.specs.Same.{StandsFor};
+ghost use Rattle.rewrite.specs.FoldedPredicates.{names_none, folded, folded_atom, folded_tree};
+ghost use Rattle.rewrite.specs.FoldedPredicates.{is_atom};
+ghost use Rattle.rewrite.specs.FoldedPredicates.{is_folded_tree};
+ghost use Rattle.rewrite.specs.SameRows.{StandsFor};
 ghost use Rattle.typed_plan.specs.View.{tree_of};
 
 use scan_base::{Operand, Predicate, RowCells, ValueRef};

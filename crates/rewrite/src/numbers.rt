@@ -4,7 +4,7 @@ ghost use Rattle.std.specs.Prelude.{◌≡◌, ℕ, Bool, IsTrue, map};
 ghost use Rattle.std.specs.List.{list_all};
 ghost use Rattle.scan_base.specs.Predicate.{operand_names, names_only};
 ghost use Rattle.scan_base.specs.View.{pred_of};
-ghost use Rattle.typed_plan.specs.Numbered.{operand_map, predicate_map};
+ghost use Rattle.typed_plan.specs.NumberedPredicates.{operand_map, predicate_map};
 
 use scan_base::{Items, Operand, Predicate};
 use std::alloc::Global;

@@ -2,15 +2,15 @@
 
 ghost use Rattle.std.specs.Prelude.{◌≡◌, IfOk, OnOk, length};
 ghost use Rattle.std.specs.List.{range_with_len};
-ghost use Rattle.rewrite.specs.Folded.{is_folded_tree};
-ghost use Rattle.rewrite.specs.Pruned.{AreUsed, IsPruned, kept, numbers_of, pruned};
-ghost use Rattle.rewrite.specs.Pushed.{is_pushed};
-ghost use Rattle.rewrite.specs.Same.{StandsFor};
+ghost use Rattle.rewrite.specs.FoldedPredicates.{is_folded_tree};
+ghost use Rattle.rewrite.specs.PrunedColumns.{AreUsed, IsPruned, used_of, numbers_of, pruned};
+ghost use Rattle.rewrite.specs.PushedFilters.{is_pushed};
+ghost use Rattle.rewrite.specs.SameRows.{StandsFor};
 ghost use Rattle.typed_plan.specs.View.{plan_of, tree_of};
 
 use crate::numbers::renumber;
+use crate::used_columns::uses_of;
 use crate::used_numbers::UsedNumbers;
-use crate::uses::uses_of;
 use crate::widths::width;
 use scan_base::Items;
 use std::alloc::{AllocError, Global};
@@ -30,7 +30,7 @@ fn numbers_below(alloc: Global, count: usize) -> Result<Vec<usize>, AllocError>
 // Those of some numbers that are used.
 fn kept_numbers(alloc: Global, uses: &[bool], numbers: &[usize]) -> Result<Vec<usize>, AllocError>
     requires { length numbers.now ≡ length uses.now }
-    ensures { IfOk result (λ made. made.items ≡ kept uses.now numbers.now) }
+    ensures { IfOk result (λ made. made.items ≡ used_of uses.now numbers.now) }
 {
     let mut made = Vec::new(alloc);
     for (place, number) in numbers.iter().enumerate() {
@@ -49,7 +49,7 @@ fn kept_columns(
     width: usize,
 ) -> Result<Vec<usize>, AllocError>
     requires { length (numbers_of columns.now width) ≡ length uses.now }
-    ensures { IfOk result (λ made. made.items ≡ kept uses.now (numbers_of columns.now width)) }
+    ensures { IfOk result (λ made. made.items ≡ used_of uses.now (numbers_of columns.now width)) }
 {
     match columns {
         Columns::All => {

@@ -2,8 +2,9 @@
 
 ghost use Rattle.std.specs.Prelude.{◌≡◌, EachIndex, IfOk, length, map, slice_index, true};
 ghost use Rattle.std.specs.List.{list_all};
-ghost use Rattle.rewrite.specs.Pruned.{is_used, item_in, key_in, number_in, output_in, uses_item};
-ghost use Rattle.rewrite.specs.Pruned.{uses_key, uses_output};
+ghost use Rattle.rewrite.specs.PrunedColumns.{is_used, item_in, used_key, used_number, output_in};
+ghost use Rattle.rewrite.specs.PrunedColumns.{uses_item};
+ghost use Rattle.rewrite.specs.PrunedColumns.{uses_key, uses_output};
 
 use crate::numbers::NewNumbers;
 use scan_base::Items;
@@ -17,13 +18,13 @@ pub(crate) struct UsedNumbers<'a> {
     pub(crate) numbers: Vec<usize>,
     ghost all: { length numbers.items ≡ length uses.now },
     ghost counts: { EachIndex numbers.items
-        (λ column. slice_index numbers.items column ≡ number_in uses.now column) },
+        (λ column. slice_index numbers.items column ≡ used_number uses.now column) },
 }
 
 impl NewNumbers for UsedNumbers<'_> {
-    ghost use Rattle.rewrite.specs.Pruned.{is_used, number_in};
+    ghost use Rattle.rewrite.specs.PrunedColumns.{is_used, used_number};
 
-    ghost number = { λ among column. number_in among.uses.now column };
+    ghost number = { λ among column. used_number among.uses.now column };
 
     ghost has = { λ among column. is_used among.uses.now column };
 
@@ -52,7 +53,7 @@ impl<'a> UsedNumbers<'a> {
     // The new numbers of columns.
     fn columns(&self, alloc: Global, columns: &[usize]) -> Result<Items<usize>, AllocError>
         requires { list_all (is_used self.now.uses.now) columns.now ≡ true }
-        ensures { IfOk result (λ made. made ≡ map (number_in self.now.uses.now) columns.now) }
+        ensures { IfOk result (λ made. made ≡ map (used_number self.now.uses.now) columns.now) }
     {
         let mut made = Items::new(alloc);
         for column in columns {
@@ -64,7 +65,7 @@ impl<'a> UsedNumbers<'a> {
     // Keys of an ON with new numbers.
     pub(crate) fn keys(&self, alloc: Global, on: &[JoinKey]) -> Result<Items<JoinKey>, AllocError>
         requires { list_all (uses_key self.now.uses.now) on.now ≡ true }
-        ensures { IfOk result (λ made. made ≡ map (key_in self.now.uses.now) on.now) }
+        ensures { IfOk result (λ made. made ≡ map (used_key self.now.uses.now) on.now) }
     {
         let mut made = Items::new(alloc);
         for key in on {
@@ -75,7 +76,7 @@ impl<'a> UsedNumbers<'a> {
 
     fn key(&self, key: &JoinKey) -> JoinKey
         requires { uses_key self.now.uses.now key.now ≡ true }
-        ensures { result ≡ key_in self.now.uses.now key.now }
+        ensures { result ≡ used_key self.now.uses.now key.now }
     {
         let left = self.number(key.left);
         let right = self.number(key.right);

@@ -5,13 +5,13 @@ use Rattle.std.proofs.lemmas.Grind.{flat_map-append}
 use Rattle.std.proofs.lemmas.List.{map-append, length-map}
 use Rattle.std.proofs.lemmas.List.Elements.{All-push}
 use Rattle.arrays.specs.Batch.{BatchAt, rows_of}
-use Rattle.arrays.specs.Typed.{AreOf}
-use Rattle.arrow_schema.specs.declared.data_type.DataType.{DataType}
+use Rattle.arrays.specs.TypedLayouts.{AreOf}
+use Rattle.arrow_types.specs.declared.data_type.DataType.{DataType}
 use Rattle.table_versions.specs.Table.{Row}
 use Rattle.table_versions.proofs.Rowing.{length-rows_of}
 use Rattle.row_sources.specs.declared.piece.Piece.{Piece}
-use Rattle.row_sources.specs.Collected.{plain_rows, IsBatchOf, AreCollected}
-use Rattle.row_sources.specs.Running.{RowsAt, GoesOn, FindsPiece, Ends}
+use Rattle.row_sources.specs.CollectedRows.{plain_rows, IsBatchOf}
+use Rattle.row_sources.specs.Running.{RowsAt, GoesOn, FindsPiece}
 
 pub numbers_off : (number : ℕ) (rows : List Row) → plain_rows (map (λ row. (number, row)) rows) ≡ rows
 numbers_off number [] = refl
@@ -52,12 +52,3 @@ goes_still rows front = record { types = refl; batches = refl; depth = refl; ope
     take_same : (xs : List ℕ) → take (length xs) xs ≡ xs
     take_same [] = refl
     take_same (x ∷ xs) = ap (λ rest. x ∷ rest) (take_same xs)
-
--- after the last
-pub all_collected : (first before after : RowsAt) (batches : List BatchAt) → GoesOn first before → Ends before after →
-    flat_map rows_of batches ++ plain_rows before.ahead ≡ plain_rows first.ahead → All (IsBatchOf first.types) batches → AreCollected first batches after
-all_collected first before after batches on ends is each = record {
-  rows = sym (append-nil (flat_map rows_of batches)) ∙ ap (λ (rows : List (ℕ × Row)). flat_map rows_of batches ++ plain_rows rows) (sym ends.none) ∙ is;
-  each = each;
-  all = ends.all ∙ on.batches;
-}

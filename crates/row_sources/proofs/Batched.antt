@@ -7,7 +7,7 @@ use Rattle.table_versions.specs.Standing.{rows_before}
 use Rattle.table_versions.specs.Table.{Row}
 use Rattle.table_versions.proofs.Places.{split_at}
 use Rattle.table_versions.proofs.Rowing.{length-rows_of, rows-cons}
-use Rattle.typed_plan.specs.Joined.{rows_between}
+use Rattle.typed_plan.specs.JoinedRows.{rows_between}
 use Rattle.row_sources.specs.Parts.{parts, numbered_rows}
 
 take_none : {X : Type 0} (n : ℕ) (xs : List X) → xs ≡ [] → take n xs ≡ []

@@ -7,10 +7,10 @@ use Rattle.std.proofs.lemmas.Grind.{flat_map-append}
 use Rattle.std.proofs.lemmas.List.{length-map, map-append}
 use Rattle.std.proofs.lemmas.List.Elements.{All-append, All-filter, All-map, All-nil}
 use Rattle.std.proofs.lemmas.List.FromFn.{length-map-range_with_len}
-use Rattle.arrow_schema.specs.Answer.{copied_type}
-use Rattle.arrow_schema.specs.declared.data_type.DataType.{DataType}
+use Rattle.arrow_types.specs.Answer.{copied_type}
+use Rattle.arrow_types.specs.declared.data_type.DataType.{DataType}
 use Rattle.arrays.specs.Batch.{BatchAt, rows_of}
-use Rattle.hash_join.specs.Pairs.{places, key_in, keys_join}
+use Rattle.hash_join.specs.Pairs.{places, key_values, keys_join}
 use Rattle.join_batches.specs.declared.joiner.JoinSides.{JoinSides}
 use Rattle.join_batches.specs.Joiner.{JoinerAt, joined_types, joined_with}
 use Rattle.scan_base.specs.declared.comparison.Comparison.TheVariants.{Equal}
@@ -24,13 +24,13 @@ use Rattle.shared_pages.proofs.Lists.{slice_get-append_left, slice_get-append_ri
 use Rattle.table_versions.proofs.Rowing.{rows-cons}
 use Rattle.typed_plan.specs.declared.plan.JoinKey.{JoinKey}
 use Rattle.typed_plan.specs.Plan.{fits, joined_rows}
-use Rattle.typed_plan.specs.Typed.{spans, type_at}
-use Rattle.row_sources.specs.Joining.{CanJoin, JoinsRows, numbered_fits, HasKeys, IsSides, all_joined, joiner_with}
-use Rattle.row_sources.specs.Joined.{IsJoined, joined_at, numbered_joined}
+use Rattle.typed_plan.specs.TypedPlans.{spans, type_at}
+use Rattle.row_sources.specs.JoinParts.{CanJoin, JoinsRows, numbered_fits, HasKeys, AreJoinInputs, all_joined, joiner_with}
+use Rattle.row_sources.specs.JoinedRows.{IsJoined, joined_at, numbered_joined}
 use Rattle.row_sources.specs.Picking.{IsPick, PickAt, given_numbered}
 use Rattle.row_sources.specs.Running.{RowsAt}
 use Rattle.row_sources.proofs.BeginPick.{all_given, all_types, all_within, given_wide, pick_with}
-use Rattle.row_sources.specs.Collected.{plain_rows}
+use Rattle.row_sources.specs.CollectedRows.{plain_rows}
 use Rattle.row_sources.specs.Parts.{numbered_rows}
 use Rattle.row_sources.proofs.Giving.{filter-map}
 
@@ -48,7 +48,7 @@ spans_both seam key h =
 
 -- a joined row fits where the keys of its parts join
 fits_is : (on : List JoinKey) (left right : Row) → list_all (spans (length left)) on ≡ true →
-    fits on (left ++ right) ≡ keys_join (key_in (map (λ (key : JoinKey). key.left) on) left) (key_in (map (λ (key : JoinKey). key.right - length left) on) right)
+    fits on (left ++ right) ≡ keys_join (key_values (map (λ (key : JoinKey). key.left) on) left) (key_values (map (λ (key : JoinKey). key.right - length left) on) right)
 fits_is [] left right h = refl
 fits_is (key ∷ on) left right h =
     let p = and_parts (spans (length left) key) (list_all (spans (length left)) on) h in
@@ -74,11 +74,11 @@ pub fits_joined : (on : List JoinKey) (joiner : JoinerAt) (seam : ℕ) (lefts : 
 fits_joined on joiner seam [] h l r wide = refl
 fits_joined on joiner seam (left ∷ lefts) h l r wide =
     let size : length left.1 ≡ seam = wide 0 left (omega arith) in
-    let test : Row → Bool = λ right. keys_join (key_in joiner.left_key left.1) (key_in joiner.right_key right) in
+    let test : Row → Bool = λ right. keys_join (key_values joiner.left_key left.1) (key_values joiner.right_key right) in
     let same : (right : Row) → test right ≡ fits on (left.1 ++ right) = λ right.
-    ap (λ (key : List ℕ). keys_join (key_in key left.1) (key_in joiner.right_key right)) l
-    ∙ ap (λ (key : List ℕ). keys_join (key_in (map (λ (k : JoinKey). k.left) on) left.1) (key_in key right)) r
-    ∙ ap (λ (n : ℕ). keys_join (key_in (map (λ (k : JoinKey). k.left) on) left.1) (key_in (map (λ (k : JoinKey). k.right - n) on) right)) (sym size)
+    ap (λ (key : List ℕ). keys_join (key_values key left.1) (key_values joiner.right_key right)) l
+    ∙ ap (λ (key : List ℕ). keys_join (key_values (map (λ (k : JoinKey). k.left) on) left.1) (key_values key right)) r
+    ∙ ap (λ (n : ℕ). keys_join (key_values (map (λ (k : JoinKey). k.left) on) left.1) (key_values (map (λ (k : JoinKey). k.right - n) on) right)) (sym size)
     ∙ sym (fits_is on left.1 right (subst (λ (n : ℕ). list_all (spans n) on ≡ true) (sym size) h)) in
     let whole : Row → Row = λ right. left.1 ++ right in
     let one : joined_with joiner left.1 ≡ filter (fits on) (map whole joiner.rights) =
@@ -214,7 +214,7 @@ module _ (on : List JoinKey) (left right : RowsAt) (can : CanJoin on left right)
       record { left_types = lefts; right_types = rights; left_key = left_key; right_key = right_key; rights = plain_rows right.ahead; ahead = [] } ≡ the_joiner
   made_is lefts rights left_key right_key a b c d = rw (a, b, c, d) refl
 
-  module _ (sides : JoinSides) (is : IsSides on left.types right.types sides) where
+  module _ (sides : JoinSides) (is : AreJoinInputs on left.types right.types sides) where
     pub joiner_is : joiner_with sides (plain_rows right.ahead) ≡ the_joiner
     joiner_is =
         made_is sides.left.types.items sides.right.types.items sides.left.key.items sides.right.key.items is.left_types is.right_types is.left_key is.right_key

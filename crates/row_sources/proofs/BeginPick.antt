@@ -8,8 +8,8 @@ use Rattle.std.proofs.lemmas.List.Elements.{All-cons, All-nil, All-map, All-take
 use Rattle.std.proofs.lemmas.List.Folds.{list_all-append}
 use Rattle.std.proofs.lemmas.List.FromFn.{fill_by_all}
 use Rattle.std.proofs.lemmas.Option.{unwrap_or-slice_get}
-use Rattle.arrow_schema.specs.declared.data_type.DataType.{DataType}
-use Rattle.arrow_schema.specs.declared.data_type.DataType.TheVariants.{Utf8}
+use Rattle.arrow_types.specs.declared.data_type.DataType.{DataType}
+use Rattle.arrow_types.specs.declared.data_type.DataType.TheVariants.{Utf8}
 use Rattle.arrays.specs.Batch.{BatchAt, rows_of, row_of}
 use Rattle.arrays.specs.Column.{slot_of}
 use Rattle.scan_base.specs.Predicate.{Pred, cell_in}
@@ -17,14 +17,14 @@ use Rattle.table_versions.specs.Table.{Row}
 use Rattle.table_versions.proofs.Rowing.{length-rows_of, rows-cons}
 use Rattle.typed_plan.specs.declared.plan.Columns.{Columns}
 use Rattle.typed_plan.specs.declared.plan.Columns.TheVariants as columns
-use Rattle.typed_plan.specs.Joined.{rows_between}
+use Rattle.typed_plan.specs.JoinedRows.{rows_between}
 use Rattle.typed_plan.specs.Plan.{taken, is_true}
-use Rattle.typed_plan.specs.Typed.{has_columns, type_at, types_taken}
-use Rattle.batch_skipping.specs.Chosen.{are_within}
-use Rattle.row_sources.specs.Chosen.{numbers_at}
+use Rattle.typed_plan.specs.TypedPlans.{has_columns, type_at, types_taken}
+use Rattle.batch_skipping.specs.ChosenColumns.{are_within}
+use Rattle.row_sources.specs.ChosenColumns.{numbers_at}
 use Rattle.row_sources.specs.Parts.{parts, numbered_rows}
 use Rattle.row_sources.specs.Picking.{PickAt, cells_at, passes, holds, given_numbered}
-use Rattle.row_sources.specs.Picked.{given}
+use Rattle.row_sources.specs.PickedRows.{given}
 use Rattle.row_sources.proofs.Batched.{numbered_from}
 use Rattle.row_sources.proofs.Cells.{map-cells, places}
 use Rattle.row_sources.proofs.Giving.{filter-map, filter-all}

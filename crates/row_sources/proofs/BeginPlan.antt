@@ -6,28 +6,28 @@ use Rattle.std.proofs.lemmas.Bool.{lt-ltb}
 use Rattle.std.proofs.lemmas.List.{drop_all, length-map, map-append, take_all}
 use Rattle.std.proofs.lemmas.List.Elements.{filter-append, length_all_zip}
 use Rattle.std.proofs.lemmas.Option.{slice_get_within}
-use Rattle.arrow_schema.specs.Answer.{LiesAs}
-use Rattle.arrow_schema.specs.declared.data_type.DataType.{DataType}
-use Rattle.arrow_schema.specs.declared.schema.Schema.{Schema}
+use Rattle.arrow_types.specs.Answer.{LiesAs}
+use Rattle.arrow_types.specs.declared.data_type.DataType.{DataType}
+use Rattle.arrow_types.specs.declared.schema.Schema.{Schema}
 use Rattle.arrays.specs.Batch.{BatchAt, rows_of}
 use Rattle.scan_base.specs.Limits.{most_rows}
 use Rattle.scan_base.specs.Predicate.{cell_in}
 use Rattle.scan_base.specs.declared.fault.Fault.{Fault}
-use Rattle.table_versions.specs.Stored.{TableAt, table_of}
+use Rattle.table_versions.specs.StoredTables.{TableAt, table_of}
 use Rattle.table_versions.specs.Table.{Row}
 use Rattle.table_versions.proofs.Rowing.{length-rows_of, rows-cons}
 use Rattle.typed_plan.specs.declared.class.Class.{Class}
 use Rattle.typed_plan.specs.declared.plan.Columns.TheVariants as columns
 use Rattle.typed_plan.specs.declared.plan.JoinKey.{JoinKey}
 use Rattle.typed_plan.specs.Faults.{compare_fault, first_in}
-use Rattle.typed_plan.specs.Held.{tree_schemas}
-use Rattle.typed_plan.specs.Joined.{rows_between}
+use Rattle.typed_plan.specs.HeldTables.{tree_schemas}
+use Rattle.typed_plan.specs.JoinedRows.{rows_between}
 use Rattle.typed_plan.specs.Plan.{Tree, scan, filtered, joined, is_true, joined_rows}
-use Rattle.typed_plan.specs.Typed.{class_if_there, class_of_number, is_place, key_fault, spans, tree_types, IsTypedTree}
+use Rattle.typed_plan.specs.TypedPlans.{class_if_there, class_of_number, is_place, key_fault, spans, tree_types, IsTypedTree}
 use Rattle.typed_plan.proofs.TypedNames.{then_none}
-use Rattle.row_sources.specs.Joining.{CanJoin, JoinsRows, numbered_fits}
-use Rattle.row_sources.specs.Begun.{IsBegun, tree_given}
-use Rattle.row_sources.specs.Collected.{plain_rows}
+use Rattle.row_sources.specs.JoinParts.{CanJoin, JoinsRows, numbered_fits}
+use Rattle.row_sources.specs.BegunRows.{IsBegun, tree_given}
+use Rattle.row_sources.specs.CollectedRows.{plain_rows}
 use Rattle.row_sources.specs.Parts.{numbered_parts, parts, numbered_rows}
 use Rattle.rewrite.specs.Places.{first_rows, rows_over}
 use Rattle.row_sources.specs.Running.{RowsAt}

@@ -3,32 +3,32 @@ use Rattle.std.proofs.Common.{◌≡◌, ◌<◌, ℕ, ◌+◌, true, All, List,
 use Rattle.std.specs.Prelude.{IsTrue}
 use Rattle.std.proofs.lemmas.List.{map-append, take_more, length-map}
 use Rattle.std.proofs.lemmas.Option.{slice_get-map, slice_get_read}
-use Rattle.arrow_schema.specs.declared.data_type.DataType.TheVariants.{Utf8}
+use Rattle.arrow_types.specs.declared.data_type.DataType.TheVariants.{Utf8}
 use Rattle.scan_base.specs.declared.predicate.Predicate.{Predicate}
 use Rattle.scan_base.specs.View.{pred_of}
 use Rattle.row_sources.proofs.Cells.{within_at}
-use Rattle.batch_skipping.specs.Chosen.{are_within}
+use Rattle.batch_skipping.specs.ChosenColumns.{are_within}
 use Rattle.std.specs.List.{AllZip, filter, flat_map, range_with_len}
 use Rattle.std.proofs.lemmas.List.Elements.{All-push, length_all_zip}
-use Rattle.arrow_schema.specs.Answer.{LiesAs}
-use Rattle.arrow_schema.specs.declared.data_type.DataType.{DataType}
-use Rattle.arrow_schema.specs.declared.schema.Field.{Field}
+use Rattle.arrow_types.specs.Answer.{LiesAs}
+use Rattle.arrow_types.specs.declared.data_type.DataType.{DataType}
+use Rattle.arrow_types.specs.declared.schema.Field.{Field}
 use Rattle.arrays.specs.Batch.{BatchAt, rows_of}
-use Rattle.arrays.specs.Typed.{AreOfTypes}
+use Rattle.arrays.specs.TypedLayouts.{AreOfTypes}
 use Rattle.scan_base.specs.Predicate.{Pred, names_only}
-use Rattle.table_versions.specs.Stored.{TableAt}
+use Rattle.table_versions.specs.StoredTables.{TableAt}
 use Rattle.table_versions.specs.Table.{Name, Row}
 use Rattle.typed_plan.specs.declared.plan.Columns.{Columns}
 use Rattle.typed_plan.specs.Plan.{Tree, scan, filtered, is_true}
-use Rattle.typed_plan.specs.Typed.{has_columns, type_at, types_of, tree_types}
+use Rattle.typed_plan.specs.TypedPlans.{has_columns, type_at, types_of, tree_types}
 use Rattle.row_sources.specs.declared.cursor.Cursor.{Cursor}
-use Rattle.row_sources.specs.Begun.{IsBegun, tree_given}
-use Rattle.row_sources.specs.Chosen.{numbers_at}
+use Rattle.row_sources.specs.BegunRows.{IsBegun, tree_given}
+use Rattle.row_sources.specs.ChosenColumns.{numbers_at}
 use Rattle.rewrite.specs.Places.{rows_over}
 use Rattle.row_sources.specs.Parts.{first_batches, further_rows, numbered_parts}
-use Rattle.batch_skipping.specs.Opened.{batches_in}
+use Rattle.batch_skipping.specs.OpenedBatches.{batches_in}
 use Rattle.row_sources.specs.Picking.{IsPick, given_numbered}
-use Rattle.row_sources.specs.Placed.{Begins, rows_ahead}
+use Rattle.row_sources.specs.PlaceCursor.{Begins, rows_ahead}
 use Rattle.row_sources.specs.Running.{RowsAt, picked_of}
 use Rattle.row_sources.proofs.Batched.{numbered_from}
 use Rattle.row_sources.proofs.BeginPick.{pick_with, given_wide, filter_more, filter_over, parts_given, clamped_from, types_read, numbers_within}

@@ -5,14 +5,13 @@ use Rattle.std.proofs.lemmas.Bool.{ltb-true, and_parts}
 use Rattle.std.proofs.lemmas.Option.{slice_get-map, slice_get-get_or, slice_get_read, unwrap_or-slice_get}
 use Rattle.std.proofs.lemmas.List.FromFn.{fill_by_all, get_or-range_with_len}
 use Rattle.std.proofs.lemmas.List.{take_more}
-use Rattle.arrays.specs.Column.{ColumnAt, slot_of}
-use Rattle.arrays.specs.Batch.{row_of}
+use Rattle.arrays.specs.Column.{ColumnAt}
 use Rattle.scan_base.specs.declared.value.Value.{Value}
 use Rattle.scan_base.specs.declared.value.Value.TheVariants.{Null}
 use Rattle.scan_base.specs.Predicate.{cell_in}
 use Rattle.table_versions.specs.Table.{Row}
 use Rattle.shared_pages.proofs.Lists.{all_at}
-use Rattle.batch_skipping.specs.Chosen.{are_within, listed, columns_at}
+use Rattle.batch_skipping.specs.ChosenColumns.{are_within, listed, columns_at}
 
 -- the cell of a row that is made number by number
 pub cell-map : {X : Type 0} (f : X → Value) (xs : List X) (i : ℕ) (d : X) → i < length xs →
@@ -26,14 +25,6 @@ pub within_at : (width : ℕ) (numbers : List ℕ) (i : ℕ) → are_within widt
 within_at width numbers i all h =
     ltb-true (get_or numbers i 0) width
     (all_at (λ number. nat_lt number width) numbers (get_or numbers i 0) i all (slice_get-get_or numbers i 0 h))
-
--- the cells of a row of a batch
-pub cell_read : (columns : List ColumnAt) (read : List ℕ) (row i : ℕ) (column : ColumnAt) →
-    are_within (length columns) read ≡ true → i < length read →
-    slot_of (get_or columns (get_or read i 0) column) row ≡ cell_in (map (cell_in (row_of columns row)) read) i
-cell_read columns read row i column all h =
-    sym (cell-map (cell_in (row_of columns row)) read i 0 h
-    ∙ cell-map (λ c. slot_of c row) columns (get_or read i 0) column (within_at (length columns) read i all h))
 
 -- all cells in order
 pub map-cells : (row : Row) → map (cell_in row) (range_with_len 0 (length row)) ≡ row

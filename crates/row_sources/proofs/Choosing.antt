@@ -2,14 +2,14 @@
 use Rattle.std.proofs.Common.{◌≡◌, ℕ, ◌-◌, ◌+◌, min, sym, ap, ◌∙◌}
 use Rattle.std.specs.List.{filter, range_with_len}
 use Rattle.arrays.specs.Batch.{BatchAt, row_of}
-use Rattle.table_versions.specs.Stored.{TableAt}
+use Rattle.table_versions.specs.StoredTables.{TableAt}
 use Rattle.row_sources.specs.declared.cursor.Cursor.{Cursor}
-use Rattle.row_sources.specs.declared.part.Part.{Part}
+use Rattle.row_sources.specs.declared.batch_slice.BatchSlice.{BatchSlice}
 use Rattle.row_sources.specs.Picking.{PickAt, holds, chosen_rows}
-use Rattle.row_sources.specs.Placed.{IsNextPart}
+use Rattle.row_sources.specs.PlaceCursor.{IsNextPart}
 
 -- the same rows are chosen of any part that comes next
-pub same_chosen : (table : TableAt) (cursor : Cursor) (pick : PickAt) (one other : Part) → IsNextPart table cursor one → IsNextPart table cursor other →
+pub same_chosen : (table : TableAt) (cursor : Cursor) (pick : PickAt) (one other : BatchSlice) → IsNextPart table cursor one → IsNextPart table cursor other →
     chosen_rows pick one ≡ chosen_rows pick other
 same_chosen table cursor pick one other is that =
     let batch : one.batch.now ≡ other.batch.now = let e = sym is.batch ∙ that.batch in cc in

@@ -4,10 +4,10 @@ use Rattle.std.proofs.lemmas.List.FromFn.{length-range_with_len}
 use Rattle.std.proofs.lemmas.Simd.{map-map}
 use Rattle.arrays.specs.Batch.{BatchAt, row_of, cut_batch}
 use Rattle.arrays.specs.Column.{ColumnAt}
-use Rattle.row_sources.specs.declared.part.Part.{Part}
-use Rattle.batch_skipping.specs.Chosen.{columns_at}
+use Rattle.row_sources.specs.declared.batch_slice.BatchSlice.{BatchSlice}
+use Rattle.batch_skipping.specs.ChosenColumns.{columns_at}
 use Rattle.row_sources.specs.Picking.{PickAt, IsPick, cells_at, holds, rows_of_part, chosen_rows}
-use Rattle.row_sources.specs.Picked.{given, HasRowsAt, IsPicked, given_of_part}
+use Rattle.row_sources.specs.PickedRows.{given, HasRowsAt, IsPicked, given_of_part}
 use Rattle.row_sources.proofs.Selecting.{cuts_have, rows_there, all_typed}
 use Rattle.row_sources.proofs.Shown.{columns_cells, chosen_typed}
 use Rattle.std.specs.List.{filter}
@@ -29,7 +29,7 @@ pub filter-all : {X : Type 0} (xs : List X) → filter (λ x. true) xs ≡ xs
 filter-all [] = refl
 filter-all (x ∷ xs) = ap (λ rest. x ∷ rest) (filter-all xs)
 
-module _ (pick : PickAt) (part : Part) (is : IsPick (length part.batch.now.columns) pick) where
+module _ (pick : PickAt) (part : BatchSlice) (is : IsPick (length part.batch.now.columns) pick) where
   abbrev columns : List ColumnAt
   columns = part.batch.now.columns
 
@@ -59,6 +59,6 @@ module _ (pick : PickAt) (part : Part) (is : IsPick (length part.batch.now.colum
   gives_none none = given_is ∙ ap (map (λ j. cells_at pick.shown (row_of columns j))) none
 
 -- without a filter all rows are given
-pub all_hold : (pick : PickAt) (part : Part) → pick.filters ≡ [] → rows_of_part part ≡ chosen_rows pick part
+pub all_hold : (pick : PickAt) (part : BatchSlice) → pick.filters ≡ [] → rows_of_part part ≡ chosen_rows pick part
 all_hold pick part none =
     rw none (sym (filter-all (rows_of_part part)))

@@ -4,23 +4,23 @@ use Rattle.std.specs.List.{last_or, range_with_len}
 use Rattle.std.proofs.lemmas.Grind.{flat_map-append}
 use Rattle.std.proofs.lemmas.List.{map-append, length-map, take-take}
 use Rattle.std.proofs.lemmas.List.FromFn.{length-range_with_len}
-use Rattle.arrow_schema.specs.declared.data_type.DataType.{DataType}
+use Rattle.arrow_types.specs.declared.data_type.DataType.{DataType}
 use Rattle.arrays.specs.Batch.{BatchAt, row_of, rows_of, cut_batch}
 use Rattle.arrays.specs.Column.{ColumnAt}
-use Rattle.arrays.specs.Typed.{AreOf}
+use Rattle.arrays.specs.TypedLayouts.{AreOf}
 use Rattle.join_batches.specs.Joiner.{JoinerAt, joined_with, joined_of, joined_types, GivesJoined, GivesShown}
 use Rattle.table_versions.specs.Table.{Row}
 use Rattle.table_versions.proofs.Rowing.{length-rows_of}
 use Rattle.row_sources.specs.declared.piece.Piece.{Piece}
-use Rattle.row_sources.specs.Joined.{numbered_joined, joined_at, IsJoined}
+use Rattle.row_sources.specs.JoinedRows.{numbered_joined, joined_at, IsJoined}
 use Rattle.row_sources.specs.Picking.{PickAt, cells_at, given_numbered}
-use Rattle.row_sources.specs.Picked.{given, given_of_part, IsPicked}
+use Rattle.row_sources.specs.PickedRows.{given, given_of_part, IsPicked}
 use Rattle.row_sources.specs.Running.{RowsAt, GoesOn, FindsPiece, FindsNone, Ends, picked_of}
 use Rattle.row_sources.proofs.Giving.{filter-all}
 use Rattle.row_sources.proofs.Piecing.{passed, next_is, given_few}
 use Rattle.row_sources.proofs.Selecting.{cuts_have, rows_there}
-use Rattle.row_sources.specs.declared.part.Part.{Part}
-use Rattle.typed_plan.specs.Typed.{type_at}
+use Rattle.row_sources.specs.declared.batch_slice.BatchSlice.{BatchSlice}
+use Rattle.typed_plan.specs.TypedPlans.{type_at}
 
 -- ---- rows that are joined one by one
 
@@ -189,9 +189,6 @@ module _ (left : RowsAt) (joiner : JoinerAt) (number : ℕ) (piece : Piece) (aft
   pub fed_none : FindsNone (joined_at left joiner number) (joined_at after fed piece.number)
   fed_none = record { same = fed_next; looked = omega (arith, fed_looked); on = fed_on }
 
-  pub fed_joined : left.types ≡ joiner.left_types → IsJoined after fed piece.number
-  fed_joined typed = record { typed = finds.on.types ∙ typed; front = finds.on.opened; latest = inr finds.latest }
-
   -- fewer left rows are to come
   pub fed_fewer : length after.ahead < length left.ahead
   fed_fewer =
@@ -212,22 +209,6 @@ module _ (left : RowsAt) (joiner : JoinerAt) (number : ℕ) (after : RowsAt) (no
     depth = ap (λ (n : ℕ). n + 1) on.depth;
     opening = on.opening;
     opened = on.opened;
-  }
-
-  pub left_joined : left.types ≡ joiner.left_types → GoesOn left after → IsJoined after joiner number
-  left_joined typed on = record { typed = on.types ∙ typed; front = on.opened; latest = inl none }
-
-  nothing : (some : RowsAt) → some.ahead ≡ [] → (joined_at some joiner number).ahead ≡ []
-  nothing some empty =
-      ap (λ (rows : List Row). map (λ row. (number, row)) rows ++ numbered_joined joiner some.ahead) none
-      ∙ ap (numbered_joined joiner) empty
-
-  pub left_ends : Ends left after → Ends (joined_at left joiner number) (joined_at after joiner number)
-  left_ends ends = record {
-    none = nothing left ends.none;
-    still = nothing after ends.still;
-    all = ends.all;
-    on = left_on ends.on;
   }
 
   left_same : left.ahead ≡ after.ahead → (joined_at left joiner number).ahead ≡ (joined_at after joiner number).ahead
@@ -297,7 +278,7 @@ batch_goes first left joiner number batch after gives on is =
 -- a joined batch of which a row is given, or none is
 module _ (pick : PickAt) (first left : RowsAt) (joiner : JoinerAt) (number : ℕ) (batch : BatchAt) (after : JoinerAt) (gives : GivesJoined joiner batch after)
     (on : GoesOn first (joined_at left joiner number)) (same : given_numbered pick first.ahead ≡ given_numbered pick (joined_at left joiner number).ahead)
-    (seen : (joined_at left joiner number).unseen ≤ first.unseen) (is : IsJoined left joiner number) (part : Part) (of : part.batch.now ≡ batch) (from : part.from ≡ 0) (to : part.to ≡ batch.rows) where
+    (seen : (joined_at left joiner number).unseen ≤ first.unseen) (is : IsJoined left joiner number) (part : BatchSlice) (of : part.batch.now ≡ batch) (from : part.from ≡ 0) (to : part.to ≡ batch.rows) where
   part_is : given_of_part pick part ≡ given pick (rows_of batch)
   part_is = rw (of, from, to) (ap (given pick) (whole_part batch))
 

@@ -1,10 +1,10 @@
 -- Columns that lie as values of some types.
 use Rattle.std.proofs.Common.{◌≡◌, ℕ, zero, suc, List, [], ◌∷◌, ◌++◌, map, inl, inr, refl, ap, ◌∙◌}
 use Rattle.std.specs.List.{AllZip}
-use Rattle.arrow_schema.specs.declared.data_type.DataType.{DataType}
-use Rattle.arrow_schema.specs.declared.data_type.DataType.TheVariants.{Integer, Utf8, Bool as Flag, Decimal128, Date, Dictionary}
-use Rattle.arrow_schema.specs.Answer.{copied_type, LiesAs}
-use Rattle.typed_plan.specs.Typed.{type_at}
+use Rattle.arrow_types.specs.declared.data_type.DataType.{DataType}
+use Rattle.arrow_types.specs.declared.data_type.DataType.TheVariants.{Integer, Utf8, Bool as Flag, Decimal128, Date, Dictionary}
+use Rattle.arrow_types.specs.Answer.{copied_type, LiesAs}
+use Rattle.typed_plan.specs.TypedPlans.{type_at}
 
 copied_twice : (t : DataType) → copied_type (copied_type t) ≡ copied_type t
 copied_twice (Integer integer) = refl

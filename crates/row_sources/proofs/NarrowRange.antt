@@ -4,17 +4,17 @@ use Rattle.std.specs.List.{filter, flat_map, range_with_len, zip}
 use Rattle.std.specs.Option.{option_to_list}
 use Rattle.std.proofs.lemmas.Bool.{and_from, cases_Bool, lt-ltb, ltb-true}
 use Rattle.arrays.specs.Batch.{BatchAt, rows_of}
-use Rattle.table_versions.specs.Kept.{IsKept}
+use Rattle.table_versions.specs.KeptTables.{IsKept}
 use Rattle.table_versions.specs.Standing.{rows_before}
-use Rattle.table_versions.specs.Stored.{TableAt, has_rows}
+use Rattle.table_versions.specs.StoredTables.{TableAt, has_rows}
 use Rattle.table_versions.specs.Table.{Row}
 use Rattle.table_versions.proofs.Places.{split_at}
 use Rattle.table_versions.proofs.Rowing.{length-rows_of, rows-append, rows-cons}
-use Rattle.typed_plan.specs.Joined.{rows_between}
-use Rattle.batch_skipping.specs.Chosen.{are_within}
+use Rattle.typed_plan.specs.JoinedRows.{rows_between}
+use Rattle.batch_skipping.specs.ChosenColumns.{are_within}
 use Rattle.row_sources.specs.Parts.{numbered_parts, parts}
 use Rattle.batch_skipping.specs.Narrow.{BeginsInFirst, batches_at, narrowed_from, narrowed_to}
-use Rattle.batch_skipping.specs.Opened.{has_row_in, batches_in}
+use Rattle.batch_skipping.specs.OpenedBatches.{has_row_in, batches_in}
 use Rattle.row_sources.proofs.Narrowing.{at_many, filled_each, one_of, there_at}
 use Rattle.row_sources.proofs.Opening.{grows, in_all}
 

@@ -6,12 +6,12 @@ use Rattle.std.proofs.lemmas.Bool.{and_parts, and_from, ltb-true}
 use Rattle.std.proofs.lemmas.List.Elements.{All-nil, All-cons, All-head, All-tail}
 use Rattle.std.proofs.lemmas.List.Folds.{list_any-append}
 use Rattle.arrays.specs.Batch.{BatchAt, rows_of}
-use Rattle.arrays.specs.Typed.{AreOfTypes}
-use Rattle.table_versions.specs.Kept.{IsKept, Stands}
+use Rattle.arrays.specs.TypedLayouts.{AreOfTypes}
+use Rattle.table_versions.specs.KeptTables.{IsKept, Stands}
 use Rattle.table_versions.proofs.Storable.{first_false, second_false}
-use Rattle.table_versions.specs.Stored.{TableAt, has_rows}
+use Rattle.table_versions.specs.StoredTables.{TableAt, has_rows}
 use Rattle.table_versions.specs.Table.{Row, has_bad_null, is_long_text}
-use Rattle.batch_skipping.specs.Chosen.{are_within}
+use Rattle.batch_skipping.specs.ChosenColumns.{are_within}
 use Rattle.batch_skipping.specs.Narrow.{CanNarrow, batches_at, narrowed}
 
 -- what is there, at a place

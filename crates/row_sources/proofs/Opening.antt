@@ -7,7 +7,7 @@ use Rattle.std.proofs.lemmas.List.{take-append-drop, take-take, take_all}
 use Rattle.arrays.specs.Batch.{BatchAt, rows_of}
 use Rattle.table_versions.specs.Standing.{rows_before}
 use Rattle.table_versions.proofs.Rowing.{rows-append}
-use Rattle.batch_skipping.specs.Opened.{has_row_in, batches_in}
+use Rattle.batch_skipping.specs.OpenedBatches.{has_row_in, batches_in}
 
 -- ---- the numbers of a range that pass a test
 

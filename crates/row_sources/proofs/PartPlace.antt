@@ -8,16 +8,16 @@ use Rattle.std.proofs.lemmas.List.FromFn.{length-range_with_len}
 use Rattle.std.proofs.lemmas.Simd.{map-map}
 use Rattle.arrays.specs.Batch.{BatchAt, rows_of}
 use Rattle.table_versions.specs.Standing.{rows_before}
-use Rattle.table_versions.specs.Stored.{TableAt, table_of}
+use Rattle.table_versions.specs.StoredTables.{TableAt, table_of}
 use Rattle.table_versions.specs.Table.{Row}
 use Rattle.table_versions.proofs.Rowing.{length-rows_of, rows-cons}
-use Rattle.typed_plan.specs.Joined.{rows_between}
+use Rattle.typed_plan.specs.JoinedRows.{rows_between}
 use Rattle.batch_skipping.specs.Narrow.{BeginsInFirst}
-use Rattle.batch_skipping.specs.Opened.{has_row_in, batches_in}
+use Rattle.batch_skipping.specs.OpenedBatches.{has_row_in, batches_in}
 use Rattle.row_sources.specs.declared.cursor.Cursor.{Cursor}
 use Rattle.row_sources.specs.Parts.{parts, numbered_parts, numbered_rows}
 use Rattle.row_sources.specs.Parting.{ComeInOrder, of_number, part_of}
-use Rattle.row_sources.specs.Placed.{begin_in, end_in, IsPlaced, Begins, rows_ahead}
+use Rattle.row_sources.specs.PlaceCursor.{begin_in, end_in, IsPlaced, Begins, rows_ahead}
 use Rattle.row_sources.specs.Running.{RowsAt}
 use Rattle.row_sources.proofs.ByNumber.{counted, counted_all, counted_at, with_number}
 use Rattle.row_sources.proofs.Narrowing.{there_at}
@@ -173,9 +173,6 @@ module _ (table : TableAt) (cursor : Cursor) (is : IsPlaced table cursor) (i : �
       at_first : cursor.at ≡ cursor.from
       at_first = is.fresh (omega (arith, is.opened, ap length unopened))
 
-      pub to_few : cursor.to ≤ length (table_of table).rows
-      to_few = is.few (omega (arith, at_first, here.3))
-
       part_rows : of_number i (rows_ahead table cursor) ≡ with_number i (rows_between (begin_in table cursor i) (end_in table cursor i) (rows_of batch))
       part_rows =
           ap (λ (n : ℕ). of_number i (numbered_rows (numbered_parts n cursor.to batches))) at_first
@@ -218,9 +215,6 @@ module _ (table : TableAt) (cursor : Cursor) (is : IsPlaced table cursor) (i : �
 
   found_batch : (batch : BatchAt) × (slice_get table.batches i ≡ Some batch)
   found_batch = there_at table.batches i part_there
-
-  pub part_few : batches_in cursor.from cursor.at table.batches ≡ [] → cursor.to ≤ length (table_of table).rows
-  part_few unopened = to_few table cursor is i part_there found_batch.0 found_batch.1 unopened
 
   module _ (made : TableAt) (made_is : made ≡ record table { batches = option_to_list (slice_get table.batches i) }) (from to : ℕ)
       (from_is : from ≡ begin_in table cursor i) (to_is : to ≡ end_in table cursor i) where

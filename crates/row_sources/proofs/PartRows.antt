@@ -4,10 +4,10 @@ use Rattle.std.specs.List.{flat_map, last_or}
 use Rattle.std.proofs.lemmas.Bool.{cases_Bool}
 use Rattle.join_batches.specs.Joiner.{JoinerAt, joined_with}
 use Rattle.table_versions.specs.Table.{Row}
-use Rattle.row_sources.specs.Joined.{IsJoined, joined_at, numbered_joined}
+use Rattle.row_sources.specs.JoinedRows.{IsJoined, joined_at, numbered_joined}
 use Rattle.row_sources.specs.Parting.{ComeInOrder, of_number, part_of}
 use Rattle.row_sources.specs.Picking.{PickAt, given_numbered, holds}
-use Rattle.row_sources.specs.Picked.{given}
+use Rattle.row_sources.specs.PickedRows.{given}
 use Rattle.row_sources.specs.Running.{RowsAt, picked_of}
 use Rattle.row_sources.proofs.ByNumber.{each_number, each_order, each_renamed, of_each}
 
@@ -66,9 +66,6 @@ module _ (left : RowsAt) (joiner : JoinerAt) (at : ℕ) (is : IsJoined left join
       ap (λ (ahead : List (ℕ × Row)). record (joined_at (part_of number unseen left) (record joiner { ahead = [] }) 0) { ahead = ahead })
       (sym (each_renamed (joined_with joiner) 0 (of_number number left.ahead))
       ∙ ap renamed (sym (each_number (joined_with joiner) number left.ahead) ∙ ap (of_number number) (sym ahead_is)))
-
-  pub still_joined : (number unseen : ℕ) → IsJoined (part_of number unseen left) (record joiner { ahead = [] }) 0
-  still_joined number unseen = record { typed = is.typed; front = refl; latest = inl refl }
 
 pub joined_in_order : (left : RowsAt) (joiner : JoinerAt) (at : ℕ) → IsJoined left joiner at → ComeInOrder left → ComeInOrder (joined_at left joiner at)
 joined_in_order left joiner at is order none =

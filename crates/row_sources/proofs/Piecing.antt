@@ -5,18 +5,18 @@ use Rattle.std.proofs.lemmas.List.{map-append, length-map}
 use Rattle.std.proofs.lemmas.List.Elements.{filter-append}
 use Rattle.std.proofs.lemmas.Simd.{map-map}
 use Rattle.arrays.specs.Batch.{BatchAt, rows_of, cut_batch}
-use Rattle.table_versions.specs.Stored.{TableAt}
+use Rattle.table_versions.specs.StoredTables.{TableAt}
 use Rattle.table_versions.specs.Table.{Row}
 use Rattle.table_versions.proofs.Rowing.{length-rows_of}
-use Rattle.typed_plan.specs.Typed.{types_of}
+use Rattle.typed_plan.specs.TypedPlans.{types_of}
 use Rattle.row_sources.specs.declared.cursor.Cursor.{Cursor}
-use Rattle.row_sources.specs.declared.part.Part.{Part}
-use Rattle.batch_skipping.specs.Opened.{batches_in}
+use Rattle.row_sources.specs.declared.batch_slice.BatchSlice.{BatchSlice}
+use Rattle.batch_skipping.specs.OpenedBatches.{batches_in}
 use Rattle.row_sources.specs.Picking.{PickAt, cells_at, holds, given_numbered}
-use Rattle.row_sources.specs.Picked.{given, given_of_part, IsPicked}
-use Rattle.row_sources.specs.Placed.{IsPlaced, IsPart, Opens, rows_ahead}
+use Rattle.row_sources.specs.PickedRows.{given, given_of_part, IsPicked}
+use Rattle.row_sources.specs.PlaceCursor.{IsPlaced, IsBatchSlice, Opens, rows_ahead}
 use Rattle.row_sources.specs.Running.{RowsAt, GoesOn, FindsPiece, FindsNone, Ends, picked_of}
-use Rattle.row_sources.specs.Sources.{place_at}
+use Rattle.row_sources.specs.Sources.{rows_of_place}
 use Rattle.row_sources.proofs.Batched.{none_from}
 use Rattle.row_sources.proofs.Giving.{filter-map}
 use Rattle.row_sources.proofs.Opening.{in_longer}
@@ -63,7 +63,7 @@ given_few pick rows =
         by false rest = omega (arith, rest)
 
 abbrev pub place_of : TableAt → Cursor → RowsAt
-place_of table cursor = place_at (record { table = table; cursor = cursor })
+place_of table cursor = rows_of_place (record { table = table; cursor = cursor })
 
 module _ (pick : PickAt) (table : TableAt) where
   -- a cursor that goes on
@@ -88,9 +88,9 @@ module _ (pick : PickAt) (table : TableAt) where
       FindsNone (picked_of pick (place_of table first)) (picked_of pick (place_of table mid))
   none_yet first mid from to forth so_far placed = record { same = so_far; looked = omega (arith, to, forth); on = on_is first mid from to forth placed }
 
-module _ (pick : PickAt) (table : TableAt) (first mid after : Cursor) (part : Part) (from : mid.from ≡ first.from) (to : mid.to ≡ first.to)
+module _ (pick : PickAt) (table : TableAt) (first mid after : Cursor) (part : BatchSlice) (from : mid.from ≡ first.from) (to : mid.to ≡ first.to)
     (forth : first.at ≤ mid.at) (so_far : given_numbered pick (rows_ahead table first) ≡ given_numbered pick (rows_ahead table mid))
-    (opens : Opens table mid part after) (of : IsPart table part) (placed : IsPlaced table after) where
+    (opens : Opens table mid part after) (of : IsBatchSlice table part) (placed : IsPlaced table after) where
   abbrev part_rows : List Row
   part_rows = rows_of (cut_batch part.batch.now part.from part.to)
 

@@ -2,7 +2,7 @@
 use Rattle.std.proofs.Common.{◌≡◌, ℕ, ◌-◌, List, length, take, drop, max, min, sym, ap, ◌∙◌, arith, length-drop}
 use Rattle.std.proofs.lemmas.List.{take_min}
 use Rattle.table_versions.specs.Table.{Row}
-use Rattle.typed_plan.specs.Joined.{rows_between}
+use Rattle.typed_plan.specs.JoinedRows.{rows_between}
 
 -- a range may end with the rows, and not before it begins
 pub clamped : (from to : ℕ) (rows : List Row) →

@@ -1,43 +1,21 @@
 -- Rows of a batch that are chosen, and batches that are made of them.
-use Rattle.std.proofs.Common.{◌≡◌, ◌≢◌, ◌≤◌, ◌<◌, ℕ, zero, suc, ◌+◌, ◌-◌, Bool, true, false, if◌then◌else◌, List, [], ◌∷◌, ◌++◌, length, map, get_or, All, refl, sym, ap, ◌∙◌, ◌⊎◌, inl, inr, arith, append-nil}
+use Rattle.std.proofs.Common.{◌≡◌, ◌≤◌, ◌<◌, ℕ, zero, suc, ◌+◌, ◌-◌, Bool, true, false, if◌then◌else◌, List, [], ◌∷◌, ◌++◌, length, map, get_or, All, refl, sym, ap, ◌∙◌, arith}
 use Rattle.std.specs.List.{AllZip, filter, range_with_len}
-use Rattle.std.proofs.lemmas.Bool.{cases_eq}
 use Rattle.std.proofs.lemmas.List.{same_lists, get_or-map, length-map}
-use Rattle.std.proofs.lemmas.List.Elements.{AllZip-push, filter-append, All-nil, All-cons}
+use Rattle.std.proofs.lemmas.List.Elements.{AllZip-push, All-nil, All-cons}
 use Rattle.std.proofs.lemmas.List.FromFn.{fill_by_all, get_or-map-range_with_len, get_or-range_with_len, length-range_with_len}
-use Rattle.arrow_schema.specs.declared.data_type.DataType.{DataType}
+use Rattle.arrow_types.specs.declared.data_type.DataType.{DataType}
 use Rattle.arrays.specs.Batch.{BatchAt, AreLong, rows_of, row_of}
 use Rattle.arrays.specs.Column.{ColumnAt, slot_of, cut}
 use Rattle.arrays.specs.Layout.{layout_slot}
 use Rattle.array_select.specs.Selection.{AreRising}
-use Rattle.arrays.specs.Typed.{AreOf}
+use Rattle.arrays.specs.TypedLayouts.{AreOf}
 use Rattle.scan_base.specs.declared.value.Value.{Value}
 use Rattle.scan_base.specs.declared.value.Value.TheVariants.{Null}
 use Rattle.table_versions.specs.Table.{Row}
-use Rattle.row_sources.specs.Picked.{HasSlotsAt}
-use Rattle.row_sources.proofs.Cells.{range_more}
+use Rattle.row_sources.specs.PickedRows.{HasSlotsAt}
 
 -- ---- the numbers of a range that pass a test
-
--- one more row, which is chosen or not
-pub chosen_more : (test : ℕ → Bool) (from row : ℕ) → from ≤ row → test row ≡ true →
-    filter test (range_with_len from (row + 1 - from)) ≡ filter test (range_with_len from (row - from)) ++ row ∷ []
-chosen_more test from row low on =
-    let size : row + 1 - from ≡ row - from + 1 = omega (arith, low) in
-    ap (λ (n : ℕ). filter test (range_with_len from n)) size
-    ∙ ap (filter test) (range_more from (row - from) row (omega (arith, low)))
-    ∙ filter-append test (range_with_len from (row - from)) (row ∷ [])
-    ∙ ap (λ (b : Bool). filter test (range_with_len from (row - from)) ++ (if b then row ∷ [] else [])) on
-
-pub chosen_same : (test : ℕ → Bool) (from row : ℕ) → from ≤ row → test row ≡ false →
-    filter test (range_with_len from (row + 1 - from)) ≡ filter test (range_with_len from (row - from))
-chosen_same test from row low off =
-    let size : row + 1 - from ≡ row - from + 1 = omega (arith, low) in
-    ap (λ (n : ℕ). filter test (range_with_len from n)) size
-    ∙ ap (filter test) (range_more from (row - from) row (omega (arith, low)))
-    ∙ filter-append test (range_with_len from (row - from)) (row ∷ [])
-    ∙ ap (λ (b : Bool). filter test (range_with_len from (row - from)) ++ (if b then row ∷ [] else [])) off
-    ∙ append-nil (filter test (range_with_len from (row - from)))
 
 -- those chosen are of the range
 pub chosen_below : (test : ℕ → Bool) (first n end : ℕ) → first + n ≤ end → All (λ (row : ℕ). row < end) (filter test (range_with_len first n))
@@ -48,24 +26,6 @@ chosen_below test first (suc n) end h = by (test first) (chosen_below test (firs
         All (λ (row : ℕ). row < end) (if b then first ∷ filter test (range_with_len (first + 1) n) else filter test (range_with_len (first + 1) n))
     by true rest = All-cons (λ (row : ℕ). row < end) first (filter test (range_with_len (first + 1) n)) (omega (arith, h)) rest
     by false rest = rest
-
-pub chosen_some : (test : ℕ → Bool) (first n row : ℕ) → first ≤ row → row < first + n → test row ≡ true → filter test (range_with_len first n) ≢ []
-chosen_some test first zero row low high on none = absurd (omega (arith, low, high))
-chosen_some test first (suc n) row low high on none =
-    by (λ up. chosen_some test (first + 1) n row up (omega (arith, high)) on) (cases_eq first row)
-  where
-    cons_some : (b : Bool) → test first ≡ b → (if b then first ∷ filter test (range_with_len (first + 1) n) else filter test (range_with_len (first + 1) n)) ≡ [] →
-        filter test (range_with_len (first + 1) n) ≡ []
-    cons_some true e empty = cc
-    cons_some false e empty = empty
-
-    on_first : (b : Bool) → b ≡ true → (if b then first ∷ filter test (range_with_len (first + 1) n) else filter test (range_with_len (first + 1) n)) ≡ [] → ⊥
-    on_first true e empty = cc
-    on_first false e empty = cc
-
-    by : (first + 1 ≤ row → filter test (range_with_len (first + 1) n) ≢ []) → (first ≡ row) ⊎ (first ≡ row → ⊥) → ⊥
-    by later (inl e) = on_first (test first) (ap test e ∙ on) none
-    by later (inr other) = later (omega (arith, low, other)) (cons_some (test first) refl none)
 
 -- ---- places that stand next to each other
 
@@ -162,12 +122,6 @@ module _ (places : List ℕ) where
   all_long (column ∷ columns) [] have = absurd have
   all_long (column ∷ columns) (new ∷ made) have =
       All-cons (λ (column : ColumnAt). column.len ≡ length places) new made have.0.long (all_long columns made have.1)
-
-  pub all_there : (columns made : List ColumnAt) → AllZip (HasSlotsAt places) columns made → length made ≡ length columns
-  all_there [] [] have = refl
-  all_there [] (new ∷ made) have = absurd have
-  all_there (column ∷ columns) [] have = absurd have
-  all_there (column ∷ columns) (new ∷ made) have = ap suc (all_there columns made have.1)
 
   pub all_typed : (types : List DataType) (columns made : List ColumnAt) → AllZip (HasSlotsAt places) columns made → AreOf types columns → AreOf types made
   all_typed [] [] [] have typed = tt

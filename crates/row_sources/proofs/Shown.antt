@@ -4,31 +4,21 @@ use Rattle.std.proofs.lemmas.Bool.{ltb-true, and_parts}
 use Rattle.std.proofs.lemmas.Option.{slice_get-map}
 use Rattle.arrays.specs.Batch.{row_of}
 use Rattle.arrays.specs.Column.{ColumnAt, slot_of}
-use Rattle.arrays.specs.Typed.{AreOf, AreOfTypes, IsOfType}
-use Rattle.arrow_schema.specs.declared.schema.Field.{Field}
-use Rattle.arrow_schema.specs.declared.data_type.DataType.{DataType}
+use Rattle.arrays.specs.TypedLayouts.{AreOf, AreOfTypes, IsOfType}
+use Rattle.arrow_types.specs.declared.schema.Field.{Field}
+use Rattle.arrow_types.specs.declared.data_type.DataType.{DataType}
 use Rattle.scan_base.specs.declared.value.Value.{Value}
 use Rattle.scan_base.specs.declared.value.Value.TheVariants.{Null}
 use Rattle.scan_base.specs.Predicate.{cell_in}
 use Rattle.table_versions.specs.Table.{Row}
-use Rattle.typed_plan.specs.Typed.{type_at, types_of}
-use Rattle.batch_skipping.specs.Chosen.{are_within, listed, columns_at}
+use Rattle.typed_plan.specs.TypedPlans.{type_at, types_of}
+use Rattle.batch_skipping.specs.ChosenColumns.{are_within, listed, columns_at}
 
 -- an item of a list
 item_at : {X : Type 0} (xs : List X) (i : ℕ) → i < length xs → (x : X) × (slice_get xs i ≡ Some x)
 item_at [] i h = absurd (omega (arith, h))
 item_at (x ∷ xs) zero h = (x, refl)
 item_at (x ∷ xs) (suc i) h = item_at xs i (omega (arith, h))
-
--- a column for each number
-pub columns_wide : (numbers : List ℕ) (columns : List ColumnAt) → are_within (length columns) numbers ≡ true →
-    length (columns_at numbers columns) ≡ length numbers
-columns_wide [] columns h = refl
-columns_wide (number ∷ numbers) columns h =
-    let parts = and_parts (nat_lt number (length columns)) (are_within (length columns) numbers) h in
-    let there = item_at columns number (ltb-true number (length columns) parts.0) in
-    ap (λ (found : Option ColumnAt). length (listed found ++ columns_at numbers columns)) there.1
-    ∙ ap suc (columns_wide numbers columns parts.1)
 
 -- the cells of chosen columns
 pub columns_cells : (numbers : List ℕ) (columns : List ColumnAt) (j : ℕ) → are_within (length columns) numbers ≡ true →

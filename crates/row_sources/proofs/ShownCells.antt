@@ -4,16 +4,16 @@ use Rattle.std.specs.List.{filter}
 use Rattle.std.proofs.lemmas.Bool.{ltb-true, lt-ltb, and_parts, and_from}
 use Rattle.std.proofs.lemmas.Option.{slice_get-map, slice_get-get_or}
 use Rattle.std.proofs.lemmas.Simd.{map-map}
-use Rattle.arrow_schema.specs.declared.data_type.DataType.{DataType}
-use Rattle.arrow_schema.specs.declared.data_type.DataType.TheVariants.{Utf8}
+use Rattle.arrow_types.specs.declared.data_type.DataType.{DataType}
+use Rattle.arrow_types.specs.declared.data_type.DataType.TheVariants.{Utf8}
 use Rattle.scan_base.specs.Predicate.{cell_in}
 use Rattle.table_versions.specs.Table.{Row}
 use Rattle.typed_plan.specs.declared.plan.Columns.{Columns}
 use Rattle.typed_plan.specs.declared.plan.Columns.TheVariants as columns
-use Rattle.typed_plan.specs.Typed.{has_columns, type_at, types_taken}
+use Rattle.typed_plan.specs.TypedPlans.{has_columns, type_at, types_taken}
 use Rattle.row_sources.specs.Showing.{shown_of, cells}
-use Rattle.batch_skipping.specs.Chosen.{are_within}
-use Rattle.row_sources.specs.Chosen.{numbers_at}
+use Rattle.batch_skipping.specs.ChosenColumns.{are_within}
+use Rattle.row_sources.specs.ChosenColumns.{numbers_at}
 use Rattle.row_sources.specs.Picking.{PickAt, cells_at, holds}
 use Rattle.row_sources.specs.Running.{RowsAt, picked_of}
 use Rattle.row_sources.proofs.Cells.{cell-map, within_at}

@@ -4,18 +4,18 @@ use Rattle.std.specs.List.{flat_map, last_or, range_with_len}
 use Rattle.std.proofs.lemmas.Bool.{cases_eq, cases_lt}
 use Rattle.std.proofs.lemmas.List.{take_all}
 use Rattle.arrays.specs.Batch.{BatchAt, rows_of, cut_batch, BatchSlicesKeepRows}
-use Rattle.arrays.specs.Typed.{AreOf}
-use Rattle.typed_plan.specs.Typed.{types_of}
+use Rattle.arrays.specs.TypedLayouts.{AreOf}
+use Rattle.typed_plan.specs.TypedPlans.{types_of}
 use Rattle.scan_base.specs.Limits.{most_rows}
-use Rattle.table_versions.specs.Stored.{TableAt, table_of}
+use Rattle.table_versions.specs.StoredTables.{TableAt, table_of}
 use Rattle.table_versions.specs.Standing.{rows_before, BatchesAreRows}
-use Rattle.typed_plan.specs.Joined.{rows_between}
+use Rattle.typed_plan.specs.JoinedRows.{rows_between}
 use Rattle.row_sources.specs.declared.cursor.Cursor.{Cursor}
-use Rattle.row_sources.specs.declared.part.Part.{Part}
+use Rattle.row_sources.specs.declared.batch_slice.BatchSlice.{BatchSlice}
 use Rattle.array_select.specs.Room.{most_batch_rows}
 use Rattle.batch_skipping.specs.Narrow.{BeginsInFirst}
-use Rattle.batch_skipping.specs.Opened.{batches_in}
-use Rattle.row_sources.specs.Placed.{IsPlaced, IsPart, Opens}
+use Rattle.batch_skipping.specs.OpenedBatches.{batches_in}
+use Rattle.row_sources.specs.PlaceCursor.{IsPlaced, IsBatchSlice, Opens}
 use Rattle.row_sources.proofs.Batched.{rows_next}
 use Rattle.row_sources.proofs.Opening.{in_all, in_few, none_in, opens_one, opens_last}
 
@@ -154,7 +154,7 @@ module _ (table : TableAt) (cursor : Cursor) (is : IsPlaced table cursor) (more 
       part_rows : BatchSlicesKeepRows → rows_of (cut_batch batch (cursor.at - cursor.start) last) ≡ rows_between (cursor.at - cursor.start) last (rows_of batch)
       part_rows keep = keep batch (cursor.at - cursor.start) last (omega (arith, forth)) within_batch
 
-      pub opens : BatchSlicesKeepRows → (part : Part) → part.batch.now ≡ batch → part.from ≡ cursor.at - cursor.start → part.to ≡ last →
+      pub opens : BatchSlicesKeepRows → (part : BatchSlice) → part.batch.now ≡ batch → part.from ≡ cursor.at - cursor.start → part.to ≡ last →
           (number start opened : ℕ) → Opens table cursor part (after number start opened)
       opens keep part b f t number start opened = record {
         from = refl;
@@ -168,8 +168,8 @@ module _ (table : TableAt) (cursor : Cursor) (is : IsPlaced table cursor) (more 
         latest = latest_is;
       }
 
-      pub is_part : (part : Part) → length (table_of table).rows ≤ most_rows → length batch.columns ≡ length table.schema.fields → AreOf (types_of table.schema.fields) batch.columns →
-          part.batch.now ≡ batch → part.from ≡ cursor.at - cursor.start → part.to ≡ last → IsPart table part
+      pub is_part : (part : BatchSlice) → length (table_of table).rows ≤ most_rows → length batch.columns ≡ length table.schema.fields → AreOf (types_of table.schema.fields) batch.columns →
+          part.batch.now ≡ batch → part.from ≡ cursor.at - cursor.start → part.to ≡ last → IsBatchSlice table part
       is_part part few wide typed b f t =
           let low : part.from < part.to = omega (arith, f, t, forth, behind) in
           record {

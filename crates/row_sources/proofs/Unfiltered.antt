@@ -5,18 +5,18 @@ use Rattle.std.specs.Global.{Global}
 use Rattle.std.specs.List.{filter, range_with_len}
 use Rattle.std.proofs.lemmas.List.{length-map}
 use Rattle.std.proofs.lemmas.List.FromFn.{length-range_with_len}
-use Rattle.arrow_schema.specs.declared.data_type.DataType.{DataType}
+use Rattle.arrow_types.specs.declared.data_type.DataType.{DataType}
 use Rattle.scan_base.specs.Predicate.{Pred, cell_in, names_only}
 use Rattle.scan_base.specs.View.{pred_of}
 use Rattle.table_versions.specs.Table.{Row}
-use Rattle.typed_plan.specs.Typed.{type_at}
-use Rattle.row_sources.specs.declared.build.Sourced.{Sourced}
-use Rattle.row_sources.specs.Sourced.{IsSourced, source_of, sourced_at, unfiltered}
-use Rattle.row_sources.specs.Unfiltered.{IsUnfiltered}
+use Rattle.typed_plan.specs.TypedPlans.{type_at}
+use Rattle.row_sources.specs.declared.build.FilteredSource.{FilteredSource}
+use Rattle.row_sources.specs.FilteredSource.{IsFilteredSource, source_of, filtered_source_at, unfiltered}
+use Rattle.row_sources.specs.UnfilteredRows.{IsUnfiltered}
 use Rattle.row_sources.specs.declared.row_source.UnfilteredRows.{UnfilteredRows}
-use Rattle.batch_skipping.specs.Chosen.{are_within}
-use Rattle.row_sources.specs.Collected.{plain_rows}
-use Rattle.row_sources.specs.Joined.{source_at}
+use Rattle.batch_skipping.specs.ChosenColumns.{are_within}
+use Rattle.row_sources.specs.CollectedRows.{plain_rows}
+use Rattle.row_sources.specs.JoinedRows.{source_at}
 use Rattle.row_sources.specs.Picking.{PickAt, IsPick, cells_at, given_numbered, holds, passes, pick_of}
 use Rattle.row_sources.specs.Running.{RowsAt}
 use Rattle.row_sources.proofs.BeginPick.{all_within, pick_with}
@@ -83,7 +83,7 @@ can_choose filters columns types source is e =
 
 -- ---- the rows of a source, and its filters
 
-module _ (s : Sourced) (is : IsSourced s) (made : UnfilteredRows) (rows : made.rows ≡ unfiltered s.columns.items (source_at s.source))
+module _ (s : FilteredSource) (is : IsFilteredSource s) (made : UnfilteredRows) (rows : made.rows ≡ unfiltered s.columns.items (source_at s.source))
     (f : made.picker.filters ≡ s.filters) (r : made.picker.read.items ≡ range_with_len 0 (length s.columns.items)) (n : made.picker.shown.items ≡ [])
     (t : made.types ≡ s.types) where
   abbrev all : RowsAt
@@ -100,8 +100,8 @@ module _ (s : Sourced) (is : IsSourced s) (made : UnfilteredRows) (rows : made.r
   is_unfiltered = record {
     types = ap (λ (types : Vec DataType Global). types.items) t ∙ is.types;
     typed = ap (λ (some : RowsAt). some.types) rows;
-    pick = subst (IsPick (length (sourced_at s).types)) (sym pick_is)
-        (can_choose (map pred_of s.filters.items) s.columns.items (sourced_at s).types (source_at s.source) is.pick refl);
+    pick = subst (IsPick (length (filtered_source_at s).types)) (sym pick_is)
+        (can_choose (map pred_of s.filters.items) s.columns.items (filtered_source_at s).types (source_at s.source) is.pick refl);
     kept = ap (λ (pick : PickAt). passing pick (plain_rows made.rows.ahead)) pick_is
         ∙ ap (λ (some : RowsAt). passing choice (plain_rows some.ahead)) rows
         ∙ chosen_later (map pred_of s.filters.items) s.columns.items (source_at s.source).ahead;

@@ -1,7 +1,7 @@
 -- The tables of all places, as they are read.
 use Rattle.std.specs.Prelude.{ℕ, List, [], ◌∷◌}
-use Rattle.table_versions.specs.Stored.{TableAt}
-use Rattle.batch_skipping.specs.declared.opened.OpenedList.{OpenedList}
+use Rattle.table_versions.specs.StoredTables.{TableAt}
+use Rattle.batch_skipping.specs.declared.opened_batches.OpenedList.{OpenedList}
 use Rattle.batch_skipping.specs.Narrow.{CanNarrow, narrowed}
 
 -- tables with these batches alone, place by place

@@ -2,9 +2,9 @@
 use Rattle.std.specs.Prelude.{ℕ, ◌-◌, List, [], ◌∷◌, length, map, drop, zip}
 use Rattle.std.specs.List.{flat_map, range_with_len}
 use Rattle.arrays.specs.Batch.{BatchAt, rows_of}
-use Rattle.table_versions.specs.Stored.{TableAt, table_of}
+use Rattle.table_versions.specs.StoredTables.{TableAt, table_of}
 use Rattle.table_versions.specs.Table.{Row}
-use Rattle.typed_plan.specs.Joined.{rows_between}
+use Rattle.typed_plan.specs.JoinedRows.{rows_between}
 
 -- all rows of the further places
 abbrev pub further_rows : List TableAt → List (List Row)

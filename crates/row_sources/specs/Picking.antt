@@ -6,9 +6,9 @@ use Rattle.scan_base.specs.Predicate.{Pred, cell_in, names_only}
 use Rattle.scan_base.specs.View.{pred_of}
 use Rattle.table_versions.specs.Table.{Row}
 use Rattle.typed_plan.specs.Plan.{is_true}
-use Rattle.row_sources.specs.declared.part.Part.{Part}
+use Rattle.row_sources.specs.declared.batch_slice.BatchSlice.{BatchSlice}
 use Rattle.row_sources.specs.declared.picker.Picker.{Picker}
-use Rattle.batch_skipping.specs.Chosen.{are_within}
+use Rattle.batch_skipping.specs.ChosenColumns.{are_within}
 
 -- the filters, the numbers of the columns that they see, and of those that are given
 pub record PickAt : Type 0 where
@@ -50,10 +50,10 @@ pub record IsPick (width : ℕ) (pick : PickAt) : Type 0 where
       IsTrue (names_only (λ column. nat_lt column (length pick.read)) predicate)) pick.filters
 
 -- the numbers of a part's rows in its batch
-abbrev pub rows_of_part : Part → List ℕ
+abbrev pub rows_of_part : BatchSlice → List ℕ
 rows_of_part part = range_with_len part.from (part.to - part.from)
 
 -- the numbers of those that hold
-abbrev pub chosen_rows : PickAt → Part → List ℕ
+abbrev pub chosen_rows : PickAt → BatchSlice → List ℕ
 chosen_rows pick part =
     filter (λ row. holds pick (row_of part.batch.now.columns row)) (rows_of_part part)

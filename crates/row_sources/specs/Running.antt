@@ -3,11 +3,11 @@ use Rattle.std.specs.Prelude.{◌≡◌, ◌≢◌, ◌≤◌, ◌<◌, ℕ, Lis
 use Rattle.std.specs.Prelude.{Some, None, Result, Ok, Err}
 use Rattle.std.specs.List.{last_or}
 use Rattle.std.specs.declared.alloc.AllocError.{AllocError}
-use Rattle.arrow_schema.specs.declared.data_type.DataType.{DataType}
+use Rattle.arrow_types.specs.declared.data_type.DataType.{DataType}
 use Rattle.arrays.specs.Batch.{rows_of}
-use Rattle.arrays.specs.Typed.{AreOf}
+use Rattle.arrays.specs.TypedLayouts.{AreOf}
 use Rattle.table_versions.specs.Table.{Row}
-use Rattle.typed_plan.specs.Typed.{type_at}
+use Rattle.typed_plan.specs.TypedPlans.{type_at}
 use Rattle.row_sources.specs.declared.piece.Piece.{Piece}
 use Rattle.row_sources.specs.declared.turn.Patience.{Patience}
 use Rattle.row_sources.specs.declared.turn.Patience.TheVariants.{Endless, Choice}

@@ -2,7 +2,7 @@
 use Rattle.std.specs.Prelude.{ℕ, map}
 use Rattle.table_versions.specs.Table.{Row}
 use Rattle.typed_plan.specs.declared.plan.Columns.{Columns}
-use Rattle.typed_plan.specs.Typed.{types_taken}
+use Rattle.typed_plan.specs.TypedPlans.{types_taken}
 use Rattle.row_sources.specs.Running.{RowsAt}
 use Rattle.scan_base.specs.Predicate.{cell_in}
 use Rattle.typed_plan.specs.declared.plan.Columns.TheVariants.{All, These}

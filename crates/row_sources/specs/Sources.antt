@@ -1,14 +1,14 @@
 -- Inside: the sources of rows.
 use Rattle.std.specs.Prelude.{◌-◌}
-use Rattle.typed_plan.specs.Typed.{types_of}
+use Rattle.typed_plan.specs.TypedPlans.{types_of}
 use Rattle.row_sources.specs.declared.place.PlaceRows.{PlaceRows}
-use Rattle.batch_skipping.specs.Opened.{batches_in}
-use Rattle.row_sources.specs.Placed.{rows_ahead}
+use Rattle.batch_skipping.specs.OpenedBatches.{batches_in}
+use Rattle.row_sources.specs.PlaceCursor.{rows_ahead}
 use Rattle.row_sources.specs.Running.{RowsAt}
 
 -- the rows of a place, before its filters
-abbrev pub place_at : PlaceRows → RowsAt
-place_at place = record {
+abbrev pub rows_of_place : PlaceRows → RowsAt
+rows_of_place place = record {
   types = types_of place.table.schema.fields;
   ahead = rows_ahead place.table place.cursor;
   batches = batches_in place.cursor.from place.cursor.to place.table.batches;

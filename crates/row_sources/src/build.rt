@@ -3,24 +3,24 @@
 ghost use Rattle.std.specs.Prelude.{◌≡◌, ◌≤◌, true, IfOk, length, map, OnOk};
 ghost use Rattle.std.specs.List.{flat_map, range_with_len};
 ghost use Rattle.arrays.specs.Batch.{rows_of};
-ghost use Rattle.table_versions.specs.Stored.{TableAt};
-ghost use Rattle.typed_plan.specs.Held.{tree_schemas};
-ghost use Rattle.typed_plan.specs.Typed.{IsTypedTree, is_place};
+ghost use Rattle.table_versions.specs.StoredTables.{TableAt};
+ghost use Rattle.typed_plan.specs.HeldTables.{tree_schemas};
+ghost use Rattle.typed_plan.specs.TypedPlans.{IsTypedTree, is_place};
 ghost use Rattle.typed_plan.specs.View.{tree_of};
-ghost use Rattle.row_sources.specs.Begun.{IsBegun};
-ghost use Rattle.row_sources.specs.Sourced.{IsSourced, sourced_at};
+ghost use Rattle.row_sources.specs.BegunRows.{IsBegun};
+ghost use Rattle.row_sources.specs.FilteredSource.{IsFilteredSource, filtered_source_at};
 ghost use Rattle.row_sources.specs.Parts.{first_batches};
-ghost use Rattle.row_sources.specs.Joined.{source_at};
+ghost use Rattle.row_sources.specs.JoinedRows.{source_at};
 ghost use Rattle.batch_skipping.specs.Narrow.{BeginsInFirst};
-ghost use Rattle.batch_skipping.specs.Opened.{batches_in};
+ghost use Rattle.batch_skipping.specs.OpenedBatches.{batches_in};
 
-use crate::join_source::{Sides, join_source};
+use crate::join_source::{JoinInput, join_source};
 use crate::opened_table::OpenedTable;
 use crate::picker::Picker;
-use crate::row_source::Reading;
+use crate::row_source::ReadRange;
 use crate::rows::{Rows, Source};
 use crate::scan_source::scan_source;
-use arrow_schema::DataType;
+use arrow_types::DataType;
 use scan_base::Predicate;
 use std::alloc::{AllocError, Global};
 use std::sync::Arc;
@@ -31,7 +31,7 @@ use work_watch::Watches;
 // A source, the filters over its rows, and the numbers of its columns that they see and that are
 // given, with their types.
 #[derive(Drop)]
-pub(crate) struct Sourced {
+pub(crate) struct FilteredSource {
     pub(crate) source: Source,
     pub(crate) filters: Vec<Predicate<usize>>,
     pub(crate) columns: Vec<usize>,
@@ -45,9 +45,9 @@ pub(crate) fn build<W: Watches>(
     alloc: Global,
     plan: Plan,
     tables: Vec<OpenedTable>,
-    reading: Reading,
+    reading: ReadRange,
     watch: &mut W,
-) -> Result<Sourced, AllocError>
+) -> Result<FilteredSource, AllocError>
     requires typed { IsTypedTree (tree_of plan) }
     requires schemas { tree_schemas (tree_of plan)
         ≡ map (λ (table : TableAt). table.schema) tables.items }
@@ -55,9 +55,10 @@ pub(crate) fn build<W: Watches>(
     requires each { batches_in reading.from reading.to (first_batches tables.items)
         ≡ range_with_len 0 (length (first_batches tables.items)) }
     requires ready { W.ready watch.old }
-    ensures sourced { IfOk result IsSourced }
+    ensures sourced { IfOk result IsFilteredSource }
     ensures begun { IfOk result
-        (λ made. IsBegun (tree_of plan) tables.items reading.from reading.to (sourced_at made)) }
+        (λ made. IsBegun (tree_of plan) tables.items reading.from reading.to
+        (filtered_source_at made)) }
     ensures few { IfOk result (λ made. is_place (tree_of plan) ≡ true →
         length (source_at made.source).ahead
         ≤ length (flat_map rows_of (first_batches tables.items))) }
@@ -86,19 +87,19 @@ pub(crate) fn build<W: Watches>(
                 alloc,
                 Box::into_inner(right),
                 last,
-                Reading { seed, from, to },
+                ReadRange { seed, from, to },
                 watch,
             )?;
-            join_source(alloc, seed, Sides { left, right }, on.as_slice(), watch)
+            join_source(alloc, seed, JoinInput { left, right }, on.as_slice(), watch)
         }
     }
 }
 
-impl Sourced {
+impl FilteredSource {
     // What gives the rows.
     pub(crate) fn rows(self, alloc: Global) -> Result<Rows, AllocError>
-        requires { IsSourced self }
-        ensures { IfOk result (λ rows. rows ≡ sourced_at self) }
+        requires { IsFilteredSource self }
+        ensures { IfOk result (λ rows. rows ≡ filtered_source_at self) }
     {
         let mut read = Vec::new(alloc);
         read.extend_from_slice(self.columns.as_slice())?;

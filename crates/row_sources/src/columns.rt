@@ -2,13 +2,13 @@
 
 ghost use Rattle.std.specs.Prelude.{◌≡◌, ◌≤◌, ◌<◌, All, IfOk, IsTrue, length};
 ghost use Rattle.std.specs.List.{range_with_len};
-ghost use Rattle.typed_plan.specs.Typed.{has_columns};
-ghost use Rattle.batch_skipping.specs.Chosen.{are_within};
-ghost use Rattle.row_sources.specs.Chosen.{numbers_at};
+ghost use Rattle.typed_plan.specs.TypedPlans.{has_columns};
+ghost use Rattle.batch_skipping.specs.ChosenColumns.{are_within};
+ghost use Rattle.row_sources.specs.ChosenColumns.{numbers_at};
 ghost use Rattle.row_sources.specs.Picking.{rows_of_part};
-ghost use Rattle.row_sources.specs.Picked.{HasRowsAt};
+ghost use Rattle.row_sources.specs.PickedRows.{HasRowsAt};
 
-use crate::part::Part;
+use crate::batch_slice::BatchSlice;
 use array_select::{Selection, gather};
 use arrays::Batch;
 use std::alloc::{AllocError, Global};
@@ -49,7 +49,7 @@ pub(crate) fn picked(
 // These columns of the rows of a part of a batch, over the same buffers: no value is copied.
 pub(crate) fn slice_of(
     alloc: Global,
-    part: &Part<'_>,
+    part: &BatchSlice<'_>,
     numbers: &[usize],
 ) -> Result<Batch, AllocError>
     requires there { IsTrue (are_within (length part.now.batch.now.columns) numbers.now) }

@@ -2,13 +2,13 @@
 
 ghost use Rattle.std.specs.Prelude.{◌≡◌, ◌≤◌, ◌<◌, length};
 ghost use Rattle.std.specs.List.{range_with_len};
-ghost use Rattle.table_versions.specs.Stored.{table_of};
+ghost use Rattle.table_versions.specs.StoredTables.{table_of};
 ghost use Rattle.batch_skipping.specs.Narrow.{BeginsInFirst};
-ghost use Rattle.batch_skipping.specs.Opened.{batches_in};
-ghost use Rattle.row_sources.specs.Placed.{IsPlaced, IsPart, IsNextPart, Begins, Opens};
+ghost use Rattle.batch_skipping.specs.OpenedBatches.{batches_in};
+ghost use Rattle.row_sources.specs.PlaceCursor.{IsPlaced, IsBatchSlice, IsNextPart, Begins, Opens};
 
+use crate::batch_slice::BatchSlice;
 use crate::opened_table::OpenedTable;
-use crate::part::Part;
 use array_select::MOST_BATCH_ROWS;
 use arrays::laws::batch_slices_keep_rows;
 use table_versions::laws::batches_are_rows;
@@ -53,10 +53,10 @@ impl Cursor {
     }
 
     // The next rows of the range that stand in one batch, as many as are looked at at once.
-    pub(crate) fn peek<'a>(&self, table: &'a OpenedTable) -> Part<'a>
+    pub(crate) fn peek<'a>(&self, table: &'a OpenedTable) -> BatchSlice<'a>
         requires more { self.now.at < self.now.to }
         requires placed { IsPlaced table.now self.now }
-        ensures part { IsPart table.now result }
+        ensures part { IsBatchSlice table.now result }
         ensures next { IsNextPart table.now self.now result }
     {
         batches_are_rows();
@@ -64,15 +64,15 @@ impl Cursor {
         let batch = table.batch(self.batch);
         let from = self.at - self.start;
         let to = batch.rows().min(self.to - self.start).min(from + self.most);
-        Part { batch, from, to }
+        BatchSlice { batch, from, to }
     }
 
     // The same rows. The cursor goes on after them.
-    pub(crate) fn open<'a>(&mut self, table: &'a OpenedTable) -> Part<'a>
+    pub(crate) fn open<'a>(&mut self, table: &'a OpenedTable) -> BatchSlice<'a>
         requires more { self.old.at < self.old.to }
         requires placed { IsPlaced table.now self.old }
         ensures placed { IsPlaced table.now self.new }
-        ensures part { IsPart table.now result }
+        ensures part { IsBatchSlice table.now result }
         ensures next { IsNextPart table.now self.old result }
         ensures opened { Opens table.now self.old result self.new }
     {

@@ -2,14 +2,14 @@
 
 ghost use Rattle.std.specs.Prelude.{◌≡◌, ◌<◌, IfOk, Some, length, map, slice_get};
 ghost use Rattle.std.specs.Option.{option_to_list};
-ghost use Rattle.arrays.specs.Typed.{AreOfTypes};
-ghost use Rattle.table_versions.specs.Kept.{IsKept};
-ghost use Rattle.table_versions.specs.Stored.{table_of};
+ghost use Rattle.arrays.specs.TypedLayouts.{AreOfTypes};
+ghost use Rattle.table_versions.specs.KeptTables.{IsKept};
+ghost use Rattle.table_versions.specs.StoredTables.{table_of};
 ghost use Rattle.batch_skipping.specs.Narrow.{CanNarrow, narrowed};
 ghost use Rattle.row_sources.specs.OpenedTables.{CanAll, narrow_all};
 
 use arrays::Batch;
-use arrow_schema::Schema;
+use arrow_types::Schema;
 use batch_skipping::OpenedList;
 use std::alloc::{AllocError, Global};
 use std::marker::Model;
@@ -34,7 +34,7 @@ impl Drop for OpenedTable {
 }
 
 impl Model for OpenedTable {
-    ghost use Rattle.table_versions.specs.Stored.{TableAt};
+    ghost use Rattle.table_versions.specs.StoredTables.{TableAt};
     ghost use Rattle.batch_skipping.specs.Narrow.{CanNarrow, narrowed};
 
     ghost Value = { TableAt };

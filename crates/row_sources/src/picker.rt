@@ -3,22 +3,17 @@
 ghost use Rattle.std.specs.Prelude.{◌≡◌, ◌≤◌, ◌+◌, ◌^◌, ◌<◌, [], IfOk, OnOk, length};
 ghost use Rattle.array_select.specs.Room.{most_batch_rows};
 ghost use Rattle.row_sources.specs.Picking.{IsPick, chosen_rows, pick_of};
-ghost use Rattle.row_sources.specs.Picked.{Picks};
+ghost use Rattle.row_sources.specs.PickedRows.{Picks};
 
+use crate::batch_slice::BatchSlice;
 use crate::columns::{gather_of, slice_of};
-use crate::part::Part;
-use array_select::{MOST_BATCH_ROWS, Selection};
+use array_select::Selection;
 use arrays::Batch;
-use kernels::Columns;
+use kernels::PredicateColumns;
 use scan_base::Predicate;
 use std::alloc::{AllocError, Global};
 use work_watch::comparisons_in;
-
-// How many comparisons filters make at once: some tenths of a second where each takes long.
-const MOST_COMPARISONS: usize = 4_194_304;
-
-// How many rows filters look at at once, at least.
-const LEAST_ROWS: usize = 64;
+use work_watch::pace::{LEAST_PIECE_ROWS, MOST_PIECE_ROWS, PIECE_COMPARISONS};
 
 /// Which rows of a source are given, and which of their columns.
 pub struct Picker {
@@ -52,7 +47,7 @@ impl Picker {
     pub fn pick(
         &self,
         alloc: Global,
-        part: &Part<'_>,
+        part: &BatchSlice<'_>,
         selection: &mut Selection,
     ) -> Result<Option<Batch>, AllocError>
         requires pick { IsPick (length part.now.batch.now.columns) (pick_of self.now) }
@@ -87,9 +82,9 @@ impl Picker {
         ensures some { 1 ≤ result }
         ensures few { result ≤ most_batch_rows }
     {
-        (MOST_COMPARISONS / self.weight())
-            .max(LEAST_ROWS)
-            .min(MOST_BATCH_ROWS)
+        (PIECE_COMPARISONS / self.weight())
+            .max(LEAST_PIECE_ROWS)
+            .min(MOST_PIECE_ROWS)
     }
 
     /// The numbers in their batch of those rows of a part that the filters let through, in order,
@@ -101,7 +96,7 @@ impl Picker {
     pub fn select(
         &self,
         alloc: Global,
-        part: &Part<'_>,
+        part: &BatchSlice<'_>,
         selection: &mut Selection,
     ) -> Result<(), AllocError>
         requires pick { IsPick (length part.now.batch.now.columns) (pick_of self.now) }
@@ -111,7 +106,7 @@ impl Picker {
         requires empty { selection.old ≡ [] }
         ensures { OnOk result (selection.new ≡ chosen_rows (pick_of self.now) part.now) }
     {
-        let columns = Columns {
+        let columns = PredicateColumns {
             columns: part.batch.columns(),
             read: self.read.as_slice(),
             count: part.batch.rows(),
@@ -131,7 +126,7 @@ impl Picker {
     pub(crate) fn give(
         &self,
         alloc: Global,
-        part: &Part<'_>,
+        part: &BatchSlice<'_>,
         selection: &Selection,
     ) -> Result<Option<Batch>, AllocError>
         requires pick { IsPick (length part.now.batch.now.columns) (pick_of self.now) }
@@ -152,7 +147,7 @@ impl Picker {
     fn selected(
         &self,
         alloc: Global,
-        part: &Part<'_>,
+        part: &BatchSlice<'_>,
         selection: &Selection,
     ) -> Result<Option<Batch>, AllocError>
         requires pick { IsPick (length part.now.batch.now.columns) (pick_of self.now) }
@@ -170,7 +165,7 @@ impl Picker {
         if to - from > rows.len() {
             return Ok(Some(gather_of(alloc, batch, selection, shown)?));
         }
-        let run = Part { batch, from, to };
+        let run = BatchSlice { batch, from, to };
         Ok(Some(slice_of(alloc, &run, shown)?))
     }
 }

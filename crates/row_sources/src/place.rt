@@ -1,13 +1,13 @@
 //! The rows of one place.
 
 ghost use Rattle.std.specs.Prelude.{◌≡◌, ◌≤◌, ◌<◌, [], IfOk, OnOk, length, true};
-ghost use Rattle.table_versions.specs.Stored.{table_of};
+ghost use Rattle.table_versions.specs.StoredTables.{table_of};
 ghost use Rattle.row_sources.specs.Choices.{IsChoice};
-ghost use Rattle.row_sources.specs.Placed.{begin_in, end_in, IsPlaced};
+ghost use Rattle.row_sources.specs.PlaceCursor.{begin_in, end_in, IsPlaced};
 ghost use Rattle.row_sources.specs.Parting.{part_of};
 ghost use Rattle.row_sources.specs.Picking.{IsPick, pick_of};
 ghost use Rattle.row_sources.specs.Running.{EndsAtChoice, FindsTurn, picked_of};
-ghost use Rattle.row_sources.specs.Sources.{place_at};
+ghost use Rattle.row_sources.specs.Sources.{rows_of_place};
 ghost use Rattle.row_sources.specs.declared.turn.Patience.TheVariants.{Endless};
 
 use crate::choice::Choice;
@@ -15,7 +15,7 @@ use crate::cursor::Cursor;
 use crate::opened_table::OpenedTable;
 use crate::picker::Picker;
 use crate::piece::Piece;
-use crate::turn::{Looking, Turn};
+use crate::turn::{Turn, TurnContext};
 use std::alloc::{AllocError, Global};
 
 // A table, and where a scan of a range of its rows has come to.
@@ -41,7 +41,7 @@ impl PlaceRows {
         &mut self,
         picker: &Picker,
         choice: &mut Choice,
-        looking: &mut Looking,
+        looking: &mut TurnContext,
     ) -> Result<Turn<Piece>, AllocError>
         requires placed { IsPlaced self.old.table self.old.cursor }
         requires pick { IsPick (length self.old.table.schema.fields) (pick_of picker.now) }
@@ -53,8 +53,8 @@ impl PlaceRows {
         ensures choice_kept { EndsAtChoice looking.new.patience →
             EndsAtChoice looking.old.patience }
         ensures found { FindsTurn looking.old.patience
-            (picked_of (pick_of picker.now) (place_at self.old)) result
-            (picked_of (pick_of picker.now) (place_at self.new)) }
+            (picked_of (pick_of picker.now) (rows_of_place self.old)) result
+            (picked_of (pick_of picker.now) (rows_of_place self.new)) }
     {
         while self.cursor.at < self.cursor.to {
             self.choose(looking.alloc, picker, choice)?;
@@ -123,11 +123,12 @@ impl PlaceRows {
     // The rows of the range in one batch of the table, as those of a table that has no other.
     pub(crate) fn part(&self, alloc: Global, number: usize) -> Result<PlaceRows, AllocError>
         requires placed { IsPlaced self.now.table self.now.cursor }
-        requires unopened { (place_at self.now).opened ≡ [] }
-        requires there { number < length (place_at self.now).batches }
+        requires unopened { (rows_of_place self.now).opened ≡ [] }
+        requires there { number < length (rows_of_place self.now).batches }
         ensures placed { IfOk result (λ part. IsPlaced part.table part.cursor) }
         ensures part { IfOk result
-            (λ part. place_at part ≡ part_of number (place_at part).unseen (place_at self.now)) }
+            (λ part. rows_of_place part
+            ≡ part_of number (rows_of_place part).unseen (rows_of_place self.now)) }
     {
         let (from, to) = (self.begin_in(number), self.end_in(number));
         let table = self.table.only(alloc, number)?;

@@ -3,27 +3,27 @@
 ghost use Rattle.std.specs.Prelude.{◌≡◌, ◌≤◌, true, IfOk, IsTrue, length, map, OnOk};
 ghost use Rattle.std.specs.List.{flat_map, range_with_len};
 ghost use Rattle.arrays.specs.Batch.{rows_of};
-ghost use Rattle.arrow_schema.specs.declared.schema.Schema.{Schema};
-ghost use Rattle.rewrite.specs.Folded.{is_folded_tree};
-ghost use Rattle.rewrite.specs.Pruned.{IsPruned};
-ghost use Rattle.rewrite.specs.Pushed.{is_pushed};
-ghost use Rattle.table_versions.specs.Stored.{TableAt};
-ghost use Rattle.typed_plan.specs.Held.{tree_schemas};
-ghost use Rattle.typed_plan.specs.Typed.{IsTypedTree, has_columns, is_place};
+ghost use Rattle.arrow_types.specs.declared.schema.Schema.{Schema};
+ghost use Rattle.rewrite.specs.FoldedPredicates.{is_folded_tree};
+ghost use Rattle.rewrite.specs.PrunedColumns.{IsPruned};
+ghost use Rattle.rewrite.specs.PushedFilters.{is_pushed};
+ghost use Rattle.table_versions.specs.StoredTables.{TableAt};
+ghost use Rattle.typed_plan.specs.HeldTables.{tree_schemas};
+ghost use Rattle.typed_plan.specs.TypedPlans.{IsTypedTree, has_columns, is_place};
 ghost use Rattle.typed_plan.specs.View.{tree_of};
 ghost use Rattle.batch_skipping.specs.Narrow.{BeginsInFirst};
-ghost use Rattle.batch_skipping.specs.Opened.{batches_in};
-ghost use Rattle.row_sources.specs.Begun.{IsBegun};
+ghost use Rattle.batch_skipping.specs.OpenedBatches.{batches_in};
+ghost use Rattle.row_sources.specs.BegunRows.{IsBegun};
 ghost use Rattle.row_sources.specs.Parts.{first_batches};
 ghost use Rattle.row_sources.specs.Showing.{shown_of};
-ghost use Rattle.row_sources.specs.Unfiltered.{IsUnfiltered};
+ghost use Rattle.row_sources.specs.UnfilteredRows.{IsUnfiltered};
 
-use crate::build::{Sourced, build};
+use crate::build::{FilteredSource, build};
 use crate::opened_table::OpenedTable;
 use crate::picker::Picker;
 use crate::rows::Rows;
-use arrow_schema::DataType;
-use hash_seed::HashSeed;
+use arrow_types::DataType;
+use scan_base::HashSeed;
 use std::alloc::{AllocError, Global};
 use std::marker::Model;
 use typed_plan::{Columns, Output, Plan};
@@ -40,7 +40,7 @@ pub struct WholePlan<'o> {
 
 /// Which rows of the first place are read, and what the hashes of keys begin with.
 #[derive(Clone, Copy, Drop)]
-pub struct Reading {
+pub struct ReadRange {
     /// What the hashes of joined keys begin with.
     pub seed: HashSeed,
     /// The first row that is read.
@@ -52,18 +52,18 @@ pub struct Reading {
 /// What gives the rows of a plan's tree. A contract sees the rows that are to be given, and how
 /// many there are before the filters.
 pub struct RowSource {
-    sourced: Sourced,
+    sourced: FilteredSource,
 }
 
 impl Model for RowSource {
     ghost use Rattle.row_sources.specs.RowSource.{SourceAt};
-    ghost use Rattle.row_sources.specs.Sourced.{IsSourced, source_of};
+    ghost use Rattle.row_sources.specs.FilteredSource.{IsFilteredSource, source_of};
 
     ghost Value = { SourceAt };
 
     ghost view = { λ s. source_of s.sourced };
 
-    ghost invariant = { λ s. IsSourced s.sourced };
+    ghost invariant = { λ s. IsFilteredSource s.sourced };
 }
 
 // Written out, so that dropping it is one call (docs/DECISIONS.md).
@@ -98,7 +98,7 @@ impl RowSource {
         alloc: Global,
         plan: WholePlan<'_>,
         tables: Vec<OpenedTable>,
-        reading: Reading,
+        reading: ReadRange,
         watch: &mut W,
     ) -> Result<RowSource, AllocError>
         requires folded { is_folded_tree (tree_of plan.tree) ≡ true }

@@ -4,24 +4,26 @@ ghost use Rattle.std.specs.Prelude.{◌≡◌, ◌≤◌, ◌<◌, [], IfOk, len
 ghost use Rattle.std.specs.Arc.{arc_value};
 ghost use Rattle.array_select.specs.Room.{most_batch_rows};
 ghost use Rattle.join_batches.specs.Joiner.{joined_types};
-ghost use Rattle.row_sources.specs.Joined.{FeedsNext, IsJoined, IsSource, TakesLeft, joined_at};
-ghost use Rattle.row_sources.specs.Joined.{source_at};
+ghost use Rattle.row_sources.specs.JoinedRows.{FeedsNext, IsJoined, IsSource, TakesLeft, joined_at};
+ghost use Rattle.row_sources.specs.JoinedRows.{source_at};
 ghost use Rattle.row_sources.specs.Parting.{ComeInOrder, part_of};
 ghost use Rattle.row_sources.specs.Picking.{IsPick, PickAt, pick_of};
 ghost use Rattle.row_sources.specs.Running.{EndsAtChoice, FindsTurn, picked_of};
 ghost use Rattle.row_sources.specs.declared.turn.Patience.TheVariants.{Endless};
 
+use crate::batch_slice::BatchSlice;
 use crate::choice::Choice;
-use crate::part::Part;
+use crate::given;
 use crate::picker::Picker;
 use crate::piece::Piece;
 use crate::place::PlaceRows;
-use crate::turn::{Looking, Patience, Turn};
-use array_select::{MOST_BATCH_ROWS, Selection};
+use crate::turn::{Patience, Turn, TurnContext};
+use array_select::Selection;
 use join_batches::Joiner;
 use std::alloc::{AllocError, Global};
 use std::marker::Model;
 use std::sync::Arc;
+use work_watch::pace::MOST_PIECE_ROWS;
 
 /// Rows that are still to be given, piece by piece: those of a place, or joined ones. A contract
 /// sees the types of their columns, the rows, each with the number of the batch of the first place
@@ -40,13 +42,13 @@ pub struct Rows {
 #[derive(Drop)]
 pub(crate) enum Source {
     Place(PlaceRows),
-    Joined(Box<Rows>, Joining),
+    Joined(Box<Rows>, JoinState),
 }
 
 // The right side of a join with the left batch that it joins, and the number of the batch of the
 // first place of which the left batch comes.
 #[derive(Drop)]
-pub(crate) struct Joining {
+pub(crate) struct JoinState {
     pub(crate) joiner: Joiner,
     pub(crate) number: usize,
 }
@@ -60,7 +62,7 @@ impl Model for Rows {
     ghost Value = { RowsAt };
 
     ghost use Rattle.row_sources.specs.Choices.{IsChoiceOf};
-    ghost use Rattle.row_sources.specs.Joined.{source_at, IsSource};
+    ghost use Rattle.row_sources.specs.JoinedRows.{source_at, IsSource};
 
     ghost view = { λ r. picked_of (pick_of (arc_value r.picker)) (source_at r.source) };
 
@@ -85,7 +87,7 @@ impl Rows {
     ///
     /// `AllocError` where memory is refused. Then nothing is said of the rows that come next.
     #[cycle(turn)]
-    pub fn turn(&mut self, looking: &mut Looking) -> Result<Turn<Piece>, AllocError>
+    pub fn turn(&mut self, looking: &mut TurnContext) -> Result<Turn<Piece>, AllocError>
         ensures endless { looking.old.patience ≡ Endless → looking.new.patience ≡ Endless }
         ensures choice { EndsAtChoice looking.new.patience → EndsAtChoice looking.old.patience }
         ensures found { FindsTurn looking.old.patience self.old result self.new }
@@ -168,14 +170,14 @@ impl Rows {
             Source::Joined(left, joining) => {
                 let left = Box::new(alloc, left.part(alloc, number)?)?;
                 let joiner = joining.joiner.again(alloc)?;
-                let source = Source::Joined(left, Joining { joiner, number: 0 });
+                let source = Source::Joined(left, JoinState { joiner, number: 0 });
                 Ok(Rows::new(alloc, source, Arc::try_clone(&self.picker)?))
             }
         }
     }
 }
 
-impl Joining {
+impl JoinState {
     // What is picked of the next joined rows, where the left rows are these.
     #[cycle(turn)]
     fn turn(
@@ -183,7 +185,7 @@ impl Joining {
         left: &mut Rows,
         picker: &Picker,
         selection: &mut Selection,
-        looking: &mut Looking,
+        looking: &mut TurnContext,
     ) -> Result<Turn<Piece>, AllocError>
         requires joined { IsJoined left.old self.old.joiner self.old.number }
         requires pick { IsPick (length (joined_types self.old.joiner)) (pick_of picker.now) }
@@ -201,7 +203,7 @@ impl Joining {
             if let Some(batch) = self.joiner.next(looking.alloc)? {
                 let (from, to) = (0, batch.rows());
                 looking.spend(to, picker);
-                let part = Part {
+                let part = BatchSlice {
                     batch: &batch,
                     from,
                     to,
@@ -214,11 +216,7 @@ impl Joining {
                     return Ok(Turn::Working);
                 }
             } else {
-                match self.feed_next(left, looking)? {
-                    Turn::Given(_) => {}
-                    Turn::Working => return Ok(Turn::Working),
-                    Turn::End => return Ok(Turn::End),
-                }
+                given!(self.feed_next(left, looking)?);
             }
         }
     }
@@ -230,7 +228,7 @@ impl Joining {
         &mut self,
         left: &mut Rows,
         picker: &Picker,
-        looking: &mut Looking,
+        looking: &mut TurnContext,
     ) -> Result<Turn<Piece>, AllocError>
         requires joined { IsJoined left.old self.old.joiner self.old.number }
         requires pick { IsPick (length (joined_types self.old.joiner)) (pick_of picker.now) }
@@ -251,18 +249,14 @@ impl Joining {
                 looking.spend(batch.rows(), picker);
                 return Ok(Turn::Given(Piece { batch, number }));
             }
-            match self.feed_next(left, looking)? {
-                Turn::Given(_) => {}
-                Turn::Working => return Ok(Turn::Working),
-                Turn::End => return Ok(Turn::End),
-            }
+            given!(self.feed_next(left, looking)?);
         }
     }
 
     // Finds the next pairs of rows that join, of one further left batch at most. Their rows are not
     // given yet.
     #[cycle(turn)]
-    fn choose(&mut self, left: &mut Rows, looking: &Looking) -> Result<Turn<Piece>, AllocError>
+    fn choose(&mut self, left: &mut Rows, looking: &TurnContext) -> Result<Turn<Piece>, AllocError>
         requires joined { IsJoined left.old self.old.joiner self.old.number }
         requires choice { EndsAtChoice looking.now.patience }
         ensures joined { IsJoined left.new self.new.joiner self.new.number }
@@ -276,8 +270,8 @@ impl Joining {
         if self.joiner.find(alloc)? {
             return Ok(Turn::Working);
         }
-        let patience = Patience::Rows(MOST_BATCH_ROWS);
-        let mut further = Looking { alloc, patience };
+        let patience = Patience::Rows(MOST_PIECE_ROWS);
+        let mut further = TurnContext { alloc, patience };
         if let Turn::End = self.feed_next(left, &mut further)? {
             return Ok(Turn::End);
         }
@@ -287,7 +281,11 @@ impl Joining {
 
     // Goes on to the next left batch, where the turn comes to it, and is not over then.
     #[cycle(turn)]
-    fn feed_next(&mut self, left: &mut Rows, looking: &mut Looking) -> Result<Turn<()>, AllocError>
+    fn feed_next(
+        &mut self,
+        left: &mut Rows,
+        looking: &mut TurnContext,
+    ) -> Result<Turn<()>, AllocError>
         requires joined { IsJoined left.old self.old.joiner self.old.number }
         requires none { self.old.joiner.ahead ≡ [] }
         ensures joined { IsJoined left.new self.new.joiner self.new.number }
@@ -300,18 +298,13 @@ impl Joining {
             (joined_at left.new self.new.joiner self.new.number) }
         ensures fewer { TakesLeft result (length left.old.ahead) (length left.new.ahead) }
     {
-        match left.turn(looking)? {
-            Turn::Given(piece) => {
-                self.number = piece.number;
-                self.joiner.feed(piece.batch);
-                if looking.is_over() {
-                    Ok(Turn::Working)
-                } else {
-                    Ok(Turn::Given(()))
-                }
-            }
-            Turn::Working => Ok(Turn::Working),
-            Turn::End => Ok(Turn::End),
+        let piece = given!(left.turn(looking)?);
+        self.number = piece.number;
+        self.joiner.feed(piece.batch);
+        if looking.is_over() {
+            Ok(Turn::Working)
+        } else {
+            Ok(Turn::Given(()))
         }
     }
 }

@@ -5,22 +5,22 @@ ghost use Rattle.std.specs.List.{flat_map, range_with_len};
 ghost use Rattle.arrays.specs.Batch.{rows_of};
 ghost use Rattle.table_versions.specs.Table.{Name};
 ghost use Rattle.typed_plan.specs.Plan.{scan};
-ghost use Rattle.typed_plan.specs.Typed.{has_columns, type_at, types_of};
-ghost use Rattle.row_sources.specs.Begun.{IsBegun};
-ghost use Rattle.row_sources.specs.Sourced.{IsSourced, sourced_at};
-ghost use Rattle.batch_skipping.specs.Chosen.{are_within};
-ghost use Rattle.row_sources.specs.Joined.{source_at};
+ghost use Rattle.typed_plan.specs.TypedPlans.{has_columns, type_at, types_of};
+ghost use Rattle.row_sources.specs.BegunRows.{IsBegun};
+ghost use Rattle.row_sources.specs.FilteredSource.{IsFilteredSource, filtered_source_at};
+ghost use Rattle.batch_skipping.specs.ChosenColumns.{are_within};
+ghost use Rattle.row_sources.specs.JoinedRows.{source_at};
 ghost use Rattle.batch_skipping.specs.Narrow.{BeginsInFirst};
-ghost use Rattle.batch_skipping.specs.Opened.{batches_in};
+ghost use Rattle.batch_skipping.specs.OpenedBatches.{batches_in};
 
-use crate::build::Sourced;
+use crate::build::FilteredSource;
 use crate::columns::{numbers_below, picked};
 use crate::cursor::Cursor;
 use crate::opened_table::OpenedTable;
 use crate::place::PlaceRows;
-use crate::row_source::Reading;
+use crate::row_source::ReadRange;
 use crate::rows::Source;
-use arrow_schema::{DataType, Field};
+use arrow_types::{DataType, Field};
 use std::alloc::{AllocError, Global};
 use typed_plan::Columns;
 
@@ -29,16 +29,16 @@ pub(crate) fn scan_source(
     alloc: Global,
     columns: &Columns,
     table: OpenedTable,
-    reading: Reading,
-) -> Result<Sourced, AllocError>
+    reading: ReadRange,
+) -> Result<FilteredSource, AllocError>
     requires there { IsTrue (has_columns (length table.schema.fields) columns.now) }
     requires first { BeginsInFirst reading.from table.batches }
     requires each { batches_in reading.from reading.to table.batches
         ≡ range_with_len 0 (length table.batches) }
-    ensures sourced { IfOk result IsSourced }
+    ensures sourced { IfOk result IsFilteredSource }
     ensures begun { IfOk result (λ made. (name : Name) →
         IsBegun (scan name table.schema columns.now) (table ∷ []) reading.from reading.to
-        (sourced_at made)) }
+        (filtered_source_at made)) }
     ensures few { IfOk result
         (λ made. length (source_at made.source).ahead ≤ length (flat_map rows_of table.batches)) }
 {
@@ -48,7 +48,7 @@ pub(crate) fn scan_source(
     let types = types_at(alloc, fields, columns.as_slice())?;
     let to = reading.to.min(table.rows()).max(reading.from);
     let cursor = Cursor::new(&table, reading.from, to);
-    Ok(Sourced {
+    Ok(FilteredSource {
         source: Source::Place(PlaceRows { table, cursor }),
         filters: Vec::new(alloc),
         columns,

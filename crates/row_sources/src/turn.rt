@@ -5,13 +5,7 @@ ghost use Rattle.row_sources.specs.declared.turn.Patience.TheVariants.{Endless, 
 
 use crate::picker::Picker;
 use std::alloc::Global;
-
-// How many rows a turn of watched work looks at.
-const WATCHED_ROWS: usize = 1_048_576;
-
-// As how many rows those count at least that are looked at together: to begin with a batch costs
-// something too.
-const LEAST_ROWS: usize = 64;
+use work_watch::pace::{LEAST_PIECE_ROWS, TURN_ROWS};
 
 /// What a turn gives.
 #[derive(Drop)]
@@ -22,6 +16,19 @@ pub enum Turn<T> {
     Working,
     /// Nothing is left.
     End,
+}
+
+/// What a turn gives. One that gives nothing is what the function gives that calls it: nothing yet,
+/// or the end.
+#[macro_export]
+macro_rules! given {
+    ($turn:expr) => {
+        match $turn {
+            $crate::Turn::Given(given) => given,
+            $crate::Turn::Working => return Ok($crate::Turn::Working),
+            $crate::Turn::End => return Ok($crate::Turn::End),
+        }
+    };
 }
 
 /// How many rows a turn looks at.
@@ -38,21 +45,21 @@ pub enum Patience {
 
 /// What a turn works with.
 #[derive(Drop)]
-pub struct Looking {
+pub struct TurnContext {
     /// Where its memory comes from.
     pub alloc: Global,
     /// How many rows it still looks at.
     pub patience: Patience,
 }
 
-impl Looking {
+impl TurnContext {
     // So many rows are looked at together. One counts as often as the filters of a picker compare
     // in it, and fewer than 64 as 64.
     pub(crate) fn spend(&mut self, rows: usize, picker: &Picker)
         ensures endless { self.old.patience ≡ Endless → self.new.patience ≡ Endless }
         ensures choice { self.new.patience ≡ Choice → self.old.patience ≡ Choice }
     {
-        let spent = rows.max(LEAST_ROWS).saturating_mul(picker.weight());
+        let spent = rows.max(LEAST_PIECE_ROWS).saturating_mul(picker.weight());
         if let Patience::Rows(left) = &mut self.patience {
             *left = left.saturating_sub(spent);
         }
@@ -76,7 +83,7 @@ impl Looking {
     // How many rows were looked at in a turn of watched work.
     pub(crate) fn looked(&self) -> usize {
         match self.patience {
-            Patience::Rows(left) => WATCHED_ROWS.saturating_sub(left),
+            Patience::Rows(left) => TURN_ROWS.saturating_sub(left),
             Patience::Endless => 0,
             Patience::Choice => 0,
         }
@@ -87,5 +94,5 @@ impl Looking {
 pub(crate) fn watched_patience() -> Patience
     ensures { result ≢ Choice }
 {
-    Patience::Rows(WATCHED_ROWS)
+    Patience::Rows(TURN_ROWS)
 }

@@ -2,8 +2,8 @@
 use Rattle.std.proofs.Common.{◌≡◌, inl, inr, ℕ, List, [], ◌∷◌, ◌++◌, All, Option, refl, ap, ◌∙◌, append_assoc, length, arith}
 use Rattle.std.specs.List.{flat_map}
 use Rattle.std.proofs.lemmas.List.{length-append}
-use Rattle.arrow_schema.specs.declared.schema.Schema.{Schema}
-use Rattle.ipc_batch.specs.Said.{Rows}
+use Rattle.arrow_types.specs.declared.schema.Schema.{Schema}
+use Rattle.ipc_batch.specs.SaidRows.{Rows}
 use Rattle.ipc_stream.specs.declared.message.IpcMessage.{IpcMessage}
 use Rattle.ipc_stream.specs.Stream.{announced, frame, IsEnd, IsMessage, IsStream}
 use Rattle.ipc_stream.proofs.Fronts.{announced_one}

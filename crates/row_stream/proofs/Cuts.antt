@@ -5,19 +5,19 @@ use Rattle.std.proofs.Math.Seq.{take-add}
 use Rattle.std.proofs.lemmas.List.{take_all}
 use Rattle.scan_base.specs.declared.fault.Fault.{Fault}
 use Rattle.scan_base.specs.declared.fault.Fault.TheVariants.{LimitReached, OutOfMemory}
-use Rattle.arrow_schema.specs.declared.schema.Field.{Field}
-use Rattle.arrow_schema.specs.declared.schema.Schema.{Schema}
+use Rattle.arrow_types.specs.declared.schema.Field.{Field}
+use Rattle.arrow_types.specs.declared.schema.Schema.{Schema}
 use Rattle.arrays.specs.Column.{ColumnAt, cut}
 use Rattle.arrays.specs.Batch.{BatchAt, rows_of, cut_batch}
-use Rattle.arrays.specs.Typed.{AreOfTypes}
+use Rattle.arrays.specs.TypedLayouts.{AreOfTypes}
 use Rattle.arrays.proofs.Slices.{batches_keep}
-use Rattle.ipc_batch.specs.Said.{Rows}
+use Rattle.ipc_batch.specs.SaidRows.{Rows}
 use Rattle.ipc_stream.specs.Stream.{frame}
 use Rattle.grpc_frame.specs.Sending.{Sent, NotSent}
 use Rattle.row_stream.specs.Stream.{BreaksOff, WritesBeginning, WritesCounted, unfinished}
 use Rattle.row_stream.specs.Writing.{SendsBatch, SoFar, SentBehind}
 use Rattle.row_stream.specs.inside.Cuts.{IsCut, IsUncut}
-use Rattle.row_stream.specs.declared.cutting.Cut.{Cut}
+use Rattle.row_stream.specs.declared.batch_cuts.CutMessages.{CutMessages}
 use Rattle.row_stream.proofs.Messages.{length-rows_of}
 use Rattle.row_stream.proofs.SoFar.{broken_here, went_on, stopped}
 
@@ -79,7 +79,7 @@ sent_all schema batch at old new before after all sent rows start so =
     subst (λ (l : Rows). SoFar schema (rows ++ l) start new after) (cut_whole batch at all) (sent rows start so)
 
 -- a cut more
-pub sent_cut : (schema : Schema) (batch : BatchAt) (at most : ℕ) (cut : Cut) (a b c : Option (List ℕ)) (before mid after : List ℕ) → IsCut schema batch at most cut → SentTo schema batch at a b before mid
+pub sent_cut : (schema : Schema) (batch : BatchAt) (at most : ℕ) (cut : CutMessages) (a b c : Option (List ℕ)) (before mid after : List ℕ) → IsCut schema batch at most cut → SentTo schema batch at a b before mid
     → Sent b c mid after (flat_map frame cut.parcel) → SentTo schema batch cut.end a c before after
 sent_cut schema batch at most cut a b c before mid after is sent more rows start so =
     let some = rows ++ rows_of (cut_batch batch 0 at) in
@@ -111,7 +111,7 @@ told_uncut LimitReached schema batch old new before after failed failed' why bre
 told_uncut _ schema batch old new before after failed failed' why breaks = absurd why
 
 -- a cut more of which a write failed
-pub cut_not_sent : (schema : Schema) (batch : BatchAt) (at most : ℕ) (cut : Cut) (a b c : Option (List ℕ)) (before mid after : List ℕ) → IsCut schema batch at most cut → SentTo schema batch at a b before mid
+pub cut_not_sent : (schema : Schema) (batch : BatchAt) (at most : ℕ) (cut : CutMessages) (a b c : Option (List ℕ)) (before mid after : List ℕ) → IsCut schema batch at most cut → SentTo schema batch at a b before mid
     → NotSent b c mid after (flat_map frame cut.parcel)
     → (rows : Rows) (start : Option (List ℕ)) → SoFar schema rows start a before → WritesBeginning schema (rows ++ rows_of batch) start c
 cut_not_sent schema batch at most cut a b c before mid after is sent failed rows start so =

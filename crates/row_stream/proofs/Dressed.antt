@@ -7,15 +7,15 @@ use Rattle.std.proofs.lemmas.List.{map-append}
 use Rattle.std.proofs.lemmas.List.Elements.{All-append, All-nil, All-cons, All-head, All-tail}
 use Rattle.scan_base.specs.declared.value.Value.{Value}
 use Rattle.scan_base.specs.declared.value.Value.TheVariants as value
-use Rattle.arrow_schema.specs.declared.schema.Schema.{Schema}
+use Rattle.arrow_types.specs.declared.schema.Schema.{Schema}
 use Rattle.arrays.specs.Batch.{BatchAt, rows_of}
 use Rattle.arrays.specs.Firsts.{firsts}
 use Rattle.ipc_batch.specs.declared.writer.WrittenMessage.{WrittenMessage}
-use Rattle.ipc_batch.specs.Dressed.{cells_in, coded_from, SaysWhole, AddsRows, Dressing, IsDressed, AreDressed}
-use Rattle.ipc_batch.specs.Said.{Sent, Rows}
-use Rattle.ipc_batch.specs.Seen.{written_seen}
-use Rattle.ipc_batch.specs.Written.{most_header_bytes}
-use Rattle.dictionary_answers.specs.declared.dressed.DressedBatch.{DressedBatch}
+use Rattle.ipc_batch.specs.DressedBatches.{cells_in, coded_from, SaysWhole, AddsRows, Dressing, IsDressed, AreDressed}
+use Rattle.ipc_batch.specs.SaidRows.{Sent, Rows}
+use Rattle.ipc_batch.specs.MessageView.{written_seen}
+use Rattle.ipc_batch.specs.WrittenMessages.{most_header_bytes}
+use Rattle.dictionary_answers.specs.declared.dressed_batch.DressedBatch.{DressedBatch}
 use Rattle.dictionary_answers.specs.Dress.{ClaimsAll, IsDressedBatch}
 use Rattle.dictionary_answers.specs.Lengths.{bodies_length}
 use Rattle.ipc_stream.specs.declared.message.IpcMessage.{IpcMessage}

@@ -7,19 +7,19 @@ use Rattle.scan_base.specs.Reading.{◌>>=◌, demand}
 use Rattle.scan_base.specs.declared.fault.Fault.TheVariants.{UnsupportedArrow}
 use Rattle.flatbuf.specs.Layout.{TableAt}
 use Rattle.flatbuf.specs.Place.{root_of, scalar_of}
+use Rattle.arrow_types.specs.declared.schema.Schema.{Schema}
+use Rattle.arrow_types.specs.Schema.{IsSchema}
 use Rattle.arrow_schema.specs.declared.header.HeaderKind.TheVariants as kinds
-use Rattle.arrow_schema.specs.declared.schema.Schema.{Schema}
 use Rattle.arrow_schema.specs.Header.{MessageAt, header_kind, message_of, body_length_of, schema_in, schema_message_of, schema_of}
-use Rattle.arrow_schema.specs.Schema.{IsSchema}
-use Rattle.arrow_schema.specs.Written.{schema_part, schema_bytes}
+use Rattle.arrow_schema.specs.WrittenHeader.{schema_part, schema_bytes}
 use Rattle.arrow_schema.proofs.Messages.{messages_read}
 use Rattle.arrow_schema.proofs.Again.{whole_schema, short_schema, schemas_read}
 use Rattle.arrays.specs.Batch.{BatchAt, row_of, rows_of}
 use Rattle.ipc_batch.specs.State.{Known}
 use Rattle.ipc_batch.specs.Parts.{body_claimed}
-use Rattle.ipc_batch.specs.Said.{Sent, News, Rows, schema_sent, news_of, Follows, Says}
-use Rattle.ipc_batch.specs.Dressed.{AreDressed}
-use Rattle.ipc_batch.specs.Written.{WrittenParts, SaysParts, most_header_bytes}
+use Rattle.ipc_batch.specs.SaidRows.{Sent, News, Rows, schema_sent, news_of, Follows, Says}
+use Rattle.ipc_batch.specs.DressedBatches.{AreDressed}
+use Rattle.ipc_batch.specs.WrittenMessages.{WrittenParts, SaysParts, most_header_bytes}
 use Rattle.ipc_batch.proofs.Lengths.{fine, both}
 use Rattle.ipc_batch.proofs.Messages.{joined}
 use Rattle.ipc_batch.proofs.Dressing.{dressed_say}

@@ -4,19 +4,19 @@ use Rattle.std.specs.Prelude.{All}
 use Rattle.std.proofs.lemmas.List.{length-take, take_more}
 use Rattle.std.proofs.lemmas.List.Elements.{All-nil, All-cons, All-head, All-tail}
 use Rattle.scan_base.specs.Limits.{most_columns}
-use Rattle.arrow_schema.specs.declared.data_type.DataType.{DataType}
-use Rattle.arrow_schema.specs.declared.data_type.DataType.TheVariants.{Integer, Utf8, Bool as Flags, Decimal128, Date, Dictionary}
-use Rattle.arrow_schema.specs.declared.data_type.DictionaryEncoding.{DictionaryEncoding}
-use Rattle.arrow_schema.specs.declared.schema.Field.{Field}
-use Rattle.arrow_schema.specs.declared.schema.Schema.{Schema}
-use Rattle.arrow_schema.specs.Answer.{answered_at, answered_from, answered_field}
-use Rattle.arrow_schema.specs.Schema.{IsField, IsSchema}
-use Rattle.arrow_schema.proofs.Answered.{answered_typed, answered_apart}
+use Rattle.arrow_types.specs.declared.data_type.DataType.{DataType}
+use Rattle.arrow_types.specs.declared.data_type.DataType.TheVariants.{Integer, Utf8, Bool as Flags, Decimal128, Date, Dictionary}
+use Rattle.arrow_types.specs.declared.data_type.DictionaryEncoding.{DictionaryEncoding}
+use Rattle.arrow_types.specs.declared.schema.Field.{Field}
+use Rattle.arrow_types.specs.declared.schema.Schema.{Schema}
+use Rattle.arrow_types.specs.Answer.{answered_at, answered_from, answered_field}
+use Rattle.arrow_types.specs.Schema.{IsField, IsSchema}
+use Rattle.arrow_types.proofs.Answered.{answered_typed, answered_apart}
 use Rattle.arrays.specs.declared.layout.Layout.{Layout}
 use Rattle.arrays.specs.declared.layout.Layout.TheVariants as layout
 use Rattle.arrays.specs.Column.{ColumnAt}
-use Rattle.arrays.specs.Typed.{IsOfType, AreOfTypes}
-use Rattle.dictionary_answers.specs.Dress.{HoldsTexts, IsDressable, AreDressable, IsNumbered, AreNumbered}
+use Rattle.arrays.specs.TypedLayouts.{IsOfType, AreOfTypes}
+use Rattle.dictionary_answers.specs.Dress.{IsTextLayout, IsDressable, AreDressable, IsNumbered, AreNumbered}
 use Rattle.row_stream.specs.Stream.{numbered_from, numbered_schema}
 
 -- one column more
@@ -78,7 +78,7 @@ all_numbered number (field ∷ fields) = (one_numbered number field.data_type, a
 
 -- ---- columns of them
 
-texts_by : (encoding : DictionaryEncoding) (known : Layout) → IsOfType (Dictionary encoding) known → HoldsTexts known
+texts_by : (encoding : DictionaryEncoding) (known : Layout) → IsOfType (Dictionary encoding) known → IsTextLayout known
 texts_by encoding (layout.Indices cells) is = tt
 texts_by encoding (layout.Texts cells) is = absurd is
 texts_by encoding (layout.Integers cells) is = absurd is

@@ -5,13 +5,13 @@ use Rattle.std.specs.Io.KnownBytes.{Appends}
 use Rattle.std.proofs.KnownBytes.{Appends-trans}
 use Rattle.std.proofs.lemmas.Grind.{flat_map-append}
 use Rattle.std.proofs.lemmas.List.Elements.{All-append, All-nil, All-cons}
-use Rattle.arrow_schema.specs.declared.schema.Schema.{Schema}
+use Rattle.arrow_types.specs.declared.schema.Schema.{Schema}
 use Rattle.arrays.specs.Batch.{BatchAt, rows_of}
 use Rattle.grpc_frame.specs.Ends.{AppendsBeginning, CountsFailure, Writes}
 use Rattle.grpc_frame.specs.Sending.{Sent, NotSent}
 use Rattle.grpc_frame.proofs.Growing.{beginning_of_content}
 use Rattle.grpc_frame.proofs.Sending.{both_sent, second_not_sent, begun_alone}
-use Rattle.ipc_batch.specs.Said.{Rows, Says}
+use Rattle.ipc_batch.specs.SaidRows.{Rows, Says}
 use Rattle.ipc_stream.specs.declared.message.IpcMessage.{IpcMessage}
 use Rattle.ipc_stream.specs.Stream.{frame, IsMessage, end_marker}
 use Rattle.row_stream.specs.Stream.{sent_in, AreDressedBehind, BreaksOff, HasShortBody, StreamSays, IsWhole, WritesBeginning, WritesCounted, WritesStream, unfinished}

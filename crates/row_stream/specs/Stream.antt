@@ -5,12 +5,12 @@ use Rattle.std.specs.Io.KnownBytes.{Appends}
 use Rattle.scan_base.specs.declared.fault.Fault.{Fault}
 use Rattle.scan_base.specs.declared.fault.Fault.TheVariants.{LimitReached, OutOfMemory, Transport}
 use Rattle.scan_base.specs.declared.value.Value.{Value}
-use Rattle.arrow_schema.specs.declared.schema.Field.{Field}
-use Rattle.arrow_schema.specs.declared.schema.Schema.{Schema}
-use Rattle.arrow_schema.specs.Answer.{answered_field}
+use Rattle.arrow_types.specs.declared.schema.Field.{Field}
+use Rattle.arrow_types.specs.declared.schema.Schema.{Schema}
+use Rattle.arrow_types.specs.Answer.{answered_field}
 use Rattle.arrays.specs.Batch.{BatchAt, cut_batch}
-use Rattle.ipc_batch.specs.Said.{Sent, Rows, Says}
-use Rattle.ipc_batch.specs.Dressed.{SaysWhole, AddsRows, AreDressed}
+use Rattle.ipc_batch.specs.SaidRows.{Sent, Rows, Says}
+use Rattle.ipc_batch.specs.DressedBatches.{SaysWhole, AddsRows, AreDressed}
 use Rattle.dictionary_answers.specs.Lengths.{dressed_length}
 use Rattle.ipc_stream.specs.declared.message.IpcMessage.{IpcMessage}
 use Rattle.ipc_stream.specs.Stream.{announced, Framed, IsStream, end_marker}

@@ -1,12 +1,11 @@
 //! The schema of a stream, and what its batches are dressed by.
 
 ghost use Rattle.std.specs.Prelude.{◌≡◌, IfOk};
-ghost use Rattle.arrow_schema.specs.Schema.{IsSchema};
+ghost use Rattle.arrow_types.specs.Schema.{IsSchema};
 ghost use Rattle.row_stream.specs.Stream.{numbered_schema};
 
-use arrow_schema::Schema;
-use hash_seed::HashSeed;
-use scan_base::Items;
+use arrow_types::Schema;
+use scan_base::{HashSeed, Items};
 use std::alloc::{AllocError, Global};
 use std::marker::Model;
 
@@ -21,8 +20,8 @@ pub(crate) struct Dresser {
 }
 
 impl Model for Dresser {
-    ghost use Rattle.arrow_schema.specs.declared.schema.Schema.{Schema};
-    ghost use Rattle.arrow_schema.specs.Schema.{IsSchema};
+    ghost use Rattle.arrow_types.specs.declared.schema.Schema.{Schema};
+    ghost use Rattle.arrow_types.specs.Schema.{IsSchema};
     ghost use Rattle.dictionary_answers.specs.Dress.{AreNumbered};
 
     ghost Value = { Schema };

@@ -4,7 +4,7 @@
 //! batch by batch.
 #![tactic(auto)]
 
-mod cutting;
+mod batch_cuts;
 mod dresser;
 mod message;
 mod sending;

@@ -2,11 +2,11 @@
 
 ghost use Rattle.std.specs.Prelude.{◌≡◌, ◌↔◌, ◌≤◌, ◌<◌, ◌^◌, ◌+◌, length, map, IfNone, IfOk};
 ghost use Rattle.std.specs.Prelude.{IfSome, IsSome, MatchOption};
-ghost use Rattle.arrow_schema.specs.Schema.{IsSchema};
+ghost use Rattle.arrow_types.specs.Schema.{IsSchema};
 ghost use Rattle.scan_base.specs.Limits.{most_columns, most_values};
-ghost use Rattle.arrays.specs.Typed.{AreOfTypes};
-ghost use Rattle.ipc_batch.specs.Seen.{written_seen};
-ghost use Rattle.ipc_batch.specs.Written.{body_length, SaysBatch};
+ghost use Rattle.arrays.specs.TypedLayouts.{AreOfTypes};
+ghost use Rattle.ipc_batch.specs.MessageView.{written_seen};
+ghost use Rattle.ipc_batch.specs.WrittenMessages.{body_length, SaysBatch};
 ghost use Rattle.dictionary_answers.specs.Lengths.{bodies_length, dressed_length};
 ghost use Rattle.ipc_stream.specs.Stream.{IsMessage};
 ghost use Rattle.row_stream.specs.Stream.{sent_in};
@@ -15,7 +15,8 @@ ghost use Rattle.row_stream.specs.inside.Frames.{as_message, SaysSchema};
 
 use crate::dresser::Dresser;
 use arrays::Batch;
-use arrow_schema::{Schema, write_schema};
+use arrow_schema::write_schema;
+use arrow_types::Schema;
 use bytes::Bytes;
 use dictionary_answers::{DressedBatch, dress};
 use ipc_batch::{SizedBatch, WrittenMessage};
@@ -25,13 +26,13 @@ use std::marker::Model;
 /// A message of a stream: its header, and the buffers of its body, of which no copy is made. A
 /// contract sees the message.
 #[derive(Drop)]
-pub(crate) struct Ready {
+pub(crate) struct StreamMessage {
     pub header: Vec<u8>,
     pub buffers: Vec<Bytes>,
 }
 
-impl Model for Ready {
-    ghost use Rattle.ipc_batch.specs.Written.{body_of};
+impl Model for StreamMessage {
+    ghost use Rattle.ipc_batch.specs.WrittenMessages.{body_of};
     ghost use Rattle.ipc_stream.specs.declared.message.IpcMessage.{IpcMessage};
 
     ghost Value = { IpcMessage };
@@ -45,7 +46,7 @@ impl Model for Ready {
 #[derive(Drop)]
 pub(crate) struct Parcel {
     pub dictionaries: Vec<WrittenMessage>,
-    pub rows: Ready,
+    pub rows: StreamMessage,
 }
 
 impl Model for Parcel {
@@ -59,19 +60,23 @@ impl Model for Parcel {
 }
 
 /// The message of a schema.
-pub(crate) fn schema_message(alloc: Global, schema: &Schema) -> Result<Ready, AllocError>
+pub(crate) fn schema_message(alloc: Global, schema: &Schema) -> Result<StreamMessage, AllocError>
     requires { IsSchema schema.now }
     ensures fits { IfOk result IsMessage }
     ensures says { IfOk result (λ message. SaysSchema schema.now (sent_in message)) }
 {
-    Ok(Ready {
+    Ok(StreamMessage {
         header: write_schema(alloc, schema)?,
         buffers: Vec::new(alloc),
     })
 }
 
 // The message of a batch, or nothing where its body would have more bytes than there is room for.
-fn rows_message(alloc: Global, batch: &Batch, room: usize) -> Result<Option<Ready>, AllocError>
+fn rows_message(
+    alloc: Global,
+    batch: &Batch,
+    room: usize,
+) -> Result<Option<StreamMessage>, AllocError>
     requires few { length batch.now.columns ≤ most_columns }
     requires room { room < 2 ^ 31 }
     ensures found { IfOk result (λ found. IsSome found ↔ (body_length batch.now ≤ room)) }
@@ -81,7 +86,7 @@ fn rows_message(alloc: Global, batch: &Batch, room: usize) -> Result<Option<Read
     ensures short { IfOk result (λ found. IfSome found (λ message. length message.body ≤ room)) }
 {
     match SizedBatch::new(alloc, batch)? {
-        Some(sized) if sized.body_length() <= room => Ok(Some(Ready {
+        Some(sized) if sized.body_length() <= room => Ok(Some(StreamMessage {
             header: sized.write_header(alloc)?,
             buffers: sized.buffers(alloc)?,
         })),

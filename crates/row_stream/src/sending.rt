@@ -3,8 +3,8 @@
 ghost use Rattle.std.specs.Prelude.{◌≡◌, ◌≤◌, ◌<◌, ◌^◌, [], ◌∷◌, ◌++◌, All, length, MatchResult};
 ghost use Rattle.std.specs.List.{flat_map};
 ghost use Rattle.flatbuf.specs.Block.{padded};
-ghost use Rattle.arrays.specs.Typed.{AreOfTypes};
-ghost use Rattle.ipc_batch.specs.Written.{body_of};
+ghost use Rattle.arrays.specs.TypedLayouts.{AreOfTypes};
+ghost use Rattle.ipc_batch.specs.WrittenMessages.{body_of};
 ghost use Rattle.ipc_stream.specs.Stream.{announced, frame, IsMessage};
 ghost use Rattle.grpc_frame.specs.Ends.{CanFail, CountsFailure, FailsByTransport, Writes};
 ghost use Rattle.grpc_frame.specs.Sending.{Sends};
@@ -12,17 +12,15 @@ ghost use Rattle.row_stream.specs.Stream.{CountsWrites, IsCause, WritesCounted, 
 ghost use Rattle.row_stream.specs.Writing.{SendsBatch};
 ghost use Rattle.row_stream.specs.inside.Frames.{written_frame};
 
-use crate::cutting::some_cut;
+use crate::batch_cuts::some_cut;
 use crate::dresser::Dresser;
-use crate::message::{Parcel, Ready};
+use crate::message::{Parcel, StreamMessage};
+use array_select::MOST_BATCH_ROWS;
 use arrays::Batch;
 use bytes::Bytes;
 use grpc_frame::{Outbox, Output};
 use ipc_batch::WrittenMessage;
 use scan_base::Fault;
-
-// The most rows of a cut. After one of few rows, the next one may have twice as many.
-const MOST_ROWS: usize = 65_536;
 
 // A header of eight bytes is announced, and four of them come.
 const UNFINISHED: [u8; 12] = [0xff, 0xff, 0xff, 0xff, 8, 0, 0, 0, 0, 0, 0, 0];
@@ -65,7 +63,11 @@ fn send_body<W: Output>(writer: &mut W, outbox: &mut Outbox, buffers: &[Bytes]) 
 }
 
 // Sends a message in its frame.
-fn send_frame<W: Output>(writer: &mut W, outbox: &mut Outbox, message: &Ready) -> Result<(), Fault>
+fn send_frame<W: Output>(
+    writer: &mut W,
+    outbox: &mut Outbox,
+    message: &StreamMessage,
+) -> Result<(), Fault>
     requires failures { CanFail (W.failures writer.old) }
     requires fits { length message.now.header < 2 ^ 31 }
     ensures bytes { Sends result (W.contents writer.old) (W.contents writer.new)
@@ -166,7 +168,7 @@ pub(crate) fn break_off<W: Output>(writer: &mut W, outbox: &mut Outbox)
 pub(crate) fn write_frame<W: Output>(
     writer: &mut W,
     outbox: &mut Outbox,
-    message: &Ready,
+    message: &StreamMessage,
 ) -> Result<(), Fault>
     requires failures { CanFail (W.failures writer.old) }
     requires fits { length message.now.header < 2 ^ 31 }
@@ -205,7 +207,7 @@ pub(crate) fn send_batch<W: Output>(
 {
     let rows = batch.rows();
     let mut at = 0;
-    let mut most = MOST_ROWS;
+    let mut most = MOST_BATCH_ROWS;
     while at < rows {
         let cut = match some_cut(dresser, batch, at, most) {
             Ok(cut) => cut,
@@ -215,7 +217,7 @@ pub(crate) fn send_batch<W: Output>(
             }
         };
         send_parcel(writer, outbox, &cut.parcel)?;
-        most = ((cut.end - at) * 2).min(MOST_ROWS);
+        most = ((cut.end - at) * 2).min(MOST_BATCH_ROWS);
         at = cut.end;
     }
     Ok(())

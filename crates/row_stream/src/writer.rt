@@ -1,10 +1,10 @@
 //! Writing a stream, batch by batch.
 
 ghost use Rattle.std.specs.Prelude.{◌≡◌, ◌∷◌, [], ℕ, List, Option, MatchResult};
-ghost use Rattle.arrow_schema.specs.declared.schema.Schema.{Schema};
-ghost use Rattle.arrow_schema.specs.Schema.{IsSchema};
-ghost use Rattle.arrays.specs.Typed.{AreOfTypes};
-ghost use Rattle.ipc_batch.specs.Said.{Rows};
+ghost use Rattle.arrow_types.specs.declared.schema.Schema.{Schema};
+ghost use Rattle.arrow_types.specs.Schema.{IsSchema};
+ghost use Rattle.arrays.specs.TypedLayouts.{AreOfTypes};
+ghost use Rattle.ipc_batch.specs.SaidRows.{Rows};
 ghost use Rattle.grpc_frame.specs.Ends.{CanFail, FailsByTransport};
 ghost use Rattle.row_stream.specs.Stream.{numbered_schema, BreaksOff, CountsTransport};
 ghost use Rattle.row_stream.specs.Stream.{CountsWrites, IsCause, WritesStream};
@@ -14,10 +14,9 @@ use crate::dresser::Dresser;
 use crate::message::schema_message;
 use crate::sending::{break_off, send_batch, write_frame, write_last};
 use arrays::Batch;
-use arrow_schema::Schema;
+use arrow_types::Schema;
 use grpc_frame::{Outbox, Output};
-use hash_seed::HashSeed;
-use scan_base::Fault;
+use scan_base::{Fault, HashSeed};
 use std::alloc::Global;
 use std::marker::Model;
 

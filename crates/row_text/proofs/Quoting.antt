@@ -3,7 +3,7 @@ use Rattle.std.proofs.Common.{◌≡◌, ◌==◌, ◌∷◌, ◌++◌, [], ℕ,
 use Rattle.std.proofs.lemmas.Bool.Decides.{Decides-eqb}
 use Rattle.std.specs.List.{flat_map}
 use Rattle.csv.specs.Writing.{escaped, quoted}
-use Rattle.row_text.specs.Records.{comma_writer, stands_in_quotes, text_field}
+use Rattle.row_text.specs.Records.{comma_writer}
 use Rattle.row_text.specs.inside.Quotes.{doubled_byte}
 
 -- what stands between the quotes
@@ -18,10 +18,3 @@ escaped_is (byte ∷ text) = by (byte == 34) refl (escaped_is text)
 
 pub quoted_is : (text : List ℕ) → quoted comma_writer text ≡ (34 ∷ []) ++ (flat_map doubled_byte text ++ (34 ∷ []))
 quoted_is text = ap (λ (l : List ℕ). 34 ∷ (l ++ (34 ∷ []))) (escaped_is text)
-
--- a text that stands in quotes, and one that does not
-pub in_quotes : (text : List ℕ) → stands_in_quotes text ≡ true → text_field text ≡ quoted comma_writer text
-in_quotes text stands = rw stands refl
-
-pub plain : (text : List ℕ) → stands_in_quotes text ≡ false → text_field text ≡ text
-plain text apart = rw apart refl

@@ -5,11 +5,11 @@ use Rattle.std.proofs.lemmas.List.{map-append, drop_more}
 use Rattle.std.proofs.lemmas.List.FromFn.{length-map-range_with_len, get_or-map-range_with_len}
 use Rattle.scan_base.specs.declared.value.Value.{Value}
 use Rattle.scan_base.specs.declared.value.Value.TheVariants.{Null}
-use Rattle.arrow_schema.specs.declared.data_type.DataType.{DataType}
-use Rattle.arrow_schema.specs.declared.schema.Field.{Field}
+use Rattle.arrow_types.specs.declared.data_type.DataType.{DataType}
+use Rattle.arrow_types.specs.declared.schema.Field.{Field}
 use Rattle.arrays.specs.Batch.{BatchAt, row_of, rows_of}
 use Rattle.arrays.specs.Column.{ColumnAt, slot_of, values_of}
-use Rattle.row_text.specs.Tables.{column_of, column_width, greatest, value_width, widths_from}
+use Rattle.row_text.specs.Tables.{values_of_column, column_width, greatest, value_width, widths_from}
 
 -- the greatest of two lists, one after the other
 pub greatest_append : (n : ℕ) (xs ys : List ℕ) → greatest n (xs ++ ys) ≡ greatest (greatest n xs) ys
@@ -39,25 +39,25 @@ in_row (first ∷ columns) place zero column inside is = ap (λ (one : ColumnAt)
 in_row (first ∷ columns) place (suc number) column inside is = in_row columns place number column (omega (arith, inside)) is
 
 in_rows : (columns : List ColumnAt) (number : ℕ) (column : ColumnAt) (places : List ℕ) → number < length columns → column ≡ get_or columns number column
-    → column_of (map (row_of columns) places) number ≡ map (slot_of column) places
+    → values_of_column (map (row_of columns) places) number ≡ map (slot_of column) places
 in_rows columns number column [] inside is = refl
 in_rows columns number column (place ∷ places) inside is =
-    ap (λ (v : Value). v ∷ column_of (map (row_of columns) places) number) (in_row columns place number column inside is)
+    ap (λ (v : Value). v ∷ values_of_column (map (row_of columns) places) number) (in_row columns place number column inside is)
     ∙ ap (λ (l : List Value). slot_of column place ∷ l) (in_rows columns number column places inside is)
 
 -- the values of a column of a batch
 column_values : (batch : BatchAt) (number : ℕ) (column : ColumnAt) → number < length batch.columns → column ≡ get_or batch.columns number column → column.len ≡ batch.rows
-    → column_of (rows_of batch) number ≡ values_of column
+    → values_of_column (rows_of batch) number ≡ values_of column
 column_values batch number column inside is long =
-    ap (λ (n : ℕ). column_of (map (row_of batch.columns) (range_with_len 0 n)) number) (sym long)
+    ap (λ (n : ℕ). values_of_column (map (row_of batch.columns) (range_with_len 0 n)) number) (sym long)
     ∙ in_rows batch.columns number column (range_with_len 0 column.len) inside is
 
-column_append : (xs ys : List (List Value)) (number : ℕ) → column_of (xs ++ ys) number ≡ column_of xs number ++ column_of ys number
+column_append : (xs ys : List (List Value)) (number : ℕ) → values_of_column (xs ++ ys) number ≡ values_of_column xs number ++ values_of_column ys number
 column_append xs ys number = map-append (λ (row : List Value). get_or row number Null) xs ys
 
 -- how wide the values of a column of batches are
 abbrev pub batches_widths : DataType → ℕ → List BatchAt → List ℕ
-batches_widths data_type number batches = map (value_width data_type) (column_of (flat_map rows_of batches) number)
+batches_widths data_type number batches = map (value_width data_type) (values_of_column (flat_map rows_of batches) number)
 
 -- those of the first of them, and of the others
 pub first_batch : (data_type : DataType) (number : ℕ) (batch : BatchAt) (batches : List BatchAt) (column : ColumnAt)
@@ -65,7 +65,7 @@ pub first_batch : (data_type : DataType) (number : ℕ) (batch : BatchAt) (batch
     → batches_widths data_type number (batch ∷ batches) ≡ map (value_width data_type) (values_of column) ++ batches_widths data_type number batches
 first_batch data_type number batch batches column inside is long =
     ap (map (value_width data_type)) (column_append (rows_of batch) (flat_map rows_of batches) number)
-    ∙ map-append (value_width data_type) (column_of (rows_of batch) number) (column_of (flat_map rows_of batches) number)
+    ∙ map-append (value_width data_type) (values_of_column (rows_of batch) number) (values_of_column (flat_map rows_of batches) number)
     ∙ ap (λ (l : List Value). map (value_width data_type) l ++ batches_widths data_type number batches) (column_values batch number column inside is long)
 
 -- one batch more is looked at
@@ -83,14 +83,9 @@ batch_more data_type number start widest next i batches batch column inside at w
     ∙ ap (λ (l : List BatchAt). greatest widest (batches_widths data_type number l)) (sym (drop_more batches i batch inside))
     ∙ all
 
--- as many widths as fields
-pub widths_long : (fields : List Field) (number : ℕ) (rows : List (List Value)) → length (widths_from fields number rows) ≡ length fields
-widths_long [] number rows = refl
-widths_long (field ∷ fields) number rows = ap (λ (n : ℕ). suc n) (widths_long fields (number + 1) rows)
-
 -- the width of one column more
 pub width_more : (fields : List Field) (i : ℕ) (field : Field) (rows : List (List Value)) (made new all : List ℕ) (width : ℕ) → i < length fields → field ≡ get_or fields i field
-    → new ≡ made ++ width ∷ [] → width ≡ column_width field (column_of rows i) → made ++ widths_from (drop i fields) i rows ≡ all → new ++ widths_from (drop (i + 1) fields) (i + 1) rows ≡ all
+    → new ≡ made ++ width ∷ [] → width ≡ column_width field (values_of_column rows i) → made ++ widths_from (drop i fields) i rows ≡ all → new ++ widths_from (drop (i + 1) fields) (i + 1) rows ≡ all
 width_more fields i field rows made new all width inside at is wide so_far =
     let rest = widths_from (drop (i + 1) fields) (i + 1) rows in
     ap (λ (l : List ℕ). l ++ rest) is

@@ -3,9 +3,9 @@ use Rattle.std.proofs.Common.{◌≡◌, ℕ, pos, negsuc, true, false, List, []
 use Rattle.std.specs.Fmt.{digits}
 use Rattle.scan_base.specs.declared.value.Value.{Value}
 use Rattle.scan_base.specs.declared.value.Value.TheVariants.{Null, Bool as Flag, Int, Text}
-use Rattle.arrow_schema.specs.declared.data_type.DataType.TheVariants.{Utf8, Decimal128, Date}
-use Rattle.arrow_schema.specs.declared.schema.Field.{Field}
-use Rattle.arrow_schema.specs.declared.schema.Schema.{Schema}
+use Rattle.arrow_types.specs.declared.data_type.DataType.TheVariants.{Utf8, Decimal128, Date}
+use Rattle.arrow_types.specs.declared.schema.Field.{Field}
+use Rattle.arrow_types.specs.declared.schema.Schema.{Schema}
 use Rattle.calendar.proofs.Rows.{row_shown, before_shown}
 use Rattle.row_text.specs.Rows.{names_row, values_row}
 use Rattle.row_text.specs.Lines.{line_format, lines_of, name_line, quoted}

@@ -5,9 +5,9 @@ use Rattle.std.specs.Fmt.{digits}
 use Rattle.csv.specs.Writing.{escaped}
 use Rattle.scan_base.specs.declared.value.Value.{Value}
 use Rattle.scan_base.specs.declared.value.Value.TheVariants.{Null, Bool as Flag, Int, Text}
-use Rattle.arrow_schema.specs.declared.data_type.DataType.TheVariants.{Utf8, Decimal128, Date}
-use Rattle.arrow_schema.specs.declared.schema.Field.{Field}
-use Rattle.arrow_schema.specs.declared.schema.Schema.{Schema}
+use Rattle.arrow_types.specs.declared.data_type.DataType.TheVariants.{Utf8, Decimal128, Date}
+use Rattle.arrow_types.specs.declared.schema.Field.{Field}
+use Rattle.arrow_types.specs.declared.schema.Schema.{Schema}
 use Rattle.calendar.proofs.Rows.{row_within, before_within}
 use Rattle.row_text.specs.Rows.{values_row}
 use Rattle.row_text.specs.Records.{csv_format, records_of}

@@ -2,8 +2,8 @@
 use Rattle.std.proofs.Common.{◌≡◌, pos, negsuc, true, List, [], ◌∷◌, codes, refl}
 use Rattle.std.specs.Fmt.{digits}
 use Rattle.scan_base.specs.declared.value.Value.TheVariants.{Null, Bool as Flag, Int}
-use Rattle.arrow_schema.specs.declared.data_type.DataType.TheVariants.{Bool, Decimal128}
-use Rattle.arrow_schema.specs.declared.schema.Field.{Field}
+use Rattle.arrow_types.specs.declared.data_type.DataType.TheVariants.{Bool, Decimal128}
+use Rattle.arrow_types.specs.declared.schema.Field.{Field}
 use Rattle.row_text.specs.Rows.{values_row}
 use Rattle.row_text.specs.Tables.{count_line, rule_line, table_format}
 

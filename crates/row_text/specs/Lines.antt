@@ -2,10 +2,10 @@
 -- lines of names.
 use Rattle.std.specs.Prelude.{ℕ, ◌==◌, List, [], ◌∷◌, ◌++◌, codes, if◌then◌else◌}
 use Rattle.std.specs.List.{flat_map}
-use Rattle.calendar.specs.Shown.{date_shown}
+use Rattle.calendar.specs.DateText.{date_shown}
 use Rattle.scan_base.specs.declared.value.Value.{Value}
-use Rattle.arrow_schema.specs.declared.schema.Field.{Field}
-use Rattle.arrow_schema.specs.declared.schema.Schema.{Schema}
+use Rattle.arrow_types.specs.declared.schema.Field.{Field}
+use Rattle.arrow_types.specs.declared.schema.Schema.{Schema}
 use Rattle.row_text.specs.Rows.{Format, Notation, rows_text, type_shown, value_text}
 
 -- a byte of a name: a backslash, a tab, LF and CR are written as a backslash and a letter

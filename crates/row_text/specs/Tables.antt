@@ -7,10 +7,10 @@ use Rattle.std.specs.Fmt.{decimal}
 use Rattle.unicode_width.specs.Width.{str_width}
 use Rattle.scan_base.specs.declared.value.Value.{Value}
 use Rattle.scan_base.specs.declared.value.Value.TheVariants.{Null, Text}
-use Rattle.arrow_schema.specs.declared.data_type.DataType.{DataType}
-use Rattle.arrow_schema.specs.declared.data_type.DataType.TheVariants.{Integer, Decimal128}
-use Rattle.arrow_schema.specs.declared.schema.Field.{Field}
-use Rattle.arrow_schema.specs.declared.schema.Schema.{Schema}
+use Rattle.arrow_types.specs.declared.data_type.DataType.{DataType}
+use Rattle.arrow_types.specs.declared.data_type.DataType.TheVariants.{Integer, Decimal128}
+use Rattle.arrow_types.specs.declared.schema.Field.{Field}
+use Rattle.arrow_types.specs.declared.schema.Schema.{Schema}
 use Rattle.row_text.specs.Rows.{Format, Notation, names_row, plain_day, type_shown, value_text}
 use Rattle.row_text.specs.Rows.{values_row}
 use Rattle.row_text.specs.Lines.{escaped, line_notation}
@@ -54,8 +54,8 @@ greatest n [] = n
 greatest n (m ∷ ms) = greatest (max n m) ms
 
 -- the values of a column, by its number
-abbrev pub column_of : List (List Value) → ℕ → List Value
-column_of rows number = map (λ row. get_or row number Null) rows
+abbrev pub values_of_column : List (List Value) → ℕ → List Value
+values_of_column rows number = map (λ row. get_or row number Null) rows
 
 -- how wide a column is: as its name or its widest value, whichever is wider
 abbrev pub column_width : Field → List Value → ℕ
@@ -66,7 +66,7 @@ column_width field values =
 abbrev pub widths_from : List Field → ℕ → List (List Value) → List ℕ
 widths_from [] number rows = []
 widths_from (field ∷ fields) number rows =
-    column_width field (column_of rows number) ∷ widths_from fields (number + 1) rows
+    column_width field (values_of_column rows number) ∷ widths_from fields (number + 1) rows
 
 -- ---- cells
 

@@ -1,54 +1,25 @@
 //! Rows as CSV, as RFC 4180 has it.
 
 ghost use Rattle.std.specs.Prelude.{◌≡◌};
-ghost use Rattle.std.specs.List.{flat_map};
 ghost use Rattle.csv.specs.Writing.{needs_byte, needs_quotes, quoted};
-ghost use Rattle.arrays.specs.Batch.{rows_of};
-ghost use Rattle.grpc_frame.specs.Ends.{CanFail, CountsFailure, FailsByTransport, Writes};
+ghost use Rattle.grpc_frame.specs.Ends.{CanFail, CountsFailure, FailsByTransport};
 ghost use Rattle.grpc_frame.specs.Sending.{Sends};
-ghost use Rattle.row_text.specs.Records.{comma_writer, records_of, stands_in_quotes};
+ghost use Rattle.row_text.specs.Records.{comma_writer, stands_in_quotes};
 
 use crate::format::{Cell, RowFormat};
 use crate::text::{Spelling, send_spelled};
 use crate::value::{TypedValue, ValueFormat, send_plain_day, send_value, type_shown};
-use crate::walk::write_all;
-use arrays::Batch;
-use arrow_schema::{Field, Schema};
+use arrow_types::Field;
 use grpc_frame::{Outbox, Output};
 use scan_base::{Fault, ValueRef};
-use std::alloc::Global;
 
-/// Writes the record of the columns' names, and a record for each row of the batches, as CSV. At
-/// most 16,384 bytes wait for the next write; where memory for them is refused each part is a
-/// write.
-///
-/// # Errors
-///
-/// `Fault::Transport` where a write failed. It is counted, and a beginning of the records is
-/// written.
-pub fn write_csv<W: Output>(
-    alloc: Global,
-    schema: &Schema,
-    batches: &[Batch],
-    output: &mut W,
-) -> Result<(), Fault>
-    requires { CanFail (W.failures output.old) }
-    ensures bytes { Writes result (W.contents output.old) (W.contents output.new)
-        (records_of schema.now (flat_map rows_of batches.now)) }
-    ensures counted { CountsFailure result (W.failures output.old) (W.failures output.new) }
-    ensures fault { FailsByTransport result }
-{
-    let fields = schema.fields.as_slice();
-    write_all(alloc, &Records { fields }, fields, batches, output)
-}
-
-// Records of columns of these fields.
+/// Records of columns of these fields.
 #[derive(Clone, Copy)]
-struct Records<'a> {
-    fields: &'a [Field],
+pub struct CsvFormat<'a> {
+    pub fields: &'a [Field],
 }
 
-impl<'a> ValueFormat for Records<'a> {
+impl<'a> ValueFormat for CsvFormat<'a> {
     ghost use Rattle.row_text.specs.Records.{csv_notation};
 
     ghost notation = { csv_notation };
@@ -83,7 +54,7 @@ impl<'a> ValueFormat for Records<'a> {
     }
 }
 
-impl<'a> RowFormat for Records<'a> {
+impl<'a> RowFormat for CsvFormat<'a> {
     ghost use Rattle.row_text.specs.Records.{csv_format};
 
     ghost format = { λ records. csv_format records.fields.now };
@@ -147,9 +118,9 @@ fn stands_in_quotes(text: &[u8]) -> bool
 }
 
 // The spelling of a text in quotes, which stand twice in it.
-struct Doubled;
+struct DoubleQuotes;
 
-impl Spelling for Doubled {
+impl Spelling for DoubleQuotes {
     ghost use Rattle.row_text.specs.inside.Quotes.{doubled_byte};
 
     ghost spelled = { doubled_byte };
@@ -171,6 +142,6 @@ fn send_quoted<W: Output>(writer: &mut W, outbox: &mut Outbox, text: &str) -> Re
     ensures fault { FailsByTransport result }
 {
     outbox.send_part(writer, b"\"")?;
-    send_spelled(&Doubled, writer, outbox, text)?;
+    send_spelled(&DoubleQuotes, writer, outbox, text)?;
     outbox.send_part(writer, b"\"")
 }

@@ -6,20 +6,20 @@ ghost use Rattle.grpc_frame.specs.Ends.{CanFail, CountsFailure, FailsByTransport
 ghost use Rattle.grpc_frame.specs.Sending.{Sends};
 ghost use Rattle.row_text.specs.Rows.{Format};
 
-use arrow_schema::Field;
+use arrow_types::Field;
 use grpc_frame::{Outbox, Output};
 use scan_base::{Fault, ValueRef};
 
 /// A value in a row: the number of its column, how many values the row has, and what it is.
 #[derive(Clone, Copy)]
-pub(crate) struct Cell<'a> {
+pub struct Cell<'a> {
     pub number: usize,
     pub count: usize,
     pub value: ValueRef<'a>,
 }
 
 /// How rows are written.
-pub(crate) trait RowFormat {
+pub trait RowFormat {
     // How they are.
     ghost format: { Self → Format };
 

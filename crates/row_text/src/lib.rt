@@ -16,6 +16,8 @@ mod value;
 mod walk;
 mod widths;
 
-pub use crate::csv_format::write_csv;
-pub use crate::line_format::{write_names, write_rows};
+pub use crate::csv_format::CsvFormat;
+pub use crate::format::{Cell, RowFormat};
+pub use crate::line_format::{Lines, write_names};
 pub use crate::table::write_table;
+pub use crate::walk::{send_batch, send_names};

@@ -1,43 +1,18 @@
 //! Rows as lines, and lines of names.
 
 ghost use Rattle.std.specs.List.{flat_map};
-ghost use Rattle.arrays.specs.Batch.{rows_of};
 ghost use Rattle.grpc_frame.specs.Ends.{CanFail, CountsFailure, FailsByTransport, Writes};
 ghost use Rattle.grpc_frame.specs.Sending.{Sends};
-ghost use Rattle.row_text.specs.Lines.{lines_of, name_line};
+ghost use Rattle.row_text.specs.Lines.{name_line};
 
 use crate::format::{Cell, RowFormat};
-use crate::text::{Escaped, Spelling, send_spelled};
+use crate::text::{BackslashEscapes, Spelling, send_spelled};
 use crate::value::{TypedValue, ValueFormat, send_value, type_shown};
-use crate::walk::write_all;
-use arrays::Batch;
-use arrow_schema::{Field, Schema};
+use arrow_types::Field;
 use calendar::date_shown;
 use grpc_frame::{Outbox, Output};
 use scan_base::{Fault, Text};
 use std::alloc::Global;
-
-/// Writes the line of the columns' names, and a line for each row of the batches. At most 16,384
-/// bytes wait for the next write; where memory for them is refused each part is a write.
-///
-/// # Errors
-///
-/// `Fault::Transport` where a write failed. It is counted, and a beginning of the lines is written.
-pub fn write_rows<W: Output>(
-    alloc: Global,
-    schema: &Schema,
-    batches: &[Batch],
-    output: &mut W,
-) -> Result<(), Fault>
-    requires { CanFail (W.failures output.old) }
-    ensures bytes { Writes result (W.contents output.old) (W.contents output.new)
-        (lines_of schema.now (flat_map rows_of batches.now)) }
-    ensures counted { CountsFailure result (W.failures output.old) (W.failures output.new) }
-    ensures fault { FailsByTransport result }
-{
-    let fields = schema.fields.as_slice();
-    write_all(alloc, &Lines { fields }, fields, batches, output)
-}
 
 /// Writes a line for each name. At most 16,384 bytes wait for the next write; where memory for them
 /// is refused each part is a write.
@@ -67,14 +42,14 @@ fn send_name_line<W: Output>(writer: &mut W, outbox: &mut Outbox, name: &str) ->
     ensures counted { CountsFailure result (W.failures writer.old) (W.failures writer.new) }
     ensures fault { FailsByTransport result }
 {
-    send_spelled(&Escaped, writer, outbox, name)?;
+    send_spelled(&BackslashEscapes, writer, outbox, name)?;
     outbox.send_part(writer, b"\n")
 }
 
-// Lines of columns of these fields.
+/// Lines of columns of these fields.
 #[derive(Clone, Copy)]
-struct Lines<'a> {
-    fields: &'a [Field],
+pub struct Lines<'a> {
+    pub fields: &'a [Field],
 }
 
 impl<'a> ValueFormat for Lines<'a> {
@@ -97,7 +72,7 @@ impl<'a> ValueFormat for Lines<'a> {
         text: &str,
     ) -> Result<(), Fault> {
         outbox.send_part(writer, b"'")?;
-        send_spelled(&Quoted, writer, outbox, text)?;
+        send_spelled(&SingleQuotes, writer, outbox, text)?;
         outbox.send_part(writer, b"'")
     }
 
@@ -135,7 +110,7 @@ impl<'a> RowFormat for Lines<'a> {
         _number: usize,
         field: &Field,
     ) -> Result<(), Fault> {
-        send_spelled(&Escaped, writer, outbox, field.name.as_str())
+        send_spelled(&BackslashEscapes, writer, outbox, field.name.as_str())
     }
 
     fn send_cell<W: Output>(
@@ -151,9 +126,9 @@ impl<'a> RowFormat for Lines<'a> {
 }
 
 // The spelling of a text in single quotes, which stand twice in it.
-struct Quoted;
+struct SingleQuotes;
 
-impl Spelling for Quoted {
+impl Spelling for SingleQuotes {
     ghost use Rattle.row_text.specs.Lines.{quoted_byte};
 
     ghost spelled = { quoted_byte };
@@ -161,7 +136,7 @@ impl Spelling for Quoted {
     fn escape(&self, byte: u8) -> Option<&'static [u8]> {
         match byte {
             b'\'' => Some(b"''"),
-            _ => Escaped.escape(byte),
+            _ => BackslashEscapes.escape(byte),
         }
     }
 }

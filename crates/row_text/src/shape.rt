@@ -4,7 +4,7 @@ ghost use Rattle.std.specs.Prelude.{◌≡◌};
 ghost use Rattle.row_text.specs.Tables.{before, behind, blanks, dashes, stands_right};
 
 use crate::widths::MOST_WIDTH;
-use arrow_schema::DataType;
+use arrow_types::DataType;
 
 // As many as the widest column has.
 const BLANKS: &[u8] = b"                                        ";

@@ -2,19 +2,19 @@
 
 ghost use Rattle.std.specs.Prelude.{◌≡◌, All, length};
 ghost use Rattle.std.specs.List.{flat_map};
-ghost use Rattle.arrow_schema.specs.Schema.{IsSchema};
+ghost use Rattle.arrow_types.specs.Schema.{IsSchema};
 ghost use Rattle.arrays.specs.Batch.{rows_of};
-ghost use Rattle.arrays.specs.Typed.{AreOfTypes};
+ghost use Rattle.arrays.specs.TypedLayouts.{AreOfTypes};
 ghost use Rattle.grpc_frame.specs.Ends.{CanFail, CountsFailure, FailsByTransport, Writes};
 ghost use Rattle.grpc_frame.specs.Sending.{Sends};
 ghost use Rattle.row_text.specs.Tables.{count_line, rule_cell, rule_line, table_of};
 
 use crate::shape::dashes;
-use crate::table_format::Aligned;
+use crate::table_format::TableFormat;
 use crate::walk::{send_batches, send_names};
 use crate::widths::widths_of;
 use arrays::Batch;
-use arrow_schema::Schema;
+use arrow_types::Schema;
 use grpc_frame::{Outbox, Output};
 use itoa::Buffer;
 use scan_base::Fault;
@@ -45,7 +45,7 @@ pub fn write_table<W: Output>(
     let fields = schema.fields.as_slice();
     let made = widths_of(fields, batches);
     let widths = made.as_slice();
-    let format = Aligned { fields, widths };
+    let format = TableFormat { fields, widths };
     let mut outbox = Outbox::new(alloc);
     send_names(&format, output, &mut outbox, fields)?;
     send_rule(output, &mut outbox, widths)?;

@@ -5,21 +5,21 @@ ghost use Rattle.row_text.specs.Tables.{shape_of};
 
 use crate::format::{Cell, RowFormat};
 use crate::shape::{Shape, before, behind};
-use crate::text::{Escaped, send_spelled};
+use crate::text::{BackslashEscapes, send_spelled};
 use crate::value::{TypedValue, ValueFormat, send_plain_day, send_value, type_shown};
 use crate::widths::{text_width, value_width};
-use arrow_schema::Field;
+use arrow_types::Field;
 use grpc_frame::{Outbox, Output};
 use scan_base::Fault;
 
 /// Rows in columns of these fields and widths.
 #[derive(Clone, Copy)]
-pub(crate) struct Aligned<'a> {
+pub(crate) struct TableFormat<'a> {
     pub fields: &'a [Field],
     pub widths: &'a [usize],
 }
 
-impl<'a> Aligned<'a> {
+impl<'a> TableFormat<'a> {
     // The column of a number.
     fn shape(&self, number: usize) -> Shape
         ensures { result ≡ shape_of self.now.fields.now self.now.widths.now number }
@@ -30,7 +30,7 @@ impl<'a> Aligned<'a> {
     }
 }
 
-impl<'a> ValueFormat for Aligned<'a> {
+impl<'a> ValueFormat for TableFormat<'a> {
     ghost use Rattle.row_text.specs.Tables.{table_notation};
 
     ghost notation = { table_notation };
@@ -49,7 +49,7 @@ impl<'a> ValueFormat for Aligned<'a> {
         outbox: &mut Outbox,
         text: &str,
     ) -> Result<(), Fault> {
-        send_spelled(&Escaped, writer, outbox, text)
+        send_spelled(&BackslashEscapes, writer, outbox, text)
     }
 
     fn send_day<W: Output>(
@@ -62,7 +62,7 @@ impl<'a> ValueFormat for Aligned<'a> {
     }
 }
 
-impl<'a> RowFormat for Aligned<'a> {
+impl<'a> RowFormat for TableFormat<'a> {
     ghost use Rattle.row_text.specs.Tables.{table_format};
 
     ghost format = { λ aligned. table_format aligned.fields.now aligned.widths.now };
@@ -90,7 +90,7 @@ impl<'a> RowFormat for Aligned<'a> {
         let name = field.name.as_str();
         let taken = text_width(name);
         outbox.send_part(writer, before(shape, taken))?;
-        send_spelled(&Escaped, writer, outbox, name)?;
+        send_spelled(&BackslashEscapes, writer, outbox, name)?;
         outbox.send_part(writer, behind(shape, taken))
     }
 

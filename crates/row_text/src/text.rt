@@ -20,9 +20,9 @@ pub(crate) trait Spelling {
 }
 
 /// A backslash, a tab, LF and CR are written as a backslash and a letter.
-pub(crate) struct Escaped;
+pub(crate) struct BackslashEscapes;
 
-impl Spelling for Escaped {
+impl Spelling for BackslashEscapes {
     ghost use Rattle.row_text.specs.Lines.{escaped_byte};
 
     ghost spelled = { escaped_byte };

@@ -6,7 +6,7 @@ ghost use Rattle.grpc_frame.specs.Ends.{CanFail, CountsFailure, FailsByTransport
 ghost use Rattle.grpc_frame.specs.Sending.{Sends};
 ghost use Rattle.row_text.specs.Rows.{Notation, plain_day, type_shown, value_text};
 
-use arrow_schema::{DataType, Field};
+use arrow_types::{DataType, Field};
 use calendar::date_of;
 use grpc_frame::{Outbox, Output};
 use itoa::Buffer;

@@ -3,16 +3,15 @@
 ghost use Rattle.std.specs.Prelude.{◌<◌, All};
 ghost use Rattle.std.specs.List.{flat_map};
 ghost use Rattle.arrays.specs.Batch.{row_of, rows_of};
-ghost use Rattle.grpc_frame.specs.Ends.{CanFail, CountsFailure, FailsByTransport, Writes};
+ghost use Rattle.grpc_frame.specs.Ends.{CanFail, CountsFailure, FailsByTransport};
 ghost use Rattle.grpc_frame.specs.Sending.{Sends};
-ghost use Rattle.row_text.specs.Rows.{names_row, rows_text, values_row};
+ghost use Rattle.row_text.specs.Rows.{names_row, values_row};
 
 use crate::format::{Cell, RowFormat};
 use arrays::{Batch, Cells, Column};
-use arrow_schema::Field;
+use arrow_types::Field;
 use grpc_frame::{Outbox, Output};
 use scan_base::Fault;
-use std::alloc::Global;
 
 // Columns, and the place of a row in them.
 #[derive(Clone, Copy)]
@@ -21,36 +20,12 @@ struct RowAt<'a> {
     place: usize,
 }
 
-/// Writes the row of the columns' names, and then the rows of the batches.
-///
-/// # Errors
-///
-/// `Fault::Transport` where a write failed. It is counted, and a beginning of them is written.
-pub(crate) fn write_all<F: RowFormat, W: Output>(
-    alloc: Global,
-    format: &F,
-    fields: &[Field],
-    batches: &[Batch],
-    output: &mut W,
-) -> Result<(), Fault>
-    requires { CanFail (W.failures output.old) }
-    ensures bytes { Writes result (W.contents output.old) (W.contents output.new)
-        (rows_text (F.format format.now) fields.now (flat_map rows_of batches.now)) }
-    ensures counted { CountsFailure result (W.failures output.old) (W.failures output.new) }
-    ensures fault { FailsByTransport result }
-{
-    let mut outbox = Outbox::new(alloc);
-    send_names(format, output, &mut outbox, fields)?;
-    send_batches(format, output, &mut outbox, batches)?;
-    outbox.flush(output)
-}
-
 /// Sends the row of the columns' names.
 ///
 /// # Errors
 ///
 /// `Fault::Transport` where a write failed. It is counted.
-pub(crate) fn send_names<F: RowFormat, W: Output>(
+pub fn send_names<F: RowFormat, W: Output>(
     format: &F,
     writer: &mut W,
     outbox: &mut Outbox,
@@ -98,8 +73,12 @@ pub(crate) fn send_batches<F: RowFormat, W: Output>(
     Ok(())
 }
 
-// Sends the rows of a batch.
-fn send_batch<F: RowFormat, W: Output>(
+/// Sends the rows of a batch.
+///
+/// # Errors
+///
+/// `Fault::Transport` where a write failed. It is counted.
+pub fn send_batch<F: RowFormat, W: Output>(
     format: &F,
     writer: &mut W,
     outbox: &mut Outbox,

@@ -5,15 +5,15 @@ ghost use Rattle.std.specs.List.{count_by, flat_map};
 ghost use Rattle.scan_base.specs.Limits.{most_columns};
 ghost use Rattle.scan_base.specs.Value.{value_of};
 ghost use Rattle.scan_base.specs.declared.value.Value.TheVariants.{Int};
-ghost use Rattle.arrow_schema.specs.declared.data_type.DataType.TheVariants.{Date};
+ghost use Rattle.arrow_types.specs.declared.data_type.DataType.TheVariants.{Date};
 ghost use Rattle.arrays.specs.Batch.{rows_of};
 ghost use Rattle.arrays.specs.Column.{values_of};
-ghost use Rattle.row_text.specs.Tables.{column_of, column_width, greatest, is_escaped};
+ghost use Rattle.row_text.specs.Tables.{values_of_column, column_width, greatest, is_escaped};
 ghost use Rattle.row_text.specs.Tables.{text_width, value_width, widths_from};
 
 use arrays::{Batch, Cells, Column};
 use arrayvec::ArrayVec;
-use arrow_schema::{DataType, Field};
+use arrow_types::{DataType, Field};
 use calendar::date_of;
 use itoa::Buffer;
 use scan_base::ValueRef;
@@ -87,7 +87,8 @@ fn widest_of_column(data_type: DataType, column: &Column, start: usize) -> usize
 // How wide the column of a number is.
 fn column_width(field: &Field, number: usize, batches: &[Batch]) -> usize
     requires { All (λ batch. number < length batch.columns) batches.now }
-    ensures { result ≡ column_width field.now (column_of (flat_map rows_of batches.now) number) }
+    ensures { result
+        ≡ column_width field.now (values_of_column (flat_map rows_of batches.now) number) }
 {
     let mut widest = text_width(field.name.as_str());
     for batch in batches {

@@ -1,13 +1,13 @@
 -- A scan before its first batch.
 use Rattle.std.proofs.Common.{◌≡◌, ℕ, ◌+◌, ◌-◌, ◌==◌, true, List, [], ◌∷◌, ◌++◌, length, map, take, drop, unwrap_or, slice_get, Option, Some, None, option_map, inl, refl, sym, ap, ◌∙◌, subst, arith, length-append, get_or, if◌then◌else◌}
 use Rattle.std.specs.List.{flat_map, list_all, range_with_len, AllZip}
-use Rattle.arrow_schema.specs.declared.schema.Schema.{Schema}
+use Rattle.arrow_types.specs.declared.schema.Schema.{Schema}
 use Rattle.std.proofs.lemmas.Option.{slice_get-map}
 use Rattle.std.proofs.lemmas.List.Elements.{filter-append}
 use Rattle.std.proofs.lemmas.Simd.{map-map}
-use Rattle.arrow_schema.specs.Answer.{answered_from, copied_type, LieBehind, LiesAs}
-use Rattle.arrow_schema.specs.declared.data_type.DataType.{DataType}
-use Rattle.arrow_schema.specs.declared.data_type.DataType.TheVariants.{Utf8}
+use Rattle.arrow_types.specs.Answer.{answered_from, copied_type, LieBehind, LiesAs}
+use Rattle.arrow_types.specs.declared.data_type.DataType.{DataType}
+use Rattle.arrow_types.specs.declared.data_type.DataType.TheVariants.{Utf8}
 use Rattle.table_versions.specs.Table.{Row}
 use Rattle.typed_plan.specs.declared.plan.Columns.{Columns}
 use Rattle.typed_plan.specs.declared.plan.Columns.TheVariants as columns
@@ -15,20 +15,20 @@ use Rattle.typed_plan.specs.declared.plan.Aggregate.{Aggregate}
 use Rattle.typed_plan.specs.declared.plan.Aggregate.TheVariants.{Key, CountRows, Count, Sum}
 use Rattle.typed_plan.specs.declared.plan.Output.{Output}
 use Rattle.typed_plan.specs.declared.plan.Output.TheVariants.{Project, Groups}
-use Rattle.typed_plan.specs.Grouped.{Group}
-use Rattle.typed_plan.specs.Joined.{rows_between}
+use Rattle.typed_plan.specs.GroupedRows.{Group}
+use Rattle.typed_plan.specs.JoinedRows.{rows_between}
 use Rattle.arrays.specs.Batch.{rows_of}
 use Rattle.typed_plan.specs.Plan.{answered, groups_by, output_rows}
-use Rattle.typed_plan.specs.Typed.{IsTyped, type_at, types_taken, tree_types, output_types, item_type, is_grouping}
+use Rattle.typed_plan.specs.TypedPlans.{IsTyped, type_at, types_taken, tree_types, output_types, item_type, is_grouping}
 use Rattle.typed_plan.specs.View.{BoundAt, plan_of, tree_of}
 use Rattle.scan_exec.specs.Giving.{GivingAt}
 use Rattle.scan_exec.specs.Answering.{IsScan, Rise, answer_for, renumbered, scan_at}
-use Rattle.row_sources.specs.Begun.{IsBegun, tree_given}
+use Rattle.row_sources.specs.BegunRows.{IsBegun, tree_given}
 use Rattle.row_sources.specs.Showing.{cells}
-use Rattle.scan_exec.specs.Given.{given_of}
+use Rattle.scan_exec.specs.GivenRows.{given_of}
 use Rattle.row_sources.specs.Parts.{first_batches, further_rows, numbered_parts}
 use Rattle.rewrite.specs.Places.{rows_over}
-use Rattle.batch_skipping.specs.Opened.{batches_in, first_numbers, first_opened, further_numbers, further_opened, scans_of, where_parts}
+use Rattle.batch_skipping.specs.OpenedBatches.{batches_in, first_numbers, first_opened, further_numbers, further_opened, scans_of, where_parts}
 use Rattle.scan_exec.specs.Morsels.{of_first}
 use Rattle.row_sources.specs.Running.{RowsAt}
 use Rattle.scan_exec.specs.Scan.{IsBeginning}

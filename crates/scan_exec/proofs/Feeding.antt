@@ -14,12 +14,12 @@ use Rattle.scan_base.specs.Limits.{most_rows}
 use Rattle.scan_base.specs.declared.fault.Fault.{Fault}
 use Rattle.table_versions.specs.Table.{Row}
 use Rattle.table_versions.proofs.Rowing.{length-rows_of}
-use Rattle.grouping.specs.Fed.{GroupsAt, Holds, HasFed, IsNew, batch_at}
-use Rattle.row_sources.specs.Collected.{IsBatchOf}
+use Rattle.grouping.specs.FedRows.{GroupsAt, Holds, HasFed, IsNew, batch_at}
+use Rattle.row_sources.specs.CollectedRows.{IsBatchOf}
 use Rattle.row_sources.specs.Picking.{PickAt, IsPick, holds}
 use Rattle.row_sources.proofs.Giving.{filter-map}
 use Rattle.row_sources.proofs.JoinSteps.{as_many}
-use Rattle.scan_exec.specs.GroupWork.{AreGroupsOf, CanBeGrouped, GroupsOfAll, GroupsOfPart, GroupWorkAt, IsPartFed, IsPartOf, IsSamePart, PartAt, batches_between, part_at, passing, rows_between, rows_so_far}
+use Rattle.scan_exec.specs.GroupWork.{AreGroupsOf, CanBeGrouped, GroupsOfAll, GroupsOfPart, GroupWorkAt, IsPartFed, IsPartOf, IsSamePart, PartAt, batches_between, part_at, passing, row_count_between, rows_so_far}
 
 -- no more pass than there are
 pub passing_few : {X : Type 0} (test : X → Bool) (xs : List X) → length (filter test xs) ≤ length xs
@@ -101,22 +101,22 @@ module _ (batches : List BatchAt) (k : ℕ) (batch : BatchAt) (there : k < lengt
       ∙ ap (λ (some : List Row). flat_map rows_of (batches_between from k batches) ++ some) (append-nil (rows_of batch))
 
   -- so many rows they have
-  counted_more : (from : ℕ) → from ≤ k → rows_between from (k + 1) batches ≡ rows_between from k batches + batch.rows
+  counted_more : (from : ℕ) → from ≤ k → row_count_between from (k + 1) batches ≡ row_count_between from k batches + batch.rows
   counted_more from ordered =
       omega (arith, ap length (rows_more from ordered), length-append (flat_map rows_of (batches_between from k batches)) (rows_of batch), length-rows_of batch)
 
   -- and so many it has with those after it
-  counted_on : (to : ℕ) → k < to → rows_between k to batches ≡ batch.rows + rows_between (k + 1) to batches
+  counted_on : (to : ℕ) → k < to → row_count_between k to batches ≡ batch.rows + row_count_between (k + 1) to batches
   counted_on to more =
       let next : to - k ≡ suc (to - (k + 1)) = omega (arith, more) in
       let first : drop k batches ≡ batch ∷ drop (k + 1) batches = drop_more batches k batch there ∙ ap (λ (b : BatchAt). b ∷ drop (k + 1) batches) (sym is) in
-      let all : rows_between k to batches ≡ length (rows_of batch ++ flat_map rows_of (batches_between (k + 1) to batches)) =
+      let all : row_count_between k to batches ≡ length (rows_of batch ++ flat_map rows_of (batches_between (k + 1) to batches)) =
       ap (λ (n : ℕ). length (flat_map rows_of (take n (drop k batches)))) next
       ∙ ap (λ (some : List BatchAt). length (flat_map rows_of (take (suc (to - (k + 1))) some))) first in
       omega (arith, all, length-append (rows_of batch) (flat_map rows_of (batches_between (k + 1) to batches)), length-rows_of batch)
 
 -- no batch has no row
-pub none_counted : (from : ℕ) (batches : List BatchAt) → rows_between from from batches ≡ 0
+pub none_counted : (from : ℕ) (batches : List BatchAt) → row_count_between from from batches ≡ 0
 none_counted from batches = let none : from - from ≡ 0 = omega arith in rw none refl
 
 -- ---- a slice more
@@ -139,12 +139,12 @@ more_fed work some more next groups after is are has = record {
 -- a row of the next batch is still to be fed
 module _ (work : GroupWorkAt) (from at row to : ℕ) (groups : GroupsAt) (is : IsPartFed work from at row to groups) where
   abbrev rows_left : ℕ
-  rows_left = rows_between at to work.batches - row
+  rows_left = row_count_between at to work.batches - row
 
   -- where no row is left, all batches were fed
   pub none_left : at ≡ to → rows_left ≡ 0
   none_left whole =
-      let none : rows_between at to work.batches ≡ 0 = ap (λ (n : ℕ). rows_between at n work.batches) (sym whole) ∙ none_counted at work.batches in
+      let none : row_count_between at to work.batches ≡ 0 = ap (λ (n : ℕ). row_count_between at n work.batches) (sym whole) ∙ none_counted at work.batches in
       omega (arith, none)
 
   pub some_left : at < to → 0 < rows_left
@@ -197,13 +197,13 @@ module _ (work : GroupWorkAt) (from at row to : ℕ) (groups : GroupsAt) (is : I
         omega (arith, passed, long, first, all, counted_more work.batches at batch next_there has from is.begun, is.fed.held.count, is.can.few, next_row, within)
 
     -- so many rows are left before it and after it
-    left_on : rows_between at to work.batches ≡ batch.rows + rows_between (at + 1) to work.batches
+    left_on : row_count_between at to work.batches ≡ batch.rows + row_count_between (at + 1) to work.batches
     left_on = counted_on work.batches at batch next_there has to more
 
-    pub left_within : (end : ℕ) → row ≤ end → end ≤ batch.rows → rows_left ≡ (rows_between at to work.batches - end) + (end - row)
+    pub left_within : (end : ℕ) → row ≤ end → end ≤ batch.rows → rows_left ≡ (row_count_between at to work.batches - end) + (end - row)
     left_within end ordered within = omega (arith, ordered, within, left_on)
 
-    pub left_whole : (end : ℕ) → end ≡ batch.rows → rows_left ≡ (rows_between (at + 1) to work.batches - 0) + (end - row)
+    pub left_whole : (end : ℕ) → end ≡ batch.rows → rows_left ≡ (row_count_between (at + 1) to work.batches - 0) + (end - row)
     left_whole end all = omega (arith, all, next_row, left_on)
 
     -- and then it was
@@ -280,16 +280,6 @@ part_whole mine begin at row end left groups part is seen whole work from to of 
       refused = is.fed.refused;
       held = subst (Holds groups) rows is.fed.held;
     }
-
--- a part of what the same one is a part of
-pub still_part : (work : GroupWorkAt) (from to : ℕ) (before after : PartAt) → IsSamePart before after → IsPartOf work from to before → IsPartOf work from to after
-still_part work from to before after same is = record {
-  batches = same.batches ∙ is.batches;
-  types = same.types ∙ is.types;
-  keys = same.keys ∙ is.keys;
-  items = same.items ∙ is.items;
-  rows = same.rows ∙ is.rows;
-}
 
 -- a part that is begun
 pub begun_part : (work : GroupWorkAt) (from to left : ℕ) (part : PartAt) → part ≡ part_at work from to left → IsPartOf work from to part

@@ -6,24 +6,24 @@ use Rattle.std.specs.declared.alloc.AllocError.{AllocError}
 use Rattle.std.specs.Global.{Global}
 use Rattle.std.specs.Prelude.{Vec}
 use Rattle.std.proofs.lemmas.List.{map-append}
-use Rattle.arrow_schema.specs.Answer.{copied_type}
-use Rattle.arrow_schema.specs.declared.data_type.DataType.{DataType}
+use Rattle.arrow_types.specs.Answer.{copied_type}
+use Rattle.arrow_types.specs.declared.data_type.DataType.{DataType}
 use Rattle.arrays.specs.Batch.{BatchAt, rows_of}
-use Rattle.arrays.specs.Typed.{AreOf}
+use Rattle.arrays.specs.TypedLayouts.{AreOf}
 use Rattle.scan_base.specs.declared.fault.Fault.{Fault}
 use Rattle.table_versions.specs.Table.{Row}
 use Rattle.typed_plan.specs.declared.plan.Aggregate.{Aggregate}
 use Rattle.typed_plan.specs.Plan.{answered, groups_by}
-use Rattle.typed_plan.specs.Typed.{item_type}
-use Rattle.grouping.specs.Answers.{AnswersAt, Finishes, GivesAnswer, IsAnswerOf, IsOver, answer_types, answers_ahead}
-use Rattle.grouping.specs.Fed.{GroupsAt}
-use Rattle.scan_exec.specs.declared.grouped.MadeGroups.{MadeGroups}
-use Rattle.scan_exec.specs.declared.grouped.Stage.{Stage}
-use Rattle.scan_exec.specs.declared.grouped.Stage.TheVariants.{Waiting, Made}
-use Rattle.scan_exec.specs.declared.grouped.Wanted.{Wanted}
+use Rattle.typed_plan.specs.TypedPlans.{item_type}
+use Rattle.grouping.specs.Answers.{AnswersAt, Finishes, GivesAnswer, IsAnswerOf, HasFirstRows, answer_types, answers_ahead}
+use Rattle.grouping.specs.FedRows.{GroupsAt}
+use Rattle.scan_exec.specs.declared.grouped_rows.MadeGroups.{MadeGroups}
+use Rattle.scan_exec.specs.declared.grouped_rows.Stage.{Stage}
+use Rattle.scan_exec.specs.declared.grouped_rows.Stage.TheVariants.{Waiting, Made}
+use Rattle.scan_exec.specs.declared.grouped_rows.GroupSpec.{GroupSpec}
 use Rattle.scan_exec.specs.Giving.{GivingAt, GivingOn, GivesNext}
-use Rattle.row_sources.specs.Collected.{AreCollected}
-use Rattle.scan_exec.specs.Grouped.{AnswersAll, AreMade, IsAnswering, of_groups, wanted_rows, wanted_types}
+use Rattle.row_sources.specs.CollectedRows.{AreCollected}
+use Rattle.scan_exec.specs.GroupedRows.{AnswersAll, AreMade, IsAnswering, of_groups, wanted_rows, wanted_types}
 use Rattle.scan_exec.specs.GroupWork.{AreGroupsOf, GroupWorkAt, passing}
 use Rattle.row_sources.specs.Picking.{holds, pick_of}
 use Rattle.row_sources.specs.Running.{RowsAt, GoesOn}
@@ -35,7 +35,7 @@ abbrev types_answered : List DataType → List ℕ → List Aggregate → List D
 types_answered types keys items = map copied_type (map (item_type keys types) items)
 
 -- what is grouped to answer what is wanted
-abbrev pub wanted_work : Wanted → List BatchAt → GroupWorkAt
+abbrev pub wanted_work : GroupSpec → List BatchAt → GroupWorkAt
 wanted_work wanted batches = record {
   batches = batches;
   types = wanted.types.items;
@@ -44,7 +44,7 @@ wanted_work wanted batches = record {
   pick = pick_of wanted.picker;
 }
 
-module _ (wanted : Wanted) (batches : List BatchAt) (fed : GroupsAt) (is : AreGroupsOf (wanted_work wanted batches) (passing (pick_of wanted.picker) (flat_map rows_of batches)) fed) where
+module _ (wanted : GroupSpec) (batches : List BatchAt) (fed : GroupsAt) (is : AreGroupsOf (wanted_work wanted batches) (passing (pick_of wanted.picker) (flat_map rows_of batches)) fed) where
   -- they are grouped by what is wanted
   types_are : types_answered fed.types fed.keys fed.items ≡ wanted_types wanted
   types_are =
@@ -57,7 +57,7 @@ module _ (wanted : Wanted) (batches : List BatchAt) (fed : GroupsAt) (is : AreGr
   answers_all answers answer =
       let rows = passing (pick_of wanted.picker) (flat_map rows_of batches) in
       record {
-        over = subst (λ (some : List BatchAt). IsOver some answers) is.batches_are answer.over;
+        over = subst (λ (some : List BatchAt). HasFirstRows some answers) is.batches_are answer.over;
         types = answer.types ∙ types_are;
         rows = ap (λ (some : List BatchAt). answers_ahead some answers) (sym is.batches_are)
             ∙ answer.ahead rows is.held
@@ -74,7 +74,7 @@ module _ (wanted : Wanted) (batches : List BatchAt) (fed : GroupsAt) (is : AreGr
   finished (Err fault) finishes = tt
 
 -- of all rows that were collected
-pub are_made : (wanted : Wanted) (before after : RowsAt) (made : MadeGroups) → AreCollected before made.batches.items after →
+pub are_made : (wanted : GroupSpec) (before after : RowsAt) (made : MadeGroups) → AreCollected before made.batches.items after →
     AnswersAll made.batches.items wanted made.answers → AreMade before wanted made after
 are_made wanted before after made all answers = record {
   rows = answers.rows ∙ ap (wanted_rows wanted) all.rows;
@@ -89,11 +89,11 @@ abbrev of_none : Row → Option ℕ × Row
 of_none row = (None, row)
 
 -- where rows go on, so do their groups
-pub groups_on : (wanted : Wanted) (before after : RowsAt) (stage then : Stage) → GoesOn before after → GivingOn (of_groups before wanted stage) (of_groups after wanted then)
+pub groups_on : (wanted : GroupSpec) (before after : RowsAt) (stage then : Stage) → GoesOn before after → GivingOn (of_groups before wanted stage) (of_groups after wanted then)
 groups_on wanted before after stage then on = record { types = refl; batches = on.batches; opening = on.opening; opened = on.opened }
 
 -- the rows that were waited for are those of the answer
-pub made_ahead : (wanted : Wanted) (before after : RowsAt) (made : MadeGroups) → AreMade before wanted made after →
+pub made_ahead : (wanted : GroupSpec) (before after : RowsAt) (made : MadeGroups) → AreMade before wanted made after →
     (of_groups before wanted Waiting).ahead ≡ map of_none (answers_ahead made.batches.items made.answers)
 made_ahead wanted before after made is = ap (map of_none) (sym is.rows)
 
@@ -121,7 +121,7 @@ gives_answer before after batches answers then types ahead still on opened (Ok N
 gives_answer before after batches answers then types ahead still on opened (Err refused) gives = on
 
 -- and the answer goes on over the same batches
-pub gives_made : (rows : RowsAt) (wanted : Wanted) (before : GivingAt) (made then : MadeGroups) → IsAnswering wanted made → wanted_types wanted ≡ before.types →
+pub gives_made : (rows : RowsAt) (wanted : GroupSpec) (before : GivingAt) (made then : MadeGroups) → IsAnswering wanted made → wanted_types wanted ≡ before.types →
     before.ahead ≡ map of_none (answers_ahead made.batches.items made.answers) → GivingOn before (of_groups rows wanted (Made then)) →
     rows.opened ≡ before.batches → then.batches ≡ made.batches → (result : Result (Option BatchAt) AllocError) →
     GivesAnswer made.batches.items made.answers result then.answers → GivesNext before result (of_groups rows wanted (Made then))
@@ -130,14 +130,14 @@ gives_made rows wanted before made then is types ahead on opened same result giv
     (ap (λ (some : Vec BatchAt Global). map of_none (answers_ahead some.items then.answers)) same) on opened result gives
 
 -- where no group was answered the answer is as it was
-unmoved : (wanted : Wanted) (made then : MadeGroups) → IsAnswering wanted made → then.batches ≡ made.batches → then.answers ≡ made.answers → IsAnswering wanted then
+unmoved : (wanted : GroupSpec) (made then : MadeGroups) → IsAnswering wanted made → then.batches ≡ made.batches → then.answers ≡ made.answers → IsAnswering wanted then
 unmoved wanted made then is same still = record {
   over = rw (same, still) is.over;
   types = ap answer_types still ∙ is.types;
 }
 
 -- what holds of the answer then
-pub still_answering : (wanted : Wanted) (made then : MadeGroups) → IsAnswering wanted made → then.batches ≡ made.batches →
+pub still_answering : (wanted : GroupSpec) (made then : MadeGroups) → IsAnswering wanted made → then.batches ≡ made.batches →
     (result : Result (Option BatchAt) AllocError) → GivesAnswer made.batches.items made.answers result then.answers → IsAnswering wanted then
 still_answering wanted made then is same (Ok (Some batch)) gives =
     record { over = rw same gives.over; types = gives.types ∙ is.types }

@@ -3,34 +3,34 @@ use Rattle.std.proofs.Common.{◌≡◌, ◌≤◌, ℕ, List, length, map, take
 use Rattle.std.specs.Prelude.{Vec}
 use Rattle.std.specs.Global.{Global}
 use Rattle.std.proofs.lemmas.Simd.{map-map}
-use Rattle.arrow_schema.specs.Answer.{copied_type}
-use Rattle.arrow_schema.specs.declared.data_type.DataType.{DataType}
+use Rattle.arrow_types.specs.Answer.{copied_type}
+use Rattle.arrow_types.specs.declared.data_type.DataType.{DataType}
 use Rattle.scan_base.specs.Limits.{most_rows}
 use Rattle.table_versions.specs.Table.{Row}
 use Rattle.typed_plan.specs.declared.plan.Aggregate.{Aggregate}
 use Rattle.typed_plan.specs.declared.plan.Output.TheVariants.{Groups}
 use Rattle.typed_plan.specs.Plan.{answered, groups_by}
-use Rattle.typed_plan.specs.Typed.{HasOutput, item_type}
+use Rattle.typed_plan.specs.TypedPlans.{HasOutput, item_type}
 use Rattle.row_sources.specs.declared.picker.Picker.{Picker}
 use Rattle.row_sources.specs.declared.row_source.UnfilteredRows.{UnfilteredRows}
 use Rattle.row_sources.specs.RowSource.{SourceAt}
-use Rattle.row_sources.specs.Unfiltered.{IsUnfiltered}
-use Rattle.scan_exec.specs.declared.grouped.Stage.TheVariants.{Waiting}
-use Rattle.scan_exec.specs.declared.grouped.Wanted.{Wanted}
+use Rattle.row_sources.specs.UnfilteredRows.{IsUnfiltered}
+use Rattle.scan_exec.specs.declared.grouped_rows.Stage.TheVariants.{Waiting}
+use Rattle.scan_exec.specs.declared.grouped_rows.GroupSpec.{GroupSpec}
 use Rattle.scan_exec.specs.Answering.{answer_for}
-use Rattle.row_sources.specs.Collected.{plain_rows}
+use Rattle.row_sources.specs.CollectedRows.{plain_rows}
 use Rattle.scan_exec.specs.Giving.{GivingAt}
 use Rattle.scan_exec.specs.GroupWork.{passing}
-use Rattle.scan_exec.specs.Grouped.{IsGrouped, IsWanted, of_groups, wanted_rows, wanted_types}
+use Rattle.scan_exec.specs.GroupedRows.{IsGrouped, IsGroupSpec, of_groups, wanted_rows, wanted_types}
 use Rattle.row_sources.specs.Picking.{pick_of}
 
-module _ (source : SourceAt) (made : UnfilteredRows) (is : IsUnfiltered source made) (keys : List ℕ) (items : List Aggregate) (wanted : Wanted)
+module _ (source : SourceAt) (made : UnfilteredRows) (is : IsUnfiltered source made) (keys : List ℕ) (items : List Aggregate) (wanted : GroupSpec)
     (p : wanted.picker ≡ made.picker) (t : wanted.types ≡ made.types) (k : wanted.keys.items ≡ keys) (i : wanted.items.items ≡ items) where
   types_are : wanted.types.items ≡ source.rows.types
   types_are = ap (λ (types : Vec DataType Global). types.items) t ∙ is.types
 
   -- what is wanted names what is there
-  named : HasOutput (Groups keys items) source.rows.types → IsWanted wanted
+  named : HasOutput (Groups keys items) source.rows.types → IsGroupSpec wanted
   named has = record {
     has = rw (types_are, k, i) (record { keyed = has.0; typed = has.1 });
     pick = rw (p, types_are) is.pick;

@@ -5,11 +5,11 @@ use Rattle.std.specs.Option.{option_to_list}
 use Rattle.std.proofs.lemmas.Bool.{and_parts, cases_Bool, ltb-true}
 use Rattle.std.proofs.lemmas.List.Elements.{All-nil, All-cons, All-head, All-tail}
 use Rattle.std.proofs.lemmas.Option.{slice_get-map}
-use Rattle.arrow_schema.specs.declared.data_type.DataType.{DataType}
+use Rattle.arrow_types.specs.declared.data_type.DataType.{DataType}
 use Rattle.arrays.specs.Batch.{BatchAt, row_of, rows_of}
 use Rattle.arrays.specs.Column.{ColumnAt, IsColumn, slot_of}
-use Rattle.arrays.specs.Typed.{AreOf, AreOfTypes, IsOfType}
-use Rattle.batch_skipping.specs.Can.{can}
+use Rattle.arrays.specs.TypedLayouts.{AreOf, AreOfTypes, IsOfType}
+use Rattle.batch_skipping.specs.PredicateTruths.{can}
 use Rattle.batch_skipping.specs.Laws.{IsBatch}
 use Rattle.batch_skipping.proofs.InBatch.{skipped_rows_are_not_kept}
 use Rattle.batch_stats.specs.Columns.{stats_in}
@@ -17,18 +17,18 @@ use Rattle.scan_base.specs.declared.value.Value.{Value}
 use Rattle.scan_base.specs.declared.value.Value.TheVariants.{Null}
 use Rattle.scan_base.specs.Predicate.{Pred, cell_in, names_only}
 use Rattle.scan_base.specs.Truth.{keeps}
-use Rattle.table_versions.specs.Kept.{IsKept, Stands}
-use Rattle.table_versions.specs.Stored.{TableAt, table_of}
+use Rattle.table_versions.specs.KeptTables.{IsKept, Stands}
+use Rattle.table_versions.specs.StoredTables.{TableAt, table_of}
 use Rattle.table_versions.specs.Table.{Row}
 use Rattle.typed_plan.specs.declared.plan.Columns.{Columns}
 use Rattle.typed_plan.specs.declared.plan.Columns.TheVariants as columns
 use Rattle.typed_plan.specs.Plan.{is_true, taken}
-use Rattle.typed_plan.specs.Typed.{has_columns, type_at, types_of}
+use Rattle.typed_plan.specs.TypedPlans.{has_columns, type_at, types_of}
 use Rattle.typed_plan.proofs.Numbered.{truth_of-map}
 use Rattle.rewrite.specs.Conjuncts.{all_true, is_between}
-use Rattle.rewrite.specs.Pushed.{moved}
-use Rattle.batch_skipping.specs.Chosen.{are_within, columns_at, listed}
-use Rattle.batch_skipping.specs.Opened.{batch_can, can_hold, given_columns, given_width}
+use Rattle.rewrite.specs.PushedFilters.{moved}
+use Rattle.batch_skipping.specs.ChosenColumns.{are_within, columns_at, listed}
+use Rattle.batch_skipping.specs.OpenedBatches.{batch_can, can_hold, given_columns, given_width}
 use Rattle.row_sources.proofs.Narrowing.{there_at, one_of}
 use Rattle.scan_exec.proofs.NarrowGiven.{through}
 use Rattle.scan_exec.proofs.NarrowLaw.{Holds}
@@ -144,10 +144,6 @@ module _ (types : List DataType) (batch : BatchAt) (is : IsBatch types batch) (f
           one_or_rest (inl may) all =
               let later = rest (sym (ap (λ (b : Bool). b && list_all (λ part. (can (λ number. stats_in batch.columns (number - first)) part).can_true) (filter (names_only (is_between first width)) parts)) may) ∙ all) in
               both_false (test p) (list_all test (filter (names_only (is_between first width)) parts)) later
-
--- one fails, so not all are true
-all_true_is : (needs : List (Pred ℕ)) (row : Row) → all_true needs row ≡ list_all (λ p. is_true p row) needs
-all_true_is needs row = refl
 
 moved_all : (first : ℕ) (needs : List (Pred ℕ)) (row : Row) → list_all (λ p. is_true p row) (map (moved first) needs) ≡ list_all (λ p. is_true (moved first p) row) needs
 moved_all first [] row = refl

@@ -4,27 +4,23 @@ use Rattle.std.specs.List.{fold, list_all}
 use Rattle.std.proofs.lemmas.Bool.{ltb-true, lt-ltb, and_parts, and_from}
 use Rattle.std.proofs.lemmas.List.{map-append, get_or_append_left, get_or-map, length-map}
 use Rattle.std.proofs.lemmas.List.Folds.{list_all-append}
-use Rattle.arrow_schema.specs.Answer.{copied_type}
-use Rattle.arrow_schema.specs.declared.data_type.DataType.{DataType}
+use Rattle.arrow_types.specs.Answer.{copied_type}
+use Rattle.arrow_types.specs.declared.data_type.DataType.{DataType}
 use Rattle.scan_base.specs.Predicate.{cell_in}
 use Rattle.scan_base.specs.declared.value.Value.{Value}
 use Rattle.table_versions.specs.Table.{Row}
 use Rattle.typed_plan.specs.declared.plan.Aggregate.{Aggregate}
 use Rattle.typed_plan.specs.declared.plan.Aggregate.TheVariants.{Key, CountRows, Count, Sum}
 use Rattle.typed_plan.specs.declared.plan.Output.TheVariants.{Groups}
-use Rattle.typed_plan.specs.Grouped.{Group, same_key, same_value, with_row}
+use Rattle.typed_plan.specs.GroupedRows.{Group, same_key, same_value, with_row}
 use Rattle.typed_plan.specs.Plan.{answered, groups_by}
-use Rattle.typed_plan.specs.Typed.{has_item, item_type, type_at}
-use Rattle.batch_skipping.specs.Chosen.{are_within}
+use Rattle.typed_plan.specs.TypedPlans.{has_item, item_type, type_at}
+use Rattle.batch_skipping.specs.ChosenColumns.{are_within}
 use Rattle.row_sources.specs.Running.{RowsAt}
 use Rattle.row_sources.proofs.Cells.{cell-map, within_at}
 use Rattle.scan_exec.specs.Answering.{answer_for}
-use Rattle.scan_exec.specs.Different.{KeyedBy, column_at, item_by}
+use Rattle.scan_exec.specs.DistinctItems.{KeyedBy, column_at, item_by}
 use Rattle.scan_exec.specs.Giving.{GivingAt}
-
--- of no key
-pub none_keyed : KeyedBy [] [] []
-none_keyed = record { each = refl; there = refl; among = λ test h. refl }
 
 -- ---- a part more
 

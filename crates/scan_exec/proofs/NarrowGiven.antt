@@ -8,17 +8,17 @@ use Rattle.std.proofs.lemmas.List.Elements.{filter-append}
 use Rattle.arrays.specs.Batch.{BatchAt, rows_of}
 use Rattle.scan_base.specs.Predicate.{Pred, cell_in}
 use Rattle.table_versions.specs.Standing.{rows_before}
-use Rattle.table_versions.specs.Stored.{TableAt, table_of}
+use Rattle.table_versions.specs.StoredTables.{TableAt, table_of}
 use Rattle.table_versions.specs.Table.{Row}
 use Rattle.typed_plan.specs.declared.plan.Columns.{Columns}
 use Rattle.typed_plan.specs.declared.plan.Columns.TheVariants as columns
-use Rattle.typed_plan.specs.Joined.{rows_between}
+use Rattle.typed_plan.specs.JoinedRows.{rows_between}
 use Rattle.typed_plan.specs.Plan.{taken}
 use Rattle.rewrite.specs.Conjuncts.{all_true}
-use Rattle.batch_skipping.specs.Chosen.{are_within}
+use Rattle.batch_skipping.specs.ChosenColumns.{are_within}
 use Rattle.row_sources.specs.Parts.{numbered_parts, parts}
 use Rattle.batch_skipping.specs.Narrow.{batches_at, narrowed, narrowed_from, narrowed_to}
-use Rattle.batch_skipping.specs.Opened.{has_row_in}
+use Rattle.batch_skipping.specs.OpenedBatches.{has_row_in}
 use Rattle.table_versions.proofs.Rowing.{length-rows_of, rows-cons}
 use Rattle.row_sources.proofs.Batched.{none_behind, none_between as no_rows}
 use Rattle.row_sources.proofs.Narrowing.{there_at}

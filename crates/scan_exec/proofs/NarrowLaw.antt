@@ -5,32 +5,32 @@ use Rattle.std.specs.Option.{option_to_list}
 use Rattle.std.proofs.lemmas.Bool.{and_parts, ltb-true}
 use Rattle.std.proofs.lemmas.List.{length-map, map-append}
 use Rattle.std.proofs.lemmas.List.Elements.{All-head, All-tail}
-use Rattle.arrow_schema.specs.declared.schema.Schema.{Schema}
+use Rattle.arrow_types.specs.declared.schema.Schema.{Schema}
 use Rattle.arrays.specs.Batch.{BatchAt, rows_of}
-use Rattle.arrays.specs.Typed.{AreOfTypes}
+use Rattle.arrays.specs.TypedLayouts.{AreOfTypes}
 use Rattle.scan_base.specs.Predicate.{Pred}
-use Rattle.table_versions.specs.Kept.{IsKept}
+use Rattle.table_versions.specs.KeptTables.{IsKept}
 use Rattle.table_versions.specs.Standing.{rows_before}
-use Rattle.table_versions.specs.Stored.{TableAt, has_rows, table_of}
+use Rattle.table_versions.specs.StoredTables.{TableAt, has_rows, table_of}
 use Rattle.table_versions.specs.Table.{Row}
 use Rattle.typed_plan.specs.declared.plan.Columns.{Columns}
 use Rattle.typed_plan.specs.declared.plan.Columns.TheVariants as columns
 use Rattle.typed_plan.specs.declared.plan.Output.{Output}
 use Rattle.typed_plan.specs.declared.plan.Output.TheVariants.{Project, Groups}
-use Rattle.typed_plan.specs.Held.{tree_schemas}
-use Rattle.typed_plan.specs.Joined.{rows_between}
+use Rattle.typed_plan.specs.HeldTables.{tree_schemas}
+use Rattle.typed_plan.specs.JoinedRows.{rows_between}
 use Rattle.typed_plan.specs.Plan.{Tree, output_rows, taken}
-use Rattle.typed_plan.specs.Typed.{has_columns, is_grouping}
+use Rattle.typed_plan.specs.TypedPlans.{has_columns, is_grouping}
 use Rattle.typed_plan.specs.View.{BoundAt, tree_of}
 use Rattle.rewrite.specs.Laws.{AreWide, SkippingKeepsRows}
 use Rattle.rewrite.specs.Places.{rows_over}
-use Rattle.scan_exec.specs.Answering.{number_in, renumbered}
+use Rattle.scan_exec.specs.Answering.{table_number, renumbered}
 use Rattle.row_sources.specs.Parts.{first_batches, further_rows, numbered_parts}
-use Rattle.scan_exec.specs.Given.{given_of}
+use Rattle.scan_exec.specs.GivenRows.{given_of}
 use Rattle.batch_skipping.specs.Narrow.{BeginsInFirst, batches_at, narrowed, narrowed_from, narrowed_to}
 use Rattle.row_sources.specs.OpenedTables.{narrow_all}
-use Rattle.rewrite.specs.Same.{StandsFor}
-use Rattle.batch_skipping.specs.Opened.{batch_can, batches_in, given_width, has_row_in, numbers_behind, place_opened, scans_of, where_parts}
+use Rattle.rewrite.specs.SameRows.{StandsFor}
+use Rattle.batch_skipping.specs.OpenedBatches.{batch_can, batches_in, given_width, has_row_in, numbers_behind, place_opened, scans_of, where_parts}
 use Rattle.scan_exec.proofs.NarrowGiven.{all_same, none_in, range_same, through}
 use Rattle.row_sources.proofs.BeginTree.{fields_wide}
 use Rattle.row_sources.proofs.Narrowing.{all_at, at_many, filled_each, one_of, there_at}
@@ -241,32 +241,32 @@ module _ (old new : BoundAt) (from to : ℕ) (some : Columns) (scans : List Colu
       ≡ flat_map (λ (part : ℕ × List Row). map (λ row. (Some part.0, row)) (give part.1)) (numbered_parts from to table.batches)
   rows_law columns_out e =
       renumber_parts firsts give_new (numbered_parts a b (batches_at numbers table.batches))
-      ∙ narrow_from from to table.batches make_new 0 0 a b (number_in firsts) numbers (λ j h. name numbers j) in_order refl refl
+      ∙ narrow_from from to table.batches make_new 0 0 a b (table_number firsts) numbers (λ j h. name numbers j) in_order refl refl
       ∙ made_same numbers
       ∙ sym (whole_made from to table.batches make (λ i. has_row_in from to table.batches i && batch_can parts 0 some table i) (make_none columns_out e))
     where
-      name : (ns : List ℕ) (j : ℕ) → number_in (map (λ number. (0, number)) ns) (0 + j) ≡ get_or ns j 0
-      name ns j = let e : 0 + j ≡ j = omega arith in ap (number_in (map (λ number. (0, number)) ns)) e ∙ each ns j
+      name : (ns : List ℕ) (j : ℕ) → table_number (map (λ number. (0, number)) ns) (0 + j) ≡ get_or ns j 0
+      name ns j = let e : 0 + j ≡ j = omega arith in ap (table_number (map (λ number. (0, number)) ns)) e ∙ each ns j
         where
-          each : (ns : List ℕ) (j : ℕ) → number_in (map (λ number. (0, number)) ns) j ≡ get_or ns j 0
+          each : (ns : List ℕ) (j : ℕ) → table_number (map (λ number. (0, number)) ns) j ≡ get_or ns j 0
           each [] zero = refl
           each [] (suc j) = refl
           each (n ∷ ns) zero = refl
           each (n ∷ ns) (suc j) = each ns j
 
       renumber_rows : (front : List (ℕ × ℕ)) (i : ℕ) (rows : List Row) →
-          map (renumbered front) (map (λ row. (Some i, row)) rows) ≡ map (λ row. (Some (number_in front i), row)) rows
+          map (renumbered front) (map (λ row. (Some i, row)) rows) ≡ map (λ row. (Some (table_number front i), row)) rows
       renumber_rows front i [] = refl
-      renumber_rows front i (row ∷ rows) = ap (λ (rest : List (Option ℕ × Row)). (Some (number_in front i), row) ∷ rest) (renumber_rows front i rows)
+      renumber_rows front i (row ∷ rows) = ap (λ (rest : List (Option ℕ × Row)). (Some (table_number front i), row) ∷ rest) (renumber_rows front i rows)
 
       renumber_parts : (front : List (ℕ × ℕ)) (made : List Row → List Row) (lists : List (ℕ × List Row)) →
           map (renumbered front) (flat_map (λ (part : ℕ × List Row). map (λ row. (Some part.0, row)) (made part.1)) lists)
-          ≡ flat_map (λ (part : ℕ × List Row). map (λ row. (Some (number_in front part.0), row)) (made part.1)) lists
+          ≡ flat_map (λ (part : ℕ × List Row). map (λ row. (Some (table_number front part.0), row)) (made part.1)) lists
       renumber_parts front made [] = refl
       renumber_parts front made (part ∷ lists) =
           map-append (renumbered front) (map (λ row. (Some part.0, row)) (made part.1)) (flat_map (λ (one : ℕ × List Row). map (λ row. (Some one.0, row)) (made one.1)) lists)
           ∙ ap (λ (rest : List (Option ℕ × Row)). map (renumbered front) (map (λ row. (Some part.0, row)) (made part.1)) ++ rest) (renumber_parts front made lists)
-          ∙ ap (λ (rows : List (Option ℕ × Row)). rows ++ flat_map (λ (one : ℕ × List Row). map (λ row. (Some (number_in front one.0), row)) (made one.1)) lists) (renumber_rows front part.0 (made part.1))
+          ∙ ap (λ (rows : List (Option ℕ × Row)). rows ++ flat_map (λ (one : ℕ × List Row). map (λ row. (Some (table_number front one.0), row)) (made one.1)) lists) (renumber_rows front part.0 (made part.1))
 
   abbrev given_with : Bool → List TableAt → (List Row → List Row) → ℕ → ℕ → List (Option ℕ × Row)
   given_with grouped all made first last =

@@ -1,27 +1,27 @@
 -- A scan over the batches that a plan opens.
 use Rattle.std.proofs.Common.{◌≡◌, ◌≤◌, ℕ, true, All, List, [], ◌∷◌, ◌++◌, length, map, refl, sym, ap, ◌∙◌, subst, arith}
 use Rattle.std.specs.List.{flat_map, range_with_len}
-use Rattle.arrow_schema.specs.declared.schema.Schema.{Schema}
+use Rattle.arrow_types.specs.declared.schema.Schema.{Schema}
 use Rattle.arrays.specs.Batch.{rows_of}
 use Rattle.scan_base.specs.Limits.{most_rows}
 use Rattle.scan_base.specs.Predicate.{Pred}
-use Rattle.table_versions.specs.Kept.{IsKept}
-use Rattle.table_versions.specs.Stored.{TableAt, table_of}
+use Rattle.table_versions.specs.KeptTables.{IsKept}
+use Rattle.table_versions.specs.StoredTables.{TableAt, table_of}
 use Rattle.typed_plan.specs.declared.plan.Columns.{Columns}
-use Rattle.typed_plan.specs.Held.{tree_schemas}
+use Rattle.typed_plan.specs.HeldTables.{tree_schemas}
 use Rattle.typed_plan.specs.Plan.{Tree, scan, filtered, joined}
-use Rattle.typed_plan.specs.Typed.{IsTypedTree, has_columns}
+use Rattle.typed_plan.specs.TypedPlans.{IsTypedTree, has_columns}
 use Rattle.typed_plan.specs.View.{BoundAt, tree_of}
 use Rattle.rewrite.specs.Laws.{SkippingKeepsRows}
-use Rattle.batch_skipping.specs.declared.opened.OpenedList.{OpenedList}
+use Rattle.batch_skipping.specs.declared.opened_batches.OpenedList.{OpenedList}
 use Rattle.scan_exec.specs.Answering.{renumbered}
 use Rattle.row_sources.specs.Parts.{first_batches}
-use Rattle.scan_exec.specs.Given.{given_of}
-use Rattle.batch_skipping.specs.Listed.{AreLists, AreWhole}
+use Rattle.scan_exec.specs.GivenRows.{given_of}
+use Rattle.batch_skipping.specs.PlaceLists.{AreLists, AreWhole}
 use Rattle.batch_skipping.specs.Narrow.{BeginsInFirst, batches_at, narrowed_from, narrowed_to}
-use Rattle.batch_skipping.specs.Opened.{batches_in, first_numbers, given_width, first_opened, further_numbers, numbers_behind, opened_numbers, place_opened, scans_of, where_parts}
+use Rattle.batch_skipping.specs.OpenedBatches.{batches_in, first_numbers, given_width, first_opened, further_numbers, numbers_behind, opened_numbers, place_opened, scans_of, where_parts}
 use Rattle.row_sources.specs.OpenedTables.{CanAll, narrow_all}
-use Rattle.rewrite.specs.Same.{StandsFor}
+use Rattle.rewrite.specs.SameRows.{StandsFor}
 use Rattle.scan_exec.proofs.NarrowLaw.{Fit, Holds, batches_law, begins_law, each_law, given_law, narrow_bound, schemas_of}
 use Rattle.scan_exec.proofs.OpenedLists.{numbers_of}
 use Rattle.scan_exec.proofs.PlaceByPlace.{as_many_scans}

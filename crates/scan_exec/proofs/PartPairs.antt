@@ -3,7 +3,7 @@ use Rattle.std.proofs.Common.{◌≡◌, ◌<◌, ℕ, zero, suc, ◌+◌, ◌-�
 use Rattle.std.specs.List.{list_all}
 use Rattle.std.proofs.lemmas.Bool.{and_parts, eqb-true}
 use Rattle.std.proofs.lemmas.List.FromFn.{length-range_with_len}
-use Rattle.scan_exec.specs.Answering.{IsScan, number_in}
+use Rattle.scan_exec.specs.Answering.{IsScan, table_number}
 use Rattle.scan_exec.specs.Giving.{of_rows}
 use Rattle.scan_exec.specs.Morsels.{of_first}
 use Rattle.row_sources.specs.Running.{RowsAt}
@@ -23,7 +23,7 @@ get_drop (x ∷ xs) (suc k) i d h =
     ap (λ (n : ℕ). get_or (x ∷ xs) n d) e ∙ get_drop xs k i d (omega (arith, h))
 
 first_pair : (firsts : List (ℕ × ℕ)) (i : ℕ) → i < length firsts → list_all (λ (batch : ℕ × ℕ). batch.0 == 0) firsts ≡ true →
-    get_or firsts i (0, 0) ≡ (0, number_in firsts i)
+    get_or firsts i (0, 0) ≡ (0, table_number firsts i)
 first_pair [] i h all = absurd (omega (arith, h))
 first_pair (batch ∷ firsts) zero h all =
     let zero_is = eqb-true batch.0 0 (and_parts (batch.0 == 0) (list_all (λ (b : ℕ × ℕ). b.0 == 0) firsts) all).0 in
@@ -38,7 +38,7 @@ module _ (rows : RowsAt) (batches : List (ℕ × ℕ)) (further given : ℕ) (is
   pub batch_there : number < length rows.batches
   batch_there = omega (arith, first_there, length-drop further batches, ap length is.first, length-range_with_len 0 (length batches - further))
 
-  pub pair_is : (pair : ℕ × ℕ) → pair ≡ get_or batches (further + number) pair → pair ≡ (0, number_in (drop further batches) number)
+  pub pair_is : (pair : ℕ × ℕ) → pair ≡ get_or batches (further + number) pair → pair ≡ (0, table_number (drop further batches) number)
   pair_is pair e =
       let within : further + number < length batches = omega (arith, first_there, length-drop further batches) in
       e ∙ get_any batches (further + number) pair (0, 0) within ∙ get_drop batches further number (0, 0) within ∙ first_pair (drop further batches) number first_there is.places

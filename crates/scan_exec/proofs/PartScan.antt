@@ -5,15 +5,15 @@ use Rattle.std.proofs.lemmas.Bool.{and_parts}
 use Rattle.std.proofs.lemmas.List.{take-append-drop}
 use Rattle.std.proofs.lemmas.List.Elements.{filter-append}
 use Rattle.std.proofs.lemmas.Simd.{map-map}
-use Rattle.arrow_schema.specs.declared.schema.Schema.{Schema}
-use Rattle.batch_skipping.specs.Opened.{first_numbers, numbered_batches}
+use Rattle.arrow_types.specs.declared.schema.Schema.{Schema}
+use Rattle.batch_skipping.specs.OpenedBatches.{first_numbers, numbered_batches}
 use Rattle.scan_base.specs.declared.fault.Fault.{Fault}
 use Rattle.scan_base.specs.Predicate.{Pred}
-use Rattle.table_versions.specs.Stored.{TableAt}
+use Rattle.table_versions.specs.StoredTables.{TableAt}
 use Rattle.table_versions.specs.Table.{Row}
 use Rattle.typed_plan.specs.declared.plan.Columns.{Columns}
 use Rattle.scan_exec.specs.Giving.{GivingAt, of_rows}
-use Rattle.scan_exec.specs.Answering.{IsScan, Rise, number_in, renumbered, scan_at}
+use Rattle.scan_exec.specs.Answering.{IsScan, Rise, table_number, renumbered, scan_at}
 use Rattle.scan_exec.specs.Morsels.{HasMorsels, batch_of, comes_of, morsel_of, of_first}
 use Rattle.row_sources.specs.Parting.{ComeInOrder, of_number, part_of}
 use Rattle.row_sources.specs.Running.{RowsAt}
@@ -77,7 +77,7 @@ module _ (schema : Schema) (rows : RowsAt) (batches : List (ℕ × ℕ)) (furthe
   firsts = drop further batches
 
   abbrev name : ℕ → ℕ
-  name = number_in firsts
+  name = table_number firsts
 
   abbrev scan : ScanAt
   scan = scan_at schema (of_rows rows) batches further given refused
@@ -138,7 +138,7 @@ module _ (schema : Schema) (rows : RowsAt) (batches : List (ℕ × ℕ)) (furthe
       ∙ ap (λ (x : Schema). scan_at x (of_rows (part_of number part.unseen rows)) one 0 0 None) s
       ∙ ap (made one)
       (map-map (renumbered one) (λ (row : ℕ × Row). (Some row.0, row.1)) (map renamed (of_number number rows.ahead))
-      ∙ map-map (λ (row : ℕ × Row). (Some (number_in one row.0), row.1)) renamed (of_number number rows.ahead)
+      ∙ map-map (λ (row : ℕ × Row). (Some (table_number one row.0), row.1)) renamed (of_number number rows.ahead)
       ∙ named_one name number rows.ahead ∙ sym (morsel_ahead number there))
       ∙ ap (λ (batch : ℕ). made ((0, batch) ∷ []) (morsel_of scan number).ahead) (sym (batch_is number))
 

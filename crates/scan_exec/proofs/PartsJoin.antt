@@ -6,7 +6,7 @@ use Rattle.std.proofs.lemmas.Slice.Zip.{seconds-zip}
 use Rattle.arrays.specs.Batch.{BatchAt, rows_of}
 use Rattle.table_versions.specs.Table.{Row}
 use Rattle.table_versions.proofs.Rowing.{length-rows_of}
-use Rattle.typed_plan.specs.Joined.{rows_between}
+use Rattle.typed_plan.specs.JoinedRows.{rows_between}
 use Rattle.row_sources.specs.Parts.{parts, numbered_parts}
 use Rattle.row_sources.proofs.Batched.{none_behind}
 

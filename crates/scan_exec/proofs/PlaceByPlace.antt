@@ -2,17 +2,17 @@
 use Rattle.std.proofs.Common.{◌≡◌, ◌<◌, ℕ, ◌+◌, true, List, [], ◌∷◌, ◌++◌, length, drop, refl, sym, ap, ◌∙◌, subst, arith, length-append}
 use Rattle.std.specs.List.{filter}
 use Rattle.std.proofs.lemmas.List.{length-map}
-use Rattle.arrow_schema.specs.declared.schema.Schema.{Schema}
+use Rattle.arrow_types.specs.declared.schema.Schema.{Schema}
 use Rattle.scan_base.specs.Predicate.{Pred}
 use Rattle.table_versions.specs.Table.{Row}
 use Rattle.typed_plan.specs.declared.plan.Columns.{Columns}
 use Rattle.typed_plan.specs.declared.plan.Columns.TheVariants as columns
-use Rattle.typed_plan.specs.Held.{tree_schemas}
+use Rattle.typed_plan.specs.HeldTables.{tree_schemas}
 use Rattle.typed_plan.specs.Plan.{Tree, scan, filtered, joined, taken}
-use Rattle.typed_plan.specs.Typed.{is_place, tree_types, types_of, types_taken, type_at}
+use Rattle.typed_plan.specs.TypedPlans.{is_place, tree_types, types_of, types_taken, type_at}
 use Rattle.rewrite.specs.Conjuncts.{all_true}
 use Rattle.rewrite.specs.Places.{first_rows, tree_width}
-use Rattle.batch_skipping.specs.Opened.{given_width, scans_of}
+use Rattle.batch_skipping.specs.OpenedBatches.{given_width, scans_of}
 use Rattle.scan_exec.proofs.Through.{IsDeep, PlacesSame, first_need, need_behind, place_columns}
 use Rattle.scan_exec.proofs.Wide.{drop_one}
 

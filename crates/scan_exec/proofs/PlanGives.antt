@@ -1,24 +1,24 @@
 -- A plan gives of the rows of its tables what it says at the catalog.
-use Rattle.std.proofs.Common.{◌≡◌, ℕ, List, [], ◌∷◌, ◌++◌, length, map, map-id, Option, Some, None, refl, sym, ap, ◌∙◌, arith, if◌then◌else◌}
+use Rattle.std.proofs.Common.{◌≡◌, ℕ, List, [], ◌∷◌, ◌++◌, map, map-id, Option, Some, None, refl, sym, ap, ◌∙◌, arith, if◌then◌else◌}
 use Rattle.std.specs.List.{flat_map}
-use Rattle.std.proofs.lemmas.List.{length-map, map-append}
+use Rattle.std.proofs.lemmas.List.{map-append}
 use Rattle.std.proofs.lemmas.Simd.{map-map}
 use Rattle.arrays.specs.Batch.{BatchAt, rows_of}
 use Rattle.table_versions.specs.Database.{table_at}
-use Rattle.table_versions.specs.Stored.{TableAt, CatalogAt, tables_of}
+use Rattle.table_versions.specs.StoredTables.{TableAt, CatalogAt, tables_of}
 use Rattle.table_versions.specs.Table.{Row}
 use Rattle.typed_plan.specs.declared.plan.Columns.{Columns}
 use Rattle.typed_plan.specs.declared.plan.Columns.TheVariants.{All, These}
 use Rattle.typed_plan.specs.declared.plan.Output.{Output}
 use Rattle.typed_plan.specs.declared.plan.Output.TheVariants.{Project, Groups}
-use Rattle.typed_plan.specs.Held.{HoldsFrom, tree_schemas, tree_tables}
-use Rattle.typed_plan.specs.Joined.{rows_between}
+use Rattle.typed_plan.specs.HeldTables.{HoldsFrom, tree_schemas, tree_tables}
+use Rattle.typed_plan.specs.JoinedRows.{rows_between}
 use Rattle.typed_plan.specs.Plan.{Tree, plan_rows, output_rows, tree_rows, taken}
-use Rattle.typed_plan.specs.Typed.{IsTyped, is_grouping}
+use Rattle.typed_plan.specs.TypedPlans.{IsTyped, is_grouping}
 use Rattle.typed_plan.specs.View.{BoundAt, plan_of, tree_of}
 use Rattle.typed_plan.proofs.Scans.{some_table}
 use Rattle.rewrite.specs.Places.{rows_over}
-use Rattle.scan_exec.specs.Given.{rows_from, given_of}
+use Rattle.scan_exec.specs.GivenRows.{rows_from, given_of}
 use Rattle.row_sources.specs.Parts.{further_rows, first_batches, parts, numbered_parts}
 use Rattle.scan_exec.proofs.PartsJoin.{parts_join, parts_numbered}
 use Rattle.scan_exec.proofs.TreeGives.{taken-append, over-append, over_none, over_tables}
@@ -99,10 +99,3 @@ rows_law catalog bound from to typed same held = given_rows bound from to ∙ ap
         ≡ tree_rows (tree_of bound.plan) (tables_of catalog) (rows_between from to)
     by [] columns there = let some = some_table (tree_of bound.plan) [] columns in absurd (omega (arith, some))
     by (table ∷ tables) columns there = over_tables catalog (tree_of bound.plan) (rows_between from to) table tables there
-
--- as many rows are given as the plan has
-pub count_law : (catalog : CatalogAt) (bound : BoundAt) (from to : ℕ) → IsTyped (plan_of bound) →
-    tree_schemas (plan_of bound).tree ≡ map (λ (table : TableAt). table.schema) bound.tables → HoldsFrom catalog bound →
-    length (given_of bound from to) ≡ length (plan_rows (plan_of bound) (tables_of catalog) from to)
-count_law catalog bound from to typed same held =
-    sym (length-map (given_of bound from to) (λ (given : Option ℕ × Row). given.1)) ∙ ap length (rows_law catalog bound from to typed same held)

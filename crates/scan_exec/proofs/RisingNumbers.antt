@@ -3,7 +3,7 @@ use Rattle.std.proofs.Common.{◌≡◌, ◌≤◌, ◌<◌, ◌⊎◌, inl, inr
 use Rattle.std.specs.List.{filter, flat_map, range_with_len}
 use Rattle.std.proofs.lemmas.Bool.{cases_Bool, cases_lt, eq-eqb, eqb-true, eqb-false}
 use Rattle.table_versions.specs.Table.{Row}
-use Rattle.scan_exec.specs.Answering.{Rise, number_in}
+use Rattle.scan_exec.specs.Answering.{Rise, table_number}
 use Rattle.scan_exec.specs.Morsels.{comes_of}
 use Rattle.row_sources.specs.Parting.{of_number}
 use Rattle.row_sources.proofs.ByNumber.{ne-eqb}
@@ -87,7 +87,7 @@ range_rises test first (suc n) = by (cases_Bool (test first)) (range_rises test 
     by (inl on) rest = rw on (omega arith, rest)
     by (inr off) rest = rw off (rise_lower (first + 1) first (filter test (range_with_len (first + 1) n)) (omega arith) rest)
 
-rise_low : (low : ℕ) (pairs : List (ℕ × ℕ)) (i : ℕ) → Rise low (map (λ (pair : ℕ × ℕ). pair.1) pairs) → i < length pairs → low ≤ number_in pairs i
+rise_low : (low : ℕ) (pairs : List (ℕ × ℕ)) (i : ℕ) → Rise low (map (λ (pair : ℕ × ℕ). pair.1) pairs) → i < length pairs → low ≤ table_number pairs i
 rise_low low [] i rise h = absurd (omega (arith, h))
 rise_low low (pair ∷ pairs) zero rise h = rise.0
 rise_low low (pair ∷ pairs) (suc i) rise h =
@@ -95,7 +95,7 @@ rise_low low (pair ∷ pairs) (suc i) rise h =
     omega (arith, rise.0, later)
 
 rise_order : (low : ℕ) (pairs : List (ℕ × ℕ)) (i j : ℕ) → Rise low (map (λ (pair : ℕ × ℕ). pair.1) pairs) → i < j → j < length pairs →
-    number_in pairs i < number_in pairs j
+    table_number pairs i < table_number pairs j
 rise_order low [] i j rise less h = absurd (omega (arith, h))
 rise_order low (pair ∷ pairs) i zero rise less h = absurd (omega (arith, less))
 rise_order low (pair ∷ pairs) zero (suc j) rise less h =
@@ -105,7 +105,7 @@ rise_order low (pair ∷ pairs) (suc i) (suc j) rise less h = rise_order (pair.1
 
 -- so no two are the same
 pub rise_once : (low : ℕ) (pairs : List (ℕ × ℕ)) (i j : ℕ) → Rise low (map (λ (pair : ℕ × ℕ). pair.1) pairs) → i < length pairs → j < length pairs →
-    number_in pairs i ≡ number_in pairs j → i ≡ j
+    table_number pairs i ≡ table_number pairs j → i ≡ j
 rise_once low pairs i j rise here there same = by (cases_lt i j) (cases_lt j i)
   where
     by : (i < j) ⊎ (j ≤ i) → (j < i) ⊎ (i ≤ j) → i ≡ j

@@ -9,10 +9,10 @@ use Rattle.typed_plan.specs.declared.plan.Columns.TheVariants.{All, These}
 use Rattle.typed_plan.specs.declared.plan.Output.TheVariants.{Project}
 use Rattle.typed_plan.specs.Plan.{taken}
 use Rattle.typed_plan.specs.View.{BoundAt, plan_of, tree_of}
-use Rattle.row_sources.specs.Begun.{tree_given}
+use Rattle.row_sources.specs.BegunRows.{tree_given}
 use Rattle.rewrite.specs.Places.{rows_over}
 use Rattle.row_sources.specs.Parts.{further_rows, first_batches, numbered_parts, numbered_rows}
-use Rattle.scan_exec.specs.Given.{given_of}
+use Rattle.scan_exec.specs.GivenRows.{given_of}
 use Rattle.row_sources.specs.Showing.{cells}
 
 pub taken_cells : (columns : Columns) (rows : List Row) → taken columns rows ≡ map (cells columns) rows

@@ -1,12 +1,12 @@
 -- A scan as contracts see it.
-use Rattle.std.proofs.Common.{◌≡◌, ◌≤◌, ◌<◌, ◌⊎◌, inl, inr, ℕ, zero, suc, ◌+◌, ◌-◌, ◌==◌, true, List, [], ◌∷◌, ◌++◌, length, map, take, drop, get_or, Option, Some, None, option_map, Ok, Err, refl, sym, ap, ◌∙◌, subst, arith, length-append, length-drop, length-take}
+use Rattle.std.proofs.Common.{◌≡◌, ◌≤◌, ◌<◌, ◌⊎◌, inl, inr, ℕ, zero, suc, ◌+◌, ◌-◌, ◌==◌, true, List, [], ◌∷◌, ◌++◌, length, map, take, drop, get_or, Option, Some, None, option_map, Result, Ok, Err, refl, sym, ap, ◌∙◌, subst, arith, length-append, length-drop, length-take}
 use Rattle.std.specs.List.{last_or, list_all, range_with_len}
 use Rattle.std.proofs.lemmas.Bool.{and_parts, eqb-true}
 use Rattle.std.proofs.lemmas.List.{map-append, length-map, take_all}
 use Rattle.std.proofs.lemmas.List.FromFn.{length-range_with_len}
 use Rattle.std.proofs.lemmas.Simd.{map-map}
-use Rattle.arrow_schema.specs.declared.schema.Schema.{Schema}
-use Rattle.arrow_schema.specs.declared.data_type.DataType.{DataType}
+use Rattle.arrow_types.specs.declared.schema.Schema.{Schema}
+use Rattle.arrow_types.specs.declared.data_type.DataType.{DataType}
 use Rattle.arrays.specs.Batch.{BatchAt, rows_of}
 use Rattle.scan_base.specs.Limits.{most_answer_rows}
 use Rattle.scan_base.specs.declared.fault.Fault.{Fault}
@@ -14,8 +14,9 @@ use Rattle.scan_base.specs.declared.fault.Fault.TheVariants.{OutOfMemory, Result
 use Rattle.table_versions.specs.Table.{Row}
 use Rattle.table_versions.proofs.Rowing.{length-rows_of}
 use Rattle.row_sources.specs.declared.piece.Piece.{Piece}
-use Rattle.scan_exec.specs.Giving.{GivingAt, GivingOn, IsOfLast, GivesBatch, GivesNone, GivesNoneYet, of_rows}
-use Rattle.scan_exec.specs.Answering.{CountsNext, CountsTurn, IsScan, number_in, renumbered, scan_at}
+use Rattle.std.specs.declared.alloc.AllocError.{AllocError}
+use Rattle.scan_exec.specs.Giving.{GivingAt, GivingOn, IsOfLast, GivesBatch, GivesNone, AnswerGivesNoneYet, MakesReady, of_rows}
+use Rattle.scan_exec.specs.Answering.{CountsNext, CountsTurn, IsScan, table_number, renumbered, scan_at}
 use Rattle.row_sources.specs.Running.{RowsAt, FindsPiece, FindsNone, Ends, LooksOn}
 use Rattle.row_sources.specs.declared.turn.Patience.{Patience}
 use Rattle.row_sources.specs.declared.turn.Turn.{Turn}
@@ -41,7 +42,7 @@ gives_of before after piece finds =
     }
 
 -- none of the rows that were looked at
-pub none_yet_of : (before after : RowsAt) → FindsNone before after → GivesNoneYet (of_rows before) (of_rows after)
+pub none_yet_of : (before after : RowsAt) → FindsNone before after → AnswerGivesNoneYet (of_rows before) (of_rows after)
 none_yet_of before after finds = record {
   same = ap (map (λ (row : ℕ × Row). (Some row.0, row.1))) finds.same;
   on = record { types = finds.on.types; batches = finds.on.batches; opening = finds.on.opening; opened = finds.on.opened };
@@ -96,7 +97,7 @@ take_counted first (suc n) (suc k) h = ap (λ rest. first ∷ rest) (take_counte
 
 -- a batch of the first place
 first_place : (firsts : List (ℕ × ℕ)) (i : ℕ) → i < length firsts → list_all (λ (batch : ℕ × ℕ). batch.0 == 0) firsts ≡ true →
-    get_or firsts i (0, 0) ≡ (0, number_in firsts i)
+    get_or firsts i (0, 0) ≡ (0, table_number firsts i)
 first_place [] i h all = absurd (omega (arith, h))
 first_place (batch ∷ firsts) zero h all =
     let zero_is = eqb-true batch.0 0 (and_parts (batch.0 == 0) (list_all (λ (b : ℕ × ℕ). b.0 == 0) firsts) all).0 in
@@ -136,14 +137,14 @@ module _ (schema : Schema) (batches : List (ℕ × ℕ)) (further : ℕ) (before
       (sym some ∙ take_counted 0 count (length after.opened) few, few)
 
   is_latest : GivingOn before after → (number : Option ℕ) → IsOfLast number after.opened →
-      IsLatest (option_map (number_in firsts) number) (take (further + length after.opened) batches)
+      IsLatest (option_map (table_number firsts) number) (take (further + length after.opened) batches)
   is_latest on None of = tt
   is_latest on (Some number) of = by (length after.opened) refl
     where
       size : length firsts ≡ count
       size = length-drop further batches
 
-      by : (n : ℕ) → length after.opened ≡ n → last_or None (take (further + length after.opened) batches) ≡ Some (0, number_in firsts number)
+      by : (n : ℕ) → length after.opened ≡ n → last_or None (take (further + length after.opened) batches) ≡ Some (0, table_number firsts number)
       by zero e =
           let none : after.opened ≡ [] = (counted on).0 ∙ ap (range_with_len 0) e in
           let no : None ≡ Some number = ap (last_or None) (sym none) ∙ of in
@@ -155,7 +156,7 @@ module _ (schema : Schema) (batches : List (ℕ × ℕ)) (further : ℕ) (before
           let at : n ≡ number = omega (arith, which) in
           ap (λ (m : ℕ). last_or None (take (further + m) batches)) more
           ∙ last_taken None batches further n here
-          ∙ ap Some (first_place firsts n (omega (arith, size, here)) is.places ∙ ap (λ (i : ℕ). (0, number_in firsts i)) at)
+          ∙ ap Some (first_place firsts n (omega (arith, size, here)) is.places ∙ ap (λ (i : ℕ). (0, table_number firsts i)) at)
 
   pub gives_rows : (batch : BatchAt) → CountsNext before given (Ok (Some batch)) after now →
       GivesRows (scan_at schema before batches further given None) batch (scan_at schema after batches further now None)
@@ -163,7 +164,7 @@ module _ (schema : Schema) (batches : List (ℕ × ℕ)) (further : ℕ) (before
       let gives = counts.0 in
       let with_number : Row → Option ℕ × Row = λ row. (gives.number, row) in
       record {
-        number = option_map (number_in firsts) gives.number;
+        number = option_map (table_number firsts) gives.number;
         next = ap (map (renumbered firsts)) gives.next ∙ map-append (renumbered firsts) (map with_number (rows_of batch)) after.ahead
             ∙ ap (λ (some : List (Option ℕ × Row)). some ++ map (renumbered firsts) after.ahead) (map-map (renumbered firsts) with_number (rows_of batch));
         latest = is_latest gives.on gives.number gives.latest;
@@ -203,14 +204,14 @@ module _ (schema : Schema) (batches : List (ℕ × ℕ)) (further : ℕ) (before
 
   -- nothing yet
   gave_none_yet : (view : ScanAt) (refused : Option Fault) → scan_at schema before batches further given refused ≡ view → refused ≡ None →
-      GivesNoneYet before after → now ≡ given →
+      AnswerGivesNoneYet before after → now ≡ given →
       (view.refused ≡ None) × of_scan.GivesNoneYet view (scan_at schema after batches further now refused)
   gave_none_yet view refused v n none e =
       subst (λ (s : ScanAt). (s.refused ≡ None) × of_scan.GivesNoneYet s (scan_at schema after batches further now refused)) v
       (n, record { same = ap (map (renumbered firsts)) none.same; given = e; on = continues none.on refused refused; refused = n })
 
   -- what is made before the first row
-  pub readied : (view : ScanAt) (refused : Option Fault) → scan_at schema before batches further given refused ≡ view → GivesNoneYet before after → now ≡ given →
+  pub readied : (view : ScanAt) (refused : Option Fault) → scan_at schema before batches further given refused ≡ view → AnswerGivesNoneYet before after → now ≡ given →
       IsReadied view (scan_at schema after batches further now refused)
   readied view refused v none e =
       subst (λ (s : ScanAt). IsReadied s (scan_at schema after batches further now refused)) v
@@ -250,6 +251,11 @@ module _ (schema : Schema) (batches : List (ℕ × ℕ)) (further : ℕ) (before
     front = on.opened;
     few = few;
   }
+
+-- what is made before the first row goes on over the same batches
+pub ready_on : (before after : GivingAt) (result : Result (Unit {0}) AllocError) → MakesReady before result after → GivingOn before after
+ready_on before after (Ok _) ready = ready.on
+ready_on before after (Err refused) on = on
 
 -- a batch has no more rows than there are to be given
 pub batch_few : (before : GivingAt) (batch : BatchAt) (after : GivingAt) → GivesBatch before batch after → batch.rows ≤ length before.ahead

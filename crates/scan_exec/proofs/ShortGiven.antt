@@ -6,7 +6,7 @@ use Rattle.arrays.specs.Batch.{rows_of}
 use Rattle.scan_base.specs.declared.value.Value.{Value}
 use Rattle.scan_base.specs.declared.value.Value.TheVariants.{Null, Int}
 use Rattle.scan_base.specs.Predicate.{cell_in}
-use Rattle.table_versions.specs.Stored.{TableAt, table_of}
+use Rattle.table_versions.specs.StoredTables.{TableAt, table_of}
 use Rattle.table_versions.specs.Table.{Row, is_long_text}
 use Rattle.table_versions.proofs.Storable.{first_false, second_false}
 use Rattle.typed_plan.specs.declared.plan.Aggregate.{Aggregate}
@@ -16,14 +16,14 @@ use Rattle.typed_plan.specs.declared.plan.Columns.TheVariants.{All as AllColumns
 use Rattle.typed_plan.specs.declared.plan.JoinKey.{JoinKey}
 use Rattle.typed_plan.specs.declared.plan.Output.{Output}
 use Rattle.typed_plan.specs.declared.plan.Output.TheVariants.{Project, Groups}
-use Rattle.typed_plan.specs.Grouped.{Group, same_key, with_row, present, plus}
-use Rattle.typed_plan.specs.Held.{tree_schemas}
-use Rattle.typed_plan.specs.Joined.{rows_between}
+use Rattle.typed_plan.specs.GroupedRows.{Group, same_key, with_row, present, plus}
+use Rattle.typed_plan.specs.HeldTables.{tree_schemas}
+use Rattle.typed_plan.specs.JoinedRows.{rows_between}
 use Rattle.typed_plan.specs.Plan.{Tree, scan, filtered, joined, taken, is_true, fits, joined_rows, answered, groups_by, output_rows}
 use Rattle.typed_plan.specs.View.{BoundAt, tree_of}
 use Rattle.rewrite.specs.Places.{first_rows, rows_over}
 use Rattle.row_sources.specs.Parts.{first_batches, further_rows}
-use Rattle.scan_exec.specs.Given.{given_of}
+use Rattle.scan_exec.specs.GivenRows.{given_of}
 use Rattle.scan_exec.proofs.PlanGives.{given_rows}
 
 -- ---- lists of which nothing passes a test

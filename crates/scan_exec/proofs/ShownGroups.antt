@@ -6,11 +6,11 @@ use Rattle.std.proofs.lemmas.Bool.{ltb-true, and_parts}
 use Rattle.std.proofs.lemmas.List.{map-append, length-map}
 use Rattle.std.proofs.lemmas.Option.{slice_get-map, slice_get-get_or}
 use Rattle.std.proofs.lemmas.Simd.{map-map}
-use Rattle.arrow_schema.specs.Answer.{copied_type}
-use Rattle.arrow_schema.specs.declared.data_type.DataType.{DataType}
-use Rattle.arrow_schema.specs.declared.data_type.DataType.TheVariants.{Utf8}
+use Rattle.arrow_types.specs.Answer.{copied_type}
+use Rattle.arrow_types.specs.declared.data_type.DataType.{DataType}
+use Rattle.arrow_types.specs.declared.data_type.DataType.TheVariants.{Utf8}
 use Rattle.arrays.specs.Batch.{BatchAt, cut_batch, rows_of}
-use Rattle.arrays.specs.Typed.{AreOf}
+use Rattle.arrays.specs.TypedLayouts.{AreOf}
 use Rattle.scan_base.specs.Predicate.{Pred}
 use Rattle.scan_base.specs.View.{pred_of}
 use Rattle.scan_base.specs.declared.value.Value.{Value}
@@ -20,20 +20,20 @@ use Rattle.typed_plan.specs.declared.plan.Aggregate.{Aggregate}
 use Rattle.typed_plan.specs.declared.plan.Aggregate.TheVariants.{Key}
 use Rattle.typed_plan.specs.declared.plan.Output.TheVariants.{Groups}
 use Rattle.typed_plan.specs.Plan.{answered, groups_by}
-use Rattle.typed_plan.specs.Grouped.{Group}
-use Rattle.typed_plan.specs.Typed.{item_type, type_at}
-use Rattle.batch_skipping.specs.Chosen.{are_within}
-use Rattle.row_sources.specs.declared.part.Part.{Part}
+use Rattle.typed_plan.specs.GroupedRows.{Group}
+use Rattle.typed_plan.specs.TypedPlans.{item_type, type_at}
+use Rattle.batch_skipping.specs.ChosenColumns.{are_within}
+use Rattle.row_sources.specs.declared.batch_slice.BatchSlice.{BatchSlice}
 use Rattle.row_sources.specs.declared.picker.Picker.{Picker}
-use Rattle.row_sources.specs.Picked.{Picks, given_of_part}
+use Rattle.row_sources.specs.PickedRows.{Picks, given_of_part}
 use Rattle.row_sources.specs.Picking.{IsPick, cells_at, holds, pick_of}
 use Rattle.row_sources.specs.Running.{RowsAt}
 use Rattle.row_sources.proofs.Cells.{cell-map}
 use Rattle.row_sources.proofs.Giving.{filter-all}
 use Rattle.row_sources.proofs.JoinSteps.{as_many, whole_part}
 use Rattle.scan_exec.specs.Answering.{answer_for}
-use Rattle.scan_exec.specs.Different.{StandFor, item_at}
-use Rattle.scan_exec.specs.Giving.{GivingAt, GivingOn, GivesBatch, GivesNone, GivesNext, MakesReady}
+use Rattle.scan_exec.specs.DistinctItems.{StandFor, item_at}
+use Rattle.scan_exec.specs.Giving.{GivingAt, GivingOn, GivesBatch, GivesNext, MakesReady}
 use Rattle.scan_exec.specs.ShownGroups.{ShowsAll, with_cells}
 
 -- a row with its cells of these numbers
@@ -58,15 +58,6 @@ module _ (before after : GivingAt) (picker : Picker) (shows : ShowsAll before pi
     opened = on.opened;
   }
 
-  -- the end
-  pub none_shown : GivesNone before after → GivesNone (with_cells picker.shown.items before) (with_cells picker.shown.items after)
-  none_shown gives = record {
-    none = ap (map (show picker.shown.items)) gives.none;
-    still = ap (map (show picker.shown.items)) gives.still;
-    all = gives.all;
-    on = on_shown gives.on;
-  }
-
   -- what is made before the first row
   pub ready_shown : (result : Result (Unit {0}) AllocError) → MakesReady before result after → MakesReady (with_cells picker.shown.items before) result (with_cells picker.shown.items after)
   ready_shown (Ok _) ready = record { same = ap (map (show picker.shown.items)) ready.same; on = on_shown ready.on }
@@ -85,7 +76,7 @@ module _ (before after : GivingAt) (picker : Picker) (shows : ShowsAll before pi
       types (Err refused) on = on.types
 
   -- what is given of all rows of a batch
-  given_whole : (part : Part) → part.from ≡ 0 → part.to ≡ part.batch.now.rows →
+  given_whole : (part : BatchSlice) → part.from ≡ 0 → part.to ≡ part.batch.now.rows →
       given_of_part (pick_of picker) part ≡ map (cells_at picker.shown.items) (rows_of part.batch.now)
   given_whole part from to =
       ap (map (cells_at picker.shown.items))
@@ -120,7 +111,7 @@ module _ (before after : GivingAt) (picker : Picker) (shows : ShowsAll before pi
   }
 
   -- what is picked of it comes next
-  pub shown_next : (part : Part) (result : Result (Option BatchAt) AllocError) → GivesBatch before part.batch.now after → part.from ≡ 0 → part.to ≡ part.batch.now.rows →
+  pub shown_next : (part : BatchSlice) (result : Result (Option BatchAt) AllocError) → GivesBatch before part.batch.now after → part.from ≡ 0 → part.to ≡ part.batch.now.rows →
       Picks (pick_of picker) part result → GivesNext (with_cells picker.shown.items before) result (with_cells picker.shown.items after)
   shown_next part (Ok (Some made)) gives from to picks =
       batch_shown part.batch.now made gives (picks.rows ∙ given_whole part from to) picks.some (picks.typed before.types gives.typed)
@@ -181,9 +172,3 @@ module _ (rows : RowsAt) (keys : List ℕ) (items some : List Aggregate) (places
       let groups = groups_by keys (map (λ (row : ℕ × Row). row.1) rows.ahead) in
       ap (λ (types : List DataType). giving types (map (show places) (map (λ group. (None, map (answered group) some)) groups))) types_same
       ∙ ap (giving (map copied_type (map (item_type keys rows.types) items))) (group_same groups)
-
-  -- they are there
-  pub places_there : are_within (length (map copied_type (map (item_type keys rows.types) some))) places ≡ true
-  places_there =
-      ap (λ (n : ℕ). are_within n places)
-      (length-map (map (item_type keys rows.types) some) copied_type ∙ length-map some (item_type keys rows.types)) ∙ stand.there

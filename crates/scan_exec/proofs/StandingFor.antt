@@ -6,12 +6,8 @@ use Rattle.std.proofs.lemmas.List.{map-append, get_or_append_left}
 use Rattle.std.proofs.lemmas.List.Folds.{list_all-append}
 use Rattle.typed_plan.specs.declared.plan.Aggregate.{Aggregate}
 use Rattle.typed_plan.specs.declared.plan.Aggregate.TheVariants.{Key}
-use Rattle.batch_skipping.specs.Chosen.{are_within}
-use Rattle.scan_exec.specs.Different.{StandFor, item_at}
-
--- of no items
-pub none_stand : StandFor [] [] []
-none_stand = record { each = refl; there = refl; among = λ test h. refl }
+use Rattle.batch_skipping.specs.ChosenColumns.{are_within}
+use Rattle.scan_exec.specs.DistinctItems.{StandFor, item_at}
 
 -- ---- an item more
 

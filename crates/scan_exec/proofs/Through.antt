@@ -8,14 +8,14 @@ use Rattle.scan_base.specs.Predicate.{Pred, conjunction, disjunction, negation, 
 use Rattle.table_versions.specs.Table.{Row}
 use Rattle.typed_plan.specs.declared.plan.Columns.{Columns}
 use Rattle.typed_plan.specs.declared.plan.Columns.TheVariants as columns
-use Rattle.typed_plan.specs.Held.{tree_schemas}
+use Rattle.typed_plan.specs.HeldTables.{tree_schemas}
 use Rattle.typed_plan.specs.Plan.{Tree, scan, filtered, joined, is_true, taken}
-use Rattle.typed_plan.specs.Typed.{is_place, tree_types}
+use Rattle.typed_plan.specs.TypedPlans.{is_place, tree_types}
 use Rattle.rewrite.specs.Conjuncts.{all_true, conjuncts, is_between}
 use Rattle.rewrite.specs.Laws.{SameThrough}
 use Rattle.rewrite.specs.Places.{first_rows, tree_width}
-use Rattle.rewrite.specs.Pushed.{is_behind, is_left, moved}
-use Rattle.batch_skipping.specs.Opened.{where_parts}
+use Rattle.rewrite.specs.PushedFilters.{is_behind, is_left, moved}
+use Rattle.batch_skipping.specs.OpenedBatches.{where_parts}
 
 -- ---- tests that more columns pass
 

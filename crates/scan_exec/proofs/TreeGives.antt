@@ -6,14 +6,14 @@ use Rattle.std.proofs.lemmas.List.{append-nil, length-append, length-map, map-ap
 use Rattle.std.proofs.lemmas.List.Elements.{filter-append}
 use Rattle.scan_base.specs.Predicate.{cell_in}
 use Rattle.table_versions.specs.Database.{Database, table_at}
-use Rattle.table_versions.specs.Stored.{TableAt, CatalogAt, table_of, tables_of, plain}
+use Rattle.table_versions.specs.StoredTables.{TableAt, CatalogAt, table_of, tables_of, plain}
 use Rattle.table_versions.specs.Table.{Name, Row, Table}
 use Rattle.table_versions.proofs.Stores.{table_at-tables_of}
 use Rattle.typed_plan.specs.declared.plan.Columns.{Columns}
 use Rattle.typed_plan.specs.declared.plan.Columns.TheVariants.{All, These}
 use Rattle.typed_plan.specs.declared.plan.JoinKey.{JoinKey}
-use Rattle.typed_plan.specs.Held.{tree_tables, tree_schemas}
-use Rattle.typed_plan.specs.Joined.{rows_in}
+use Rattle.typed_plan.specs.HeldTables.{tree_tables, tree_schemas}
+use Rattle.typed_plan.specs.JoinedRows.{rows_in}
 use Rattle.typed_plan.specs.Plan.{Tree, scan, filtered, joined, taken, is_true, fits, joined_rows, tree_rows}
 use Rattle.typed_plan.proofs.Scans.{some_schema}
 use Rattle.rewrite.specs.Places.{rows_over}

@@ -4,35 +4,35 @@ use Rattle.std.specs.Prelude.{map, take, drop, get_or, Option, Some, None, optio
 use Rattle.std.specs.Prelude.{Err}
 use Rattle.std.specs.List.{list_all, range_with_len}
 use Rattle.arrays.specs.Batch.{BatchAt}
-use Rattle.arrow_schema.specs.Answer.{copied_type}
+use Rattle.arrow_types.specs.Answer.{copied_type}
 use Rattle.typed_plan.specs.declared.plan.Output.{Output}
 use Rattle.typed_plan.specs.declared.plan.Output.TheVariants.{Project, Groups}
 use Rattle.typed_plan.specs.Plan.{answered, groups_by}
-use Rattle.typed_plan.specs.Typed.{item_type}
+use Rattle.typed_plan.specs.TypedPlans.{item_type}
 use Rattle.table_versions.specs.Table.{Row}
 use Rattle.row_sources.specs.Running.{RowsAt, LooksOn}
 use Rattle.row_sources.specs.Showing.{shown_of}
 use Rattle.row_sources.specs.declared.turn.Patience.{Patience}
 use Rattle.row_sources.specs.declared.turn.Turn.{Turn}
 use Rattle.row_sources.specs.declared.turn.Turn.TheVariants.{Given, Working, End}
-use Rattle.arrow_schema.specs.declared.schema.Schema.{Schema}
+use Rattle.arrow_types.specs.declared.schema.Schema.{Schema}
 use Rattle.scan_base.specs.Limits.{most_answer_rows}
 use Rattle.scan_base.specs.declared.fault.Fault.{Fault}
 use Rattle.scan_base.specs.declared.fault.Fault.TheVariants.{OutOfMemory, ResultTooLarge}
-use Rattle.scan_exec.specs.declared.answer.Answer.{Answer}
-use Rattle.scan_exec.specs.declared.answer.Answer.TheVariants as answer
+use Rattle.scan_exec.specs.declared.scan_answer.ScanAnswer.{ScanAnswer}
+use Rattle.scan_exec.specs.declared.scan_answer.ScanAnswer.TheVariants as answer
 pub use Rattle.scan_exec.specs.Giving.{GivingAt, of_rows, GivingOn, IsOfLast, GivesBatch, GivesNone}
-pub use Rattle.scan_exec.specs.Giving.{GivesNoneYet, GivesNext}
+pub use Rattle.scan_exec.specs.Giving.{AnswerGivesNoneYet, GivesNext}
 use Rattle.scan_exec.specs.Morsels.{of_first}
 use Rattle.scan_exec.specs.Scan.{ScanAt}
 
 -- what an answer still has to give
-abbrev pub giving_at : Answer → GivingAt
+abbrev pub giving_at : ScanAnswer → GivingAt
 giving_at (answer.Rows rows) = of_rows rows
 giving_at (answer.Groups groups) = groups
 
 -- what was opened is what is first to be opened
-abbrev pub IsGiving : Answer → Type 0
+abbrev pub IsGiving : ScanAnswer → Type 0
 IsGiving (answer.Rows rows) = take (length rows.opened) rows.batches ≡ rows.opened
 IsGiving (answer.Groups groups) = take (length groups.opened) groups.batches ≡ groups.opened
 
@@ -52,19 +52,19 @@ abbrev pub CountsTurn : Patience → GivingAt → ℕ → Result (Turn BatchAt) 
 CountsTurn patience before given (Ok (Given batch)) after now =
     CountsNext before given (Ok (Some batch)) after now
 CountsTurn patience before given (Ok Working) after now =
-    GivesNoneYet before after × (now ≡ given) × LooksOn patience before.unseen after.unseen
+    AnswerGivesNoneYet before after × (now ≡ given) × LooksOn patience before.unseen after.unseen
 CountsTurn patience before given (Ok End) after now = CountsNext before given (Ok None) after now
 CountsTurn patience before given (Err fault) after now =
     CountsNext before given (Err fault) after now
 
 -- the number that a batch of the first place has in its table, by its number among those that are
 -- opened
-abbrev pub number_in : List (ℕ × ℕ) → ℕ → ℕ
-number_in firsts number = (get_or firsts number (0, 0)).1
+abbrev pub table_number : List (ℕ × ℕ) → ℕ → ℕ
+table_number firsts number = (get_or firsts number (0, 0)).1
 
 -- a row with the number of its batch in its table
 abbrev pub renumbered : List (ℕ × ℕ) → Option ℕ × Row → Option ℕ × Row
-renumbered firsts row = (option_map (number_in firsts) row.0, row.1)
+renumbered firsts row = (option_map (table_number firsts) row.0, row.1)
 
 -- a scan as contracts see it, over the batches that it opens: those of the further places are the
 -- first `further` ones

@@ -3,9 +3,9 @@ use Rattle.std.specs.Prelude.{◌≡◌, ◌≤◌, ◌<◌, ℕ, List, [], ◌+
 use Rattle.std.specs.Prelude.{None, Result, Ok, Err}
 use Rattle.std.specs.List.{last_or}
 use Rattle.std.specs.declared.alloc.AllocError.{AllocError}
-use Rattle.arrow_schema.specs.declared.data_type.DataType.{DataType}
+use Rattle.arrow_types.specs.declared.data_type.DataType.{DataType}
 use Rattle.arrays.specs.Batch.{BatchAt, rows_of}
-use Rattle.arrays.specs.Typed.{AreOf}
+use Rattle.arrays.specs.TypedLayouts.{AreOf}
 use Rattle.table_versions.specs.Table.{Row}
 use Rattle.row_sources.specs.Running.{RowsAt, LooksOn}
 use Rattle.row_sources.specs.declared.turn.Patience.{Patience}
@@ -71,20 +71,21 @@ GivesNext before (Ok None) after = GivesNone before after
 GivesNext before (Err _) after = GivingOn before after
 
 -- none is given of the rows that were looked at
-pub record GivesNoneYet (before after : GivingAt) : Type 0 where
+pub record AnswerGivesNoneYet (before after : GivingAt) : Type 0 where
   pub same : before.ahead ≡ after.ahead
   pub on : GivingOn before after
 
 -- What is needed before the first row is made, or memory was refused.
 abbrev pub MakesReady : GivingAt → Result (Unit {0}) AllocError → GivingAt → Type 0
-MakesReady before (Ok _) after = GivesNoneYet before after
+MakesReady before (Ok _) after = AnswerGivesNoneYet before after
 MakesReady before (Err _) after = GivingOn before after
 
 -- What a turn gives: the next batch, or none where no row is left. One whose patience has an end
 -- may give none yet.
-abbrev pub GivesTurn : Patience → GivingAt → Result (Turn BatchAt) AllocError → GivingAt → Type 0
-GivesTurn patience before (Ok (Given batch)) after = GivesBatch before batch after
-GivesTurn patience before (Ok Working) after =
-    GivesNoneYet before after × LooksOn patience before.unseen after.unseen
-GivesTurn patience before (Ok End) after = GivesNone before after
-GivesTurn patience before (Err _) after = GivingOn before after
+abbrev pub AnswerGivesTurn : Patience → GivingAt → Result (Turn BatchAt) AllocError → GivingAt →
+    Type 0
+AnswerGivesTurn patience before (Ok (Given batch)) after = GivesBatch before batch after
+AnswerGivesTurn patience before (Ok Working) after =
+    AnswerGivesNoneYet before after × LooksOn patience before.unseen after.unseen
+AnswerGivesTurn patience before (Ok End) after = GivesNone before after
+AnswerGivesTurn patience before (Err _) after = GivingOn before after

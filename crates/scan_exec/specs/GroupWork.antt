@@ -2,15 +2,15 @@
 use Rattle.std.specs.Prelude.{◌≡◌, ◌≤◌, ◌<◌, ℕ, ◌-◌, All, List, ◌++◌, length, take, drop, None}
 use Rattle.std.specs.Prelude.{Result, IfOk}
 use Rattle.std.specs.List.{filter, flat_map}
-use Rattle.arrow_schema.specs.declared.data_type.DataType.{DataType}
+use Rattle.arrow_types.specs.declared.data_type.DataType.{DataType}
 use Rattle.arrays.specs.Batch.{BatchAt, rows_of}
 use Rattle.array_select.specs.Room.{most_batch_rows}
 use Rattle.scan_base.specs.Limits.{most_rows}
 use Rattle.scan_base.specs.declared.fault.Fault.{Fault}
 use Rattle.table_versions.specs.Table.{Row}
 use Rattle.typed_plan.specs.declared.plan.Aggregate.{Aggregate}
-use Rattle.grouping.specs.Fed.{GroupsAt, HasItems, Holds, batch_at}
-use Rattle.row_sources.specs.Collected.{IsBatchOf}
+use Rattle.grouping.specs.FedRows.{GroupsAt, HasItems, Holds, batch_at}
+use Rattle.row_sources.specs.CollectedRows.{IsBatchOf}
 use Rattle.row_sources.specs.Picking.{PickAt, IsPick, holds, pick_of}
 use Rattle.scan_exec.specs.declared.group_work.GroupWork.{GroupWork}
 
@@ -59,8 +59,8 @@ abbrev pub batches_between : ℕ → ℕ → List BatchAt → List BatchAt
 batches_between from to batches = take (to - from) (drop from batches)
 
 -- how many rows they have
-abbrev pub rows_between : ℕ → ℕ → List BatchAt → ℕ
-rows_between from to batches = length (flat_map rows_of (batches_between from to batches))
+abbrev pub row_count_between : ℕ → ℕ → List BatchAt → ℕ
+row_count_between from to batches = length (flat_map rows_of (batches_between from to batches))
 
 -- the groups of those batches, unless memory was refused
 abbrev pub GroupsOfPart : GroupWorkAt → ℕ → ℕ → Result GroupsAt Fault → Type 0

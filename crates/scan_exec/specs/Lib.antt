@@ -1,9 +1,9 @@
-pub mod Given
+pub mod GivenRows
 pub mod Scan
 pub mod Morsels
 pub mod GroupWork
 pub mod Giving
 pub mod Answering
-pub mod Grouped
-pub mod Different
+pub mod GroupedRows
+pub mod DistinctItems
 pub mod ShownGroups

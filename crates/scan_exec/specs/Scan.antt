@@ -3,10 +3,10 @@ use Rattle.std.specs.Prelude.{◌≡◌, ◌≤◌, ◌<◌, ◌⊎◌, ℕ, ◌
 use Rattle.std.specs.Prelude.{Some, None, Result, Ok, Err}
 use Rattle.std.specs.List.{last_or}
 use Rattle.arrays.specs.Batch.{BatchAt, rows_of}
-use Rattle.arrays.specs.Typed.{AreOf}
-use Rattle.arrow_schema.specs.Answer.{LieBehind}
-use Rattle.arrow_schema.specs.declared.data_type.DataType.{DataType}
-use Rattle.arrow_schema.specs.declared.schema.Schema.{Schema}
+use Rattle.arrays.specs.TypedLayouts.{AreOf}
+use Rattle.arrow_types.specs.Answer.{LieBehind}
+use Rattle.arrow_types.specs.declared.data_type.DataType.{DataType}
+use Rattle.arrow_types.specs.declared.schema.Schema.{Schema}
 use Rattle.array_select.specs.Room.{most_batch_rows}
 use Rattle.scan_base.specs.Limits.{most_answer_rows}
 use Rattle.scan_base.specs.declared.fault.Fault.{Fault}
@@ -17,8 +17,8 @@ use Rattle.row_sources.specs.Running.{LooksOn}
 use Rattle.row_sources.specs.declared.turn.Turn.{Turn}
 use Rattle.row_sources.specs.declared.turn.Turn.TheVariants.{Given, Working, End}
 use Rattle.typed_plan.specs.View.{BoundAt}
-use Rattle.scan_exec.specs.Given.{given_of}
-use Rattle.batch_skipping.specs.Opened.{further_opened, first_opened}
+use Rattle.scan_exec.specs.GivenRows.{given_of}
+use Rattle.batch_skipping.specs.OpenedBatches.{further_opened, first_opened}
 
 -- The columns of the result; the types of the columns of its batches; the rows that are still to be
 -- given, each with the number of the batch of the first place of which it comes, if it is one; the

@@ -1,8 +1,8 @@
 -- Inside: groups of which each different item is made once.
 use Rattle.std.specs.Prelude.{◌≡◌, ℕ, IsTrue, List, [], length, map, Option}
 use Rattle.table_versions.specs.Table.{Row}
-use Rattle.typed_plan.specs.Typed.{type_at}
-use Rattle.batch_skipping.specs.Chosen.{are_within}
+use Rattle.typed_plan.specs.TypedPlans.{type_at}
+use Rattle.batch_skipping.specs.ChosenColumns.{are_within}
 use Rattle.row_sources.specs.declared.picker.Picker.{Picker}
 use Rattle.row_sources.specs.Picking.{cells_at}
 use Rattle.scan_exec.specs.Giving.{GivingAt}

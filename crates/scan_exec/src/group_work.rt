@@ -3,28 +3,22 @@
 ghost use Rattle.std.specs.Prelude.{◌≡◌, ◌≤◌, ◌<◌, ◌+◌, ◌-◌, ℕ, IfOk, None, Ok, OnOk, length, map};
 ghost use Rattle.arrays.specs.Batch.{row_of};
 ghost use Rattle.array_select.specs.Room.{most_batch_rows};
-ghost use Rattle.grouping.specs.Fed.{HasFed, batch_at};
+ghost use Rattle.grouping.specs.FedRows.{HasFed, batch_at};
 ghost use Rattle.row_sources.specs.Picking.{IsPick, chosen_rows, pick_of};
 ghost use Rattle.scan_base.specs.Limits.{most_rows};
 ghost use Rattle.scan_exec.specs.GroupWork.{CanBeGrouped, GroupWorkAt, GroupsOfAll, GroupsOfPart};
-ghost use Rattle.scan_exec.specs.GroupWork.{IsPartOf, IsSamePart, part_at, rows_between, work_at};
-ghost use Rattle.work_watch.specs.Told.{ToldAtLeast};
+ghost use Rattle.scan_exec.specs.GroupWork.{IsPartOf, IsSamePart, part_at, row_count_between};
+ghost use Rattle.scan_exec.specs.GroupWork.{work_at};
+ghost use Rattle.work_watch.specs.WatchedWork.{ToldAtLeast};
 
 use array_select::Selection;
 use grouping::{Grouping, Groups};
-use hash_seed::HashSeed;
-use row_sources::{Part, Picker};
-use scan_base::Fault;
+use row_sources::{BatchSlice, Picker};
+use scan_base::{Fault, HashSeed};
 use std::alloc::Global;
 use std::marker::Model;
+use work_watch::pace::{GROUPED_ROWS, TURN_ROWS};
 use work_watch::{Watches, tell};
-
-// How many rows a turn of feeding looks at, and after them those of the slice in hand.
-const TURN_ROWS: usize = 1_048_576;
-
-// How many rows of a batch are looked at at once, at most: those that are chosen, and their groups,
-// lie in a near cache.
-const FED_ROWS: usize = 16_384;
 
 /// What is grouped: those rows of batches that filters let through.
 #[derive(Clone, Copy, Drop)]
@@ -62,13 +56,14 @@ pub struct FedPart<'t> {
 
 impl<'t> Model for FedPart<'t> {
     ghost use Rattle.std.specs.Prelude.{◌-◌};
-    ghost use Rattle.scan_exec.specs.GroupWork.{IsPace, IsPartFed, PartAt, part_at, rows_between};
+    ghost use Rattle.scan_exec.specs.GroupWork.{IsPace, IsPartFed, PartAt, part_at};
+    ghost use Rattle.scan_exec.specs.GroupWork.{row_count_between};
     ghost use Rattle.scan_exec.specs.GroupWork.{work_at};
 
     ghost Value = { PartAt };
 
     ghost view = { λ p. part_at (work_at p.work) p.from p.to
-        (rows_between p.at p.to p.work.shape.batches.now - p.row) };
+        (row_count_between p.at p.to p.work.shape.batches.now - p.row) };
 
     ghost invariant = { λ p. IsPartFed (work_at p.work) p.from p.at p.row p.to p.groups
         × IsPace p.pace.weight p.pace.rows };
@@ -141,7 +136,7 @@ impl<'t> GroupWork<'t> {
         requires ordered { from ≤ to }
         requires there { to ≤ length self.now.shape.batches.now }
         ensures { IfOk result (λ part. part ≡ part_at (work_at self.now) from to
-            (rows_between from to self.now.shape.batches.now)) }
+            (row_count_between from to self.now.shape.batches.now)) }
     {
         let groups = Groups::new(alloc, self.seed, self.shape)?;
         Ok(FedPart {
@@ -153,7 +148,7 @@ impl<'t> GroupWork<'t> {
             to,
             pace: Pace {
                 weight: self.picker.weight(),
-                rows: self.picker.most_rows().min(FED_ROWS),
+                rows: self.picker.most_rows().min(GROUPED_ROWS),
             },
             selection: Selection::new(alloc),
         })
@@ -163,9 +158,9 @@ impl<'t> GroupWork<'t> {
 // Some rows of a batch that are fed, the number of the batch among all, and what chooses rows of
 // it.
 #[derive(Clone, Copy, Drop)]
-struct Feeding<'a> {
+struct BatchFeed<'a> {
     number: usize,
-    slice: Part<'a>,
+    slice: BatchSlice<'a>,
     picker: &'a Picker,
 }
 
@@ -173,7 +168,7 @@ struct Feeding<'a> {
 fn feed_slice(
     alloc: Global,
     groups: &mut Groups<'_>,
-    feeding: &Feeding<'_>,
+    feeding: &BatchFeed<'_>,
     selection: &mut Selection,
 ) -> Result<(), Fault>
     requires ready { groups.old.refused ≡ None }
@@ -222,9 +217,9 @@ impl<'t> FedPart<'t> {
         } = self;
         let batch = &work.shape.batches[at];
         let end = batch.rows().min(row + pace.rows);
-        let feeding = Feeding {
+        let feeding = BatchFeed {
             number: at,
-            slice: Part {
+            slice: BatchSlice {
                 batch,
                 from: row,
                 to: end,

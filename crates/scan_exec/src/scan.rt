@@ -2,9 +2,9 @@
 
 ghost use Rattle.std.specs.Prelude.{◌≡◌, ◌≤◌, ◌<◌, [], false, IfOk, IfSome, length, OnOk};
 ghost use Rattle.std.specs.List.{list_any};
-ghost use Rattle.table_versions.specs.Stored.{CatalogAt, tables_of};
+ghost use Rattle.table_versions.specs.StoredTables.{CatalogAt, tables_of};
 ghost use Rattle.table_versions.specs.Table.{is_long_text};
-ghost use Rattle.typed_plan.specs.Held.{HoldsFrom};
+ghost use Rattle.typed_plan.specs.HeldTables.{HoldsFrom};
 ghost use Rattle.typed_plan.specs.Plan.{plan_rows};
 ghost use Rattle.typed_plan.specs.View.{plan_of};
 ghost use Rattle.scan_base.specs.Limits.{most_answer_rows};
@@ -12,32 +12,31 @@ ghost use Rattle.scan_exec.specs.Answering.{CountsTurn, IsGiving, giving_at};
 ghost use Rattle.scan_exec.specs.Morsels.{HasMorsels, morsel_of, of_first};
 ghost use Rattle.scan_exec.specs.Scan.{Gives, GivesTurn, IsBeginning, IsReadied, left};
 
-use crate::answer::{Answer, answer_of};
 use crate::group_work::GroupsBatches;
-use crate::opened::{further_batches, push_numbers};
+use crate::opened_batches::{further_batches, push_numbers};
+use crate::scan_answer::{ScanAnswer, answer_of};
 use arrays::Batch;
-use arrow_schema::Schema;
+use arrow_types::Schema;
 use batch_skipping::opened_lists;
-use hash_seed::HashSeed;
 use rewrite::laws::skipping_keeps_rows;
-use row_sources::{Patience, Reading, RowSource, Turn, WholePlan, opened_tables};
-use scan_base::Fault;
+use row_sources::{Patience, ReadRange, RowSource, Turn, WholePlan, opened_tables};
+use scan_base::{Fault, HashSeed};
 use std::alloc::{AllocError, Global};
 use std::marker::Model;
 use std::ops::Range;
 use std::sync::Arc;
 use typed_plan::TypedPlan;
-use work_watch::{Unwatched, Watches};
+use work_watch::{NoWatch, Watches};
 
-// How many rows an answer has at most.
-const MAX_ANSWER_ROWS: usize = 67_108_864;
+/// How many rows an answer has at most.
+pub const MAX_ANSWER_ROWS: usize = 67_108_864;
 
 /// What a plan gives of a range of its first place's rows, still to be given, batch by batch. A
 /// contract sees these rows, each with the batch of the first place of which it comes; which
 /// batches are to be opened, and which were; and what refused the scan.
 pub struct Scan {
     schema: Arc<Schema>,
-    answer: Answer,
+    answer: ScanAnswer,
     // The batches that are to be opened: those of the further places, and then those of the first.
     batches: Vec<(usize, usize)>,
     further: usize,
@@ -92,12 +91,12 @@ impl Scan {
             left scan ≡ plan_rows (plan_of plan) (tables_of catalog) range.start range.end) }
         ensures short { IfOk result (λ scan. list_any (list_any is_long_text) (left scan) ≡ false) }
     {
-        let reading = Reading {
+        let reading = ReadRange {
             seed,
             from: range.start,
             to: range.end,
         };
-        Scan::watched(alloc, plan, reading, &mut Unwatched)
+        Scan::watched(alloc, plan, reading, &mut NoWatch)
     }
 
     /// The same, watched: who watches may end it while batches are judged by their statistics, and
@@ -109,7 +108,7 @@ impl Scan {
     pub fn watched<W: Watches>(
         alloc: Global,
         plan: TypedPlan,
-        reading: Reading,
+        reading: ReadRange,
         watch: &mut W,
     ) -> Result<Scan, AllocError>
         requires ready { W.ready watch.old }
@@ -133,7 +132,7 @@ impl Scan {
         let (tables, tree, output, schema) = plan.into_parts();
         let tables = opened_tables(alloc, tables.as_slice(), lists)?;
         let seed = reading.seed;
-        let opened = Reading { seed, from, to };
+        let opened = ReadRange { seed, from, to };
         let plan = WholePlan {
             tree,
             output: &output,
@@ -173,23 +172,9 @@ impl Scan {
         ensures ready { OnOk result (W.ready watch.new) }
         ensures watched { W.watched watch.old watch.new }
     {
-        let Scan {
-            schema,
-            mut answer,
-            batches,
-            further,
-            given,
-            refused,
-        } = self;
-        answer.make_groups(alloc, by, watch)?;
-        Ok(Scan {
-            schema,
-            answer,
-            batches,
-            further,
-            given,
-            refused,
-        })
+        let mut scan = self;
+        scan.answer.make_groups(alloc, by, watch)?;
+        Ok(scan)
     }
 
     /// The next rows, 65,536 or fewer, as a batch. Rows of one place come batch by batch of its
@@ -255,7 +240,7 @@ impl Scan {
     pub fn morsels(&self) -> Option<usize>
         ensures { IfSome result (HasMorsels self.now) }
     {
-        let Answer::Rows(rows) = &self.answer else {
+        let ScanAnswer::Rows(rows) = &self.answer else {
             return None;
         };
         if rows.opened() > 0 || self.given > 0 || self.refused.is_some() {
@@ -279,7 +264,7 @@ impl Scan {
         ensures { IfOk result
             (λ morsel. morsel ≡ record (morsel_of self.now number) { unseen = morsel.unseen }) }
     {
-        let Answer::Rows(rows) = &self.answer else {
+        let ScanAnswer::Rows(rows) = &self.answer else {
             return Err(AllocError);
         };
         let _ordered = rows.opened();
@@ -288,7 +273,7 @@ impl Scan {
         batches.push(self.batches[self.further + number])?;
         Ok(Scan {
             schema: Arc::try_clone(&self.schema)?,
-            answer: Answer::Rows(rows),
+            answer: ScanAnswer::Rows(rows),
             batches,
             further: 0,
             given: 0,
@@ -301,7 +286,7 @@ impl Scan {
 fn turn_counted(
     alloc: Global,
     patience: Patience,
-    answer: &mut Answer,
+    answer: &mut ScanAnswer,
     given: &mut usize,
 ) -> Result<Turn<Batch>, Fault>
     requires giving { IsGiving answer.old }

@@ -1,15 +1,15 @@
 //! Groups of which each different item is made once.
 
 ghost use Rattle.std.specs.Prelude.{◌≡◌, IsTrue, length, OnOk};
-ghost use Rattle.batch_skipping.specs.Chosen.{are_within};
+ghost use Rattle.batch_skipping.specs.ChosenColumns.{are_within};
 ghost use Rattle.scan_exec.specs.Giving.{GivesNext, MakesReady};
 ghost use Rattle.scan_exec.specs.ShownGroups.{with_cells};
 
 use crate::group_work::GroupsBatches;
-use crate::grouped::GroupedRows;
+use crate::grouped_rows::GroupedRows;
 use array_select::Selection;
 use arrays::Batch;
-use row_sources::{Part, Picker};
+use row_sources::{BatchSlice, Picker};
 use std::alloc::{AllocError, Global};
 use std::marker::Model;
 use work_watch::Watches;
@@ -78,7 +78,7 @@ impl ShownGroups {
         let Some(batch) = self.groups.next(alloc)? else {
             return Ok(None);
         };
-        let whole = Part {
+        let whole = BatchSlice {
             batch: &batch,
             from: 0,
             to: batch.rows(),

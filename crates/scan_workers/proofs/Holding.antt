@@ -6,7 +6,7 @@ use Rattle.std.specs.Option.{option_map}
 use Rattle.std.proofs.Math.ListN.{get_or-map}
 use Rattle.std.proofs.lemmas.List.{map-set, length-map, get_or-set_same, get_or-set_other, get_or-replicate, get_or_past, get_or_read, length-set, length-replicate}
 use Rattle.std.proofs.lemmas.Option.{none-some}
-use Rattle.scan_workers.specs.Held.{HeldAt, IsHeld, Lies, IsInHand, MayBegin, held_at, in_slot, at_first, asked, begun_one, laid, taken, given_next}
+use Rattle.scan_workers.specs.MorselRing.{RingAt, IsRing, Lies, IsInHand, MayBegin, ring_at, in_slot, at_first, begun_one, laid, taken, given_next}
 
 -- the number, or 0 of none
 abbrev or_zero : Option ℕ → ℕ
@@ -37,11 +37,11 @@ in_range slots place number e =
     ]
 
 -- what lies in a slot lies there alone, and was not given
-abbrev pub Alone : HeldAt → Type 0
+abbrev pub Alone : RingAt → Type 0
 Alone h = (place number : ℕ) → slice_index_or h.slots place None ≡ Some number → (place ≡ number % length h.slots) × (h.given ≤ number) × (number < h.begun)
 
 -- two numbers that were begun and not given have two slots
-same_number : (h : HeldAt) (a b : ℕ) → h.begun ≤ h.given + length h.slots → h.given ≤ a → a < h.begun → h.given ≤ b → b < h.begun → a % length h.slots ≡ b % length h.slots → a ≡ b
+same_number : (h : RingAt) (a b : ℕ) → h.begun ≤ h.given + length h.slots → h.given ≤ a → a < h.begun → h.given ≤ b → b < h.begun → a % length h.slots ≡ b % length h.slots → a ≡ b
 same_number h a b room a0 a1 b0 b1 same =
     elim (cases_order a b) [
       | inl e ↦ e
@@ -50,7 +50,7 @@ same_number h a b room a0 a1 b0 b1 same =
     ]
 
 -- each number that was begun has its place
-kept : (h : HeldAt) → Alone h → h.begun ≤ h.read + length h.slots → (h.read ≤ h.given) × (h.given ≤ h.read + 1) × (h.given ≤ h.begun) → IsHeld h
+kept : (h : RingAt) → Alone h → h.begun ≤ h.read + length h.slots → (h.read ≤ h.given) × (h.given ≤ h.read + 1) × (h.given ≤ h.begun) → IsRing h
 kept h alone room done = record {
   each = λ number below. by_slot number below (in_slot h number) refl;
   alone = alone;
@@ -68,7 +68,7 @@ kept h alone room done = record {
           | inr more ↦ inr (inl (e ∙ ap (λ n. Some n) (sym (same_number h number other (omega (arith, room, done.0)) more below a.1 a.2 a.0))))
         ]
 
-pub at_first_held : (count room : ℕ) → IsHeld (at_first count room)
+pub at_first_held : (count room : ℕ) → IsRing (at_first count room)
 at_first_held count room =
     kept (at_first count room) (λ place number e. absurd (none-some number (sym (nothing place) ∙ e))) (omega arith) (omega arith, omega arith, omega arith)
   where
@@ -79,11 +79,7 @@ at_first_held count room =
           | inr past ↦ get_or_past (at_first count room).slots place None (omega (arith, past, length-replicate {A = Option ℕ} room None))
         ]
 
-pub asked_held : (h : HeldAt) → IsHeld h → IsHeld (asked h)
-asked_held h k =
-    kept (asked h) k.alone (omega (arith, k.room, k.done.0)) (omega arith, omega arith, k.done.2)
-
-pub begun_one_held : (h : HeldAt) → IsHeld h → MayBegin h → IsHeld (begun_one h)
+pub begun_one_held : (h : RingAt) → IsRing h → MayBegin h → IsRing (begun_one h)
 begun_one_held h k may =
     kept (begun_one h) (λ place number e. let a = k.alone place number e in (a.0, a.1, omega (arith, a.2))) (omega (arith, may.1)) (k.done.0, k.done.1, omega (arith, k.done.2))
 
@@ -104,10 +100,10 @@ changed slots at what place number there e = by_order (cases_order place at)
 as_many : (slots : List (Option ℕ)) (at : ℕ) (what : Option ℕ) (place number : ℕ) → place ≡ number % length slots → place ≡ number % length (slice_set slots at what)
 as_many slots at what place number e = subst (λ size. place ≡ number % size) (sym (length-set slots at what)) e
 
-pub some_slot : (h : HeldAt) (n : ℕ) → IsHeld h → IsInHand h n → n % length h.slots < length h.slots
+pub some_slot : (h : RingAt) (n : ℕ) → IsRing h → IsInHand h n → n % length h.slots < length h.slots
 some_slot h n k hand = mod-lt n (omega (arith, k.room, k.done.0, hand.0, hand.1))
 
-pub laid_held : (h : HeldAt) (n : ℕ) → IsHeld h → IsInHand h n → IsHeld (laid h n)
+pub laid_held : (h : RingAt) (n : ℕ) → IsRing h → IsInHand h n → IsRing (laid h n)
 laid_held h n k hand =
     kept (laid h n) alone (omega (arith, k.room, length-set h.slots (n % length h.slots) (Some n))) k.done
   where
@@ -122,7 +118,7 @@ laid_held h n k hand =
         let a = by_place place number (changed h.slots (n % length h.slots) (Some n) place number (some_slot h n k hand) e) in
         (as_many h.slots (n % length h.slots) (Some n) place number a.0, a.1, a.2)
 
-pub taken_held : (h : HeldAt) (n : ℕ) → IsHeld h → Lies h n → IsHeld (taken h n)
+pub taken_held : (h : RingAt) (n : ℕ) → IsRing h → Lies h n → IsRing (taken h n)
 taken_held h n k lies =
     kept (taken h n) alone (omega (arith, k.room, length-set h.slots (n % length h.slots) None)) k.done
   where
@@ -136,7 +132,7 @@ taken_held h n k lies =
         (as_many h.slots (n % length h.slots) None place number a.0, a.1, a.2)
 
 -- what lies in the slot for which the reader asks is the answer for which it asks
-pub lies_next : (h : HeldAt) (m : ℕ) → IsHeld h → in_slot h h.read ≡ Some m → m ≡ h.read
+pub lies_next : (h : RingAt) (m : ℕ) → IsRing h → in_slot h h.read ≡ Some m → m ≡ h.read
 lies_next h m k e =
     let a = k.alone (h.read % length h.slots) m e in
     elim (cases_order m h.read) [
@@ -145,7 +141,7 @@ lies_next h m k e =
       | inr (inr more) ↦ absurd (less_apart h.read m (length h.slots) a.0 more (omega (arith, a.2, k.room)))
     ]
 
-pub given_next_held : (h : HeldAt) → IsHeld h → Lies h h.read → IsHeld (given_next h)
+pub given_next_held : (h : RingAt) → IsRing h → Lies h h.read → IsRing (given_next h)
 given_next_held h k lies =
     kept (given_next h) alone (omega (arith, k.room, length-set h.slots (h.read % length h.slots) None)) (omega arith, omega arith, omega (arith, first.2))
   where
@@ -178,7 +174,7 @@ pub changed_slot : {T : Type 0} (number : T → ℕ) (slots : List (Option T)) (
 changed_slot number slots place what = map-set (option_map number) slots place what
 
 -- so much is begun and given, and this lies in the slots
-abbrev at_slots : ℕ → ℕ → ℕ → ℕ → List (Option ℕ) → HeldAt
+abbrev at_slots : ℕ → ℕ → ℕ → ℕ → List (Option ℕ) → RingAt
 at_slots count read given begun slots = record { count = count; read = read; given = given; begun = begun; slots = slots }
 
 -- empty slots have no numbers
@@ -187,37 +183,37 @@ no_numbers number zero = refl
 no_numbers number (suc room) = ap (λ (rest : List (Option ℕ)). None ∷ rest) (no_numbers number room)
 
 -- what is held at first
-pub first_is : {T : Type 0} (number : T → ℕ) (count room : ℕ) (slots : List (Option T)) → slots ≡ replicate room None → held_at number count 0 0 0 slots ≡ at_first count room
+pub first_is : {T : Type 0} (number : T → ℕ) (count room : ℕ) (slots : List (Option T)) → slots ≡ replicate room None → ring_at number count 0 0 0 slots ≡ at_first count room
 first_is number count room slots e =
-    ap (held_at number count 0 0 0) e ∙ ap (at_slots count 0 0 0) (no_numbers number room)
+    ap (ring_at number count 0 0 0) e ∙ ap (at_slots count 0 0 0) (no_numbers number room)
 
-pub first_held : {T : Type 0} (number : T → ℕ) (count room : ℕ) (slots : List (Option T)) → slots ≡ replicate room None → IsHeld (held_at number count 0 0 0 slots)
-first_held number count room slots e = subst IsHeld (sym (first_is number count room slots e)) (at_first_held count room)
+pub first_held : {T : Type 0} (number : T → ℕ) (count room : ℕ) (slots : List (Option T)) → slots ≡ replicate room None → IsRing (ring_at number count 0 0 0 slots)
+first_held number count room slots e = subst IsRing (sym (first_is number count room slots e)) (at_first_held count room)
 
 -- one more is begun
-pub begin_held : {T : Type 0} (number : T → ℕ) (count read given begun : ℕ) (slots : List (Option T)) (old : HeldAt) → held_at number count read given begun slots ≡ old → IsHeld (held_at number count read given begun slots) → MayBegin old → IsHeld (held_at number count read given (begun + 1) slots)
+pub begin_held : {T : Type 0} (number : T → ℕ) (count read given begun : ℕ) (slots : List (Option T)) (old : RingAt) → ring_at number count read given begun slots ≡ old → IsRing (ring_at number count read given begun slots) → MayBegin old → IsRing (ring_at number count read given (begun + 1) slots)
 begin_held number count read given begun slots old is k may =
-    begun_one_held (held_at number count read given begun slots) k (subst MayBegin (sym is) may)
+    begun_one_held (ring_at number count read given begun slots) k (subst MayBegin (sym is) may)
 
 -- the slot of a number
 own_slot : {T : Type 0} (number : T → ℕ) (n place : ℕ) (slots : List (Option T)) → place ≡ n % length slots → place ≡ n % length (map (option_map number) slots)
 own_slot number n place slots p = p ∙ ap (λ (size : ℕ). n % size) (sym (length-map slots (option_map number)))
 
 -- what is laid into the slot of its number
-laid_in : {T : Type 0} (number : T → ℕ) (count read given begun : ℕ) (slots : List (Option T)) (place : ℕ) (after : Option T) (what : T) → place ≡ number what % length slots → after ≡ Some what → held_at number count read given begun (slice_set slots place after) ≡ laid (held_at number count read given begun slots) (number what)
+laid_in : {T : Type 0} (number : T → ℕ) (count read given begun : ℕ) (slots : List (Option T)) (place : ℕ) (after : Option T) (what : T) → place ≡ number what % length slots → after ≡ Some what → ring_at number count read given begun (slice_set slots place after) ≡ laid (ring_at number count read given begun slots) (number what)
 laid_in {T} number count read given begun slots place after what p e =
     let numbers : List (Option ℕ) = map (option_map number) slots in
-    ap (λ (lying : Option T). held_at number count read given begun (slice_set slots place lying)) e
+    ap (λ (lying : Option T). ring_at number count read given begun (slice_set slots place lying)) e
     ∙ ap (at_slots count read given begun) (changed_slot number slots place (Some what) ∙ ap (λ (at : ℕ). slice_set numbers at (Some (number what))) (own_slot number (number what) place slots p))
 
-pub lay_is : {T : Type 0} (number : T → ℕ) (count read given begun : ℕ) (slots : List (Option T)) (place : ℕ) (after : Option T) (what : T) (old : HeldAt) → held_at number count read given begun slots ≡ old → place ≡ number what % length slots → after ≡ Some what → held_at number count read given begun (slice_set slots place after) ≡ laid old (number what)
+pub lay_is : {T : Type 0} (number : T → ℕ) (count read given begun : ℕ) (slots : List (Option T)) (place : ℕ) (after : Option T) (what : T) (old : RingAt) → ring_at number count read given begun slots ≡ old → place ≡ number what % length slots → after ≡ Some what → ring_at number count read given begun (slice_set slots place after) ≡ laid old (number what)
 lay_is number count read given begun slots place after what old is p e =
-    laid_in number count read given begun slots place after what p e ∙ ap (λ (h : HeldAt). laid h (number what)) is
+    laid_in number count read given begun slots place after what p e ∙ ap (λ (h : RingAt). laid h (number what)) is
 
-pub lay_held : {T : Type 0} (number : T → ℕ) (count read given begun : ℕ) (slots : List (Option T)) (place : ℕ) (after : Option T) (what : T) (old : HeldAt) → held_at number count read given begun slots ≡ old → IsHeld (held_at number count read given begun slots) → IsInHand old (number what) → place ≡ number what % length slots → after ≡ Some what → IsHeld (held_at number count read given begun (slice_set slots place after))
+pub lay_held : {T : Type 0} (number : T → ℕ) (count read given begun : ℕ) (slots : List (Option T)) (place : ℕ) (after : Option T) (what : T) (old : RingAt) → ring_at number count read given begun slots ≡ old → IsRing (ring_at number count read given begun slots) → IsInHand old (number what) → place ≡ number what % length slots → after ≡ Some what → IsRing (ring_at number count read given begun (slice_set slots place after))
 lay_held number count read given begun slots place after what old is k hand p e =
-    let h : HeldAt = held_at number count read given begun slots in
-    subst IsHeld (sym (laid_in number count read given begun slots place after what p e)) (laid_held h (number what) k (subst (λ (at : HeldAt). IsInHand at (number what)) (sym is) hand))
+    let h : RingAt = ring_at number count read given begun slots in
+    subst IsRing (sym (laid_in number count read given begun slots place after what p e)) (laid_held h (number what) k (subst (λ (at : RingAt). IsInHand at (number what)) (sym is) hand))
 
 -- what lies in a slot, by what was read there
 lies_there : {T : Type 0} (number : T → ℕ) (slots : List (Option T)) (place : ℕ) (slot : Option T) (what : T) → place < length slots → slot ≡ slice_index_or slots place slot → slot ≡ Some what → slice_index_or (map (option_map number) slots) place None ≡ Some (number what)
@@ -225,52 +221,52 @@ lies_there number slots place slot what there is e =
     read_slot number slots place ∙ ap (option_map number) (sym (get_or_read slots place slot there is None) ∙ e)
 
 -- what a slot had is taken out of it
-taken_out : {T : Type 0} (number : T → ℕ) (count read given begun : ℕ) (slots : List (Option T)) (place : ℕ) (slot after : Option T) (what : T) → IsHeld (held_at number count read given begun slots) → place < length slots → slot ≡ slice_index_or slots place slot → slot ≡ Some what → after ≡ None → Lies (held_at number count read given begun slots) (number what) × (held_at number count read given begun (slice_set slots place after) ≡ taken (held_at number count read given begun slots) (number what))
+taken_out : {T : Type 0} (number : T → ℕ) (count read given begun : ℕ) (slots : List (Option T)) (place : ℕ) (slot after : Option T) (what : T) → IsRing (ring_at number count read given begun slots) → place < length slots → slot ≡ slice_index_or slots place slot → slot ≡ Some what → after ≡ None → Lies (ring_at number count read given begun slots) (number what) × (ring_at number count read given begun (slice_set slots place after) ≡ taken (ring_at number count read given begun slots) (number what))
 taken_out {T} number count read given begun slots place slot after what k there is e f =
     let numbers : List (Option ℕ) = map (option_map number) slots in
     let lies : slice_index_or numbers place None ≡ Some (number what) = lies_there number slots place slot what there is e in
     let own : place ≡ number what % length numbers = (k.alone place (number what) lies).0 in (
       subst (λ (at : ℕ). slice_index_or numbers at None ≡ Some (number what)) own lies,
-      ap (λ (lying : Option T). held_at number count read given begun (slice_set slots place lying)) f
+      ap (λ (lying : Option T). ring_at number count read given begun (slice_set slots place lying)) f
           ∙ ap (at_slots count read given begun) (changed_slot number slots place None ∙ ap (λ (at : ℕ). slice_set numbers at None) own),
     )
 
-pub take_is : {T : Type 0} (number : T → ℕ) (count read given begun : ℕ) (slots : List (Option T)) (place : ℕ) (slot after : Option T) (what : T) (old : HeldAt) → held_at number count read given begun slots ≡ old → IsHeld (held_at number count read given begun slots) → place < length slots → slot ≡ slice_index_or slots place slot → slot ≡ Some what → after ≡ None → Lies old (number what) × (held_at number count read given begun (slice_set slots place after) ≡ taken old (number what))
+pub take_is : {T : Type 0} (number : T → ℕ) (count read given begun : ℕ) (slots : List (Option T)) (place : ℕ) (slot after : Option T) (what : T) (old : RingAt) → ring_at number count read given begun slots ≡ old → IsRing (ring_at number count read given begun slots) → place < length slots → slot ≡ slice_index_or slots place slot → slot ≡ Some what → after ≡ None → Lies old (number what) × (ring_at number count read given begun (slice_set slots place after) ≡ taken old (number what))
 take_is number count read given begun slots place slot after what old is k there read_is e f =
-    subst (λ (h : HeldAt). Lies h (number what) × (held_at number count read given begun (slice_set slots place after) ≡ taken h (number what))) is
+    subst (λ (h : RingAt). Lies h (number what) × (ring_at number count read given begun (slice_set slots place after) ≡ taken h (number what))) is
     (taken_out number count read given begun slots place slot after what k there read_is e f)
 
-pub take_held : {T : Type 0} (number : T → ℕ) (count read given begun : ℕ) (slots : List (Option T)) (place : ℕ) (slot after : Option T) (what : T) → IsHeld (held_at number count read given begun slots) → place < length slots → slot ≡ slice_index_or slots place slot → slot ≡ Some what → after ≡ None → IsHeld (held_at number count read given begun (slice_set slots place after))
+pub take_held : {T : Type 0} (number : T → ℕ) (count read given begun : ℕ) (slots : List (Option T)) (place : ℕ) (slot after : Option T) (what : T) → IsRing (ring_at number count read given begun slots) → place < length slots → slot ≡ slice_index_or slots place slot → slot ≡ Some what → after ≡ None → IsRing (ring_at number count read given begun (slice_set slots place after))
 take_held number count read given begun slots place slot after what k there read_is e f =
     let t = taken_out number count read given begun slots place slot after what k there read_is e f in
-    subst IsHeld (sym t.1) (taken_held (held_at number count read given begun slots) (number what) k t.0)
+    subst IsRing (sym t.1) (taken_held (ring_at number count read given begun slots) (number what) k t.0)
 
 -- what the slot had for which the reader asks is given to it
-given_out : {T : Type 0} (number : T → ℕ) (count read given begun : ℕ) (slots : List (Option T)) (place : ℕ) (slot after : Option T) (what : T) → IsHeld (held_at number count read given begun slots) → place < length slots → slot ≡ slice_index_or slots place slot → slot ≡ Some what → after ≡ None → place ≡ read % length slots → (number what ≡ read) × Lies (held_at number count read given begun slots) read × (held_at number count read (read + 1) begun (slice_set slots place after) ≡ given_next (held_at number count read given begun slots))
+given_out : {T : Type 0} (number : T → ℕ) (count read given begun : ℕ) (slots : List (Option T)) (place : ℕ) (slot after : Option T) (what : T) → IsRing (ring_at number count read given begun slots) → place < length slots → slot ≡ slice_index_or slots place slot → slot ≡ Some what → after ≡ None → place ≡ read % length slots → (number what ≡ read) × Lies (ring_at number count read given begun slots) read × (ring_at number count read (read + 1) begun (slice_set slots place after) ≡ given_next (ring_at number count read given begun slots))
 given_out {T} number count read given begun slots place slot after what k there is e f p =
     let numbers : List (Option ℕ) = map (option_map number) slots in
     let own : place ≡ read % length numbers = own_slot number read place slots p in
     let lies : slice_index_or numbers (read % length numbers) None ≡ Some (number what) =
     subst (λ (at : ℕ). slice_index_or numbers at None ≡ Some (number what)) own (lies_there number slots place slot what there is e) in
-    let same : number what ≡ read = lies_next (held_at number count read given begun slots) (number what) k lies in (
+    let same : number what ≡ read = lies_next (ring_at number count read given begun slots) (number what) k lies in (
       same,
       lies ∙ ap (λ (n : ℕ). Some n) same,
-      ap (λ (lying : Option T). held_at number count read (read + 1) begun (slice_set slots place lying)) f
+      ap (λ (lying : Option T). ring_at number count read (read + 1) begun (slice_set slots place lying)) f
           ∙ ap (at_slots count read (read + 1) begun) (changed_slot number slots place None ∙ ap (λ (at : ℕ). slice_set numbers at None) own),
     )
 
-pub give_is : {T : Type 0} (number : T → ℕ) (count read given begun : ℕ) (slots : List (Option T)) (place : ℕ) (slot after : Option T) (what : T) (old : HeldAt) → held_at number count read given begun slots ≡ old → IsHeld (held_at number count read given begun slots) → place < length slots → slot ≡ slice_index_or slots place slot → slot ≡ Some what → after ≡ None → place ≡ read % length slots → (number what ≡ old.read) × Lies old old.read × (held_at number count read (read + 1) begun (slice_set slots place after) ≡ given_next old)
+pub give_is : {T : Type 0} (number : T → ℕ) (count read given begun : ℕ) (slots : List (Option T)) (place : ℕ) (slot after : Option T) (what : T) (old : RingAt) → ring_at number count read given begun slots ≡ old → IsRing (ring_at number count read given begun slots) → place < length slots → slot ≡ slice_index_or slots place slot → slot ≡ Some what → after ≡ None → place ≡ read % length slots → (number what ≡ old.read) × Lies old old.read × (ring_at number count read (read + 1) begun (slice_set slots place after) ≡ given_next old)
 give_is number count read given begun slots place slot after what old is k there read_is e f p =
-    subst (λ (h : HeldAt). (number what ≡ h.read) × Lies h h.read × (held_at number count read (read + 1) begun (slice_set slots place after) ≡ given_next h)) is
+    subst (λ (h : RingAt). (number what ≡ h.read) × Lies h h.read × (ring_at number count read (read + 1) begun (slice_set slots place after) ≡ given_next h)) is
     (given_out number count read given begun slots place slot after what k there read_is e f p)
 
-pub give_held : {T : Type 0} (number : T → ℕ) (count read given begun : ℕ) (slots : List (Option T)) (place : ℕ) (slot after : Option T) (what : T) → IsHeld (held_at number count read given begun slots) → place < length slots → slot ≡ slice_index_or slots place slot → slot ≡ Some what → after ≡ None → place ≡ read % length slots → IsHeld (held_at number count read (read + 1) begun (slice_set slots place after))
+pub give_held : {T : Type 0} (number : T → ℕ) (count read given begun : ℕ) (slots : List (Option T)) (place : ℕ) (slot after : Option T) (what : T) → IsRing (ring_at number count read given begun slots) → place < length slots → slot ≡ slice_index_or slots place slot → slot ≡ Some what → after ≡ None → place ≡ read % length slots → IsRing (ring_at number count read (read + 1) begun (slice_set slots place after))
 give_held number count read given begun slots place slot after what k there read_is e f p =
     let t = given_out number count read given begun slots place slot after what k there read_is e f p in
-    subst IsHeld (sym t.2) (given_next_held (held_at number count read given begun slots) k t.1)
+    subst IsRing (sym t.2) (given_next_held (ring_at number count read given begun slots) k t.1)
 
 -- what the reader is given was begun
-pub was_begun : {T : Type 0} (number : T → ℕ) (count read given begun : ℕ) (slots : List (Option T)) (place : ℕ) (slot : Option T) → IsHeld (held_at number count read given begun slots) → place < length slots → slot ≡ slice_index_or slots place slot → IsSome slot → place ≡ read % length slots → read < begun
+pub was_begun : {T : Type 0} (number : T → ℕ) (count read given begun : ℕ) (slots : List (Option T)) (place : ℕ) (slot : Option T) → IsRing (ring_at number count read given begun slots) → place < length slots → slot ≡ slice_index_or slots place slot → IsSome slot → place ≡ read % length slots → read < begun
 was_begun number count read given begun slots place None k there is some p = absurd (false≢true some)
 was_begun number count read given begun slots place (Some what) k there is some p =
     let t = given_out number count read given begun slots place (Some what) None what k there is refl refl p in

@@ -1,4 +1,4 @@
 pub mod Claims
-pub mod Held
+pub mod MorselRing
 pub mod Right
 pub mod Turns

@@ -1,7 +1,7 @@
 -- What comes of a turn to the next answer.
 use Rattle.std.specs.Prelude.{◌≡◌, ◌<◌, ◌≤◌, ◌+◌, ℕ}
-use Rattle.scan_workers.specs.declared.work.NextAnswer.{NextAnswer}
-use Rattle.scan_workers.specs.declared.work.NextAnswer.TheVariants.{Given, Going, End}
+use Rattle.scan_workers.specs.declared.morsel_work.NextAnswer.{NextAnswer}
+use Rattle.scan_workers.specs.declared.morsel_work.NextAnswer.TheVariants.{Given, Going, End}
 
 -- The next answer of so many morsels, where so many were given before: it is right, or it is not
 -- there yet, or all were given. How many are given then.

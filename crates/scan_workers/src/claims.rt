@@ -8,12 +8,12 @@ use std::alloc::{AllocError, Global};
 use std::collections::LinkedList;
 
 // What a worker knows: the numbers that it drew. No value of it is made.
-pub type Drawn = LinkedList<u64>;
+pub type DrawnNumbers = LinkedList<u64>;
 
 // The rule of the word.
-pub struct Law;
+pub struct ClaimLaw;
 
-impl TableRule<(), Drawn, ()> for Law {
+impl TableRule<(), DrawnNumbers, ()> for ClaimLaw {
     ghost use Rattle.std.specs.Prelude.{[]};
     ghost use Rattle.scan_workers.specs.Claims.{IsClaimed};
 
@@ -23,18 +23,18 @@ impl TableRule<(), Drawn, ()> for Law {
 }
 
 // A worker draws the number that the word had.
-pub struct Draws;
+pub struct DrawMorsel;
 
-impl Play<(), Drawn> for Draws {
-    ghost use Rattle.scan_workers.specs.Claims.{Drew};
+impl Play<(), DrawnNumbers> for DrawMorsel {
+    ghost use Rattle.scan_workers.specs.Claims.{DrewMorsel};
 
-    ghost then = { Drew };
+    ghost then = { DrewMorsel };
 }
 
 // A new worker comes, which has drawn nothing.
-pub struct Comes;
+pub struct NewWorker;
 
-impl Split<Drawn> for Comes {
+impl Split<DrawnNumbers> for NewWorker {
     ghost use Rattle.std.specs.Prelude.{[]};
 
     ghost left = { λ drawn. drawn };
@@ -42,10 +42,10 @@ impl Split<Drawn> for Comes {
     ghost right = { λ _. [] };
 }
 
-pub type Word = Table<(), Drawn, (), Law, Global>;
+pub type Word = Table<(), DrawnNumbers, (), ClaimLaw, Global>;
 
 // One that draws from the word.
-pub type Claimer = Seat<(), Drawn>;
+pub type Claimer = Seat<(), DrawnNumbers>;
 
 // A word at 0, and the one claimer.
 pub fn open(alloc: Global) -> Result<(Word, Claimer), AllocError>
@@ -63,7 +63,7 @@ pub fn draw(word: &Word, me: &mut Claimer) -> u64
     ensures word { me.new.table_id ≡ me.old.table_id }
     ensures drawn { me.new.me ≡ (me.old.me.0 ++ result ∷ [], me.old.me.1) }
 {
-    word.shared.fetch_add::<Draws>(me, 0, 1)
+    word.shared.fetch_add::<DrawMorsel>(me, 0, 1)
 }
 
 // A second claimer.
@@ -73,5 +73,5 @@ pub fn split(word: &Word, me: &mut Claimer) -> Claimer
     ensures word { (me.new.table_id ≡ me.old.table_id) × (result.table_id ≡ me.old.table_id) }
     ensures drawn { (me.new.me ≡ me.old.me) × (result.me ≡ ([], [])) }
 {
-    word.shared.split_seat::<Comes>(me)
+    word.shared.split_seat::<NewWorker>(me)
 }

@@ -3,19 +3,19 @@
 ghost use Rattle.std.specs.Prelude.{◌≡◌, [], length, IfOk, OnOk};
 ghost use Rattle.scan_workers.specs.Right.{AllRight};
 
-use crate::beside::in_order;
-use crate::work::{Answers, Gate, Reads, Work};
+use crate::crew::in_order;
+use crate::morsel_work::{Answers, Gate, Reads, Work};
 use std::alloc::{AllocError, Global};
 use std::sync::Wait;
 use std::thread::Threads;
 
 // The answers so far.
 #[derive(Drop)]
-struct Collected<A> {
+struct AnswerCollector<A> {
     answers: Vec<A>,
 }
 
-impl<A: Drop> Reads<A> for Collected<A> {
+impl<A: Drop> Reads<A> for AnswerCollector<A> {
     type Out = Result<(), AllocError>;
 
     ghost use Rattle.std.specs.Prelude.{◌≡◌, [], length, OnOk};
@@ -56,7 +56,7 @@ where
     ensures { IfOk result (λ v. (length v.items ≡ W.count work.now)
         × AllRight (λ n a. ∥ W.answers work.now n a ∥₁) 0 v.items) }
 {
-    let mut collected = Collected {
+    let mut collected = AnswerCollector {
         answers: Vec::new(alloc),
     };
     in_order(rt, alloc, work, workers, gate, &mut collected)??;

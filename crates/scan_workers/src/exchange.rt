@@ -2,10 +2,10 @@
 
 ghost use Rattle.std.specs.Prelude.{◌≡◌, ◌<◌, ℕ};
 
-use crate::answered::{Answered, Done, Stage, Task, Truth};
 use crate::claims::{Claimer, Word, draw};
+use crate::morsel_answer::{MorselAnswer, MorselProgress, Stage, Task, Truth};
+use crate::morsel_work::{Gate, Work};
 use crate::window::Window;
-use crate::work::{Gate, Work};
 use std::alloc::Global;
 use std::sync::Wait;
 
@@ -24,20 +24,20 @@ pub struct Exchange<'a, K: Truth<A>, A, W: Work<Answer = A>, G, R> {
 
 impl<'a, K: Truth<A>, A, W: Work<Answer = A>, G: Gate, R: Wait> Exchange<'a, K, A, W, G, R> {
     // Begins a morsel, if there is one of this number.
-    pub fn begin(&self, number: usize) -> Option<Done<K, A>>
+    pub fn begin(&self, number: usize) -> Option<MorselProgress<K, A>>
         requires { W.ready self.now.work.now }
     {
         if number >= self.work.count() {
             return None;
         }
         self.gate.enter(number);
-        let answered = Answered::new(number, self.work.answer(self.alloc, number));
+        let answered = MorselAnswer::new(number, self.work.answer(self.alloc, number));
         let stage = Stage::Begun;
-        Some(Done { answered, stage })
+        Some(MorselProgress { answered, stage })
     }
 
     // Makes more of an answer, for a while. Whether there is more to be made then.
-    fn go_on(&self, answered: &mut Answered<K, A>) -> bool
+    fn go_on(&self, answered: &mut MorselAnswer<K, A>) -> bool
         requires { W.ready self.now.work.now }
         ensures { answered.new.number ≡ answered.old.number }
     {
@@ -45,7 +45,7 @@ impl<'a, K: Truth<A>, A, W: Work<Answer = A>, G: Gate, R: Wait> Exchange<'a, K, 
     }
 
     // The same with an answer that is held.
-    fn make(&self, mut answered: Answered<K, A>) -> Done<K, A>
+    fn make(&self, mut answered: MorselAnswer<K, A>) -> MorselProgress<K, A>
         requires { W.ready self.now.work.now }
         ensures { result.answered.number ≡ answered.number }
     {
@@ -54,11 +54,15 @@ impl<'a, K: Truth<A>, A, W: Work<Answer = A>, G: Gate, R: Wait> Exchange<'a, K, 
         } else {
             Stage::Made
         };
-        Done { answered, stage }
+        MorselProgress { answered, stage }
     }
 
     // Does what is to be done next.
-    pub fn perform(&self, me: &mut Claimer, task: Task<Answered<K, A>>) -> Option<Done<K, A>>
+    pub fn perform(
+        &self,
+        me: &mut Claimer,
+        task: Task<MorselAnswer<K, A>>,
+    ) -> Option<MorselProgress<K, A>>
         requires ready { W.ready self.now.work.now }
         requires mine { me.old.table_id ≡ self.now.word.shared.table_id }
         ensures mine { me.new.table_id ≡ me.old.table_id }

@@ -1,17 +1,17 @@
 //! Workers that claim morsels by one word, and whose answers are read in the order of the morsels.
 #![tactic(auto)]
 
-mod answered;
-mod beside;
 mod claims;
 mod collect;
+mod crew;
 mod exchange;
-mod held;
+mod morsel_answer;
+mod morsel_ring;
+mod morsel_work;
 mod pull;
 mod slots;
 mod window;
-mod work;
 
-pub use crate::beside::in_order;
 pub use crate::collect::run;
-pub use crate::work::{Answers, Gate, NextAnswer, NoGate, Reads, Work};
+pub use crate::crew::in_order;
+pub use crate::morsel_work::{Answers, Gate, NextAnswer, NoGate, Reads, Work};

@@ -2,10 +2,10 @@
 
 ghost use Rattle.std.specs.Prelude.{◌≡◌, ℕ, IfSome};
 
-use crate::answered::{Answered, Done, Meanwhile, Stage, Task, Truth};
 use crate::claims::{Claimer, draw};
 use crate::exchange::Exchange;
-use crate::work::{Answers, Gate, NextAnswer, Work};
+use crate::morsel_answer::{Interim, MorselAnswer, MorselProgress, Stage, Task, Truth};
+use crate::morsel_work::{Answers, Gate, NextAnswer, Work};
 use std::alloc::Global;
 use std::marker::PhantomData;
 use std::sync::Wait;
@@ -25,13 +25,13 @@ pub struct Pull<'a, 'h, K: Truth<A>, A, W: Work<Answer = A>, G, R> {
     pub exchange: &'a Exchange<'h, K, A, W, G, R>,
     pub me: Claimer,
     pub given: usize,
-    pub hand: Hand<Done<K, A>>,
+    pub hand: Hand<MorselProgress<K, A>>,
     pub ghost mine: { me.table_id ≡ exchange.now.word.shared.table_id },
 }
 
 impl<'a, 'h, K: Truth<A>, A, W: Work<Answer = A>, G: Gate, R: Wait> Pull<'a, 'h, K, A, W, G, R> {
     // Takes something into its empty hand.
-    fn hold(&mut self, held: Hand<Done<K, A>>)
+    fn hold(&mut self, held: Hand<MorselProgress<K, A>>)
         requires empty { self.old.hand ≡ Hand.Empty }
         ensures held { self.new.hand ≡ held }
         ensures same { (self.new.exchange ≡ self.old.exchange) × (self.new.given ≡ self.old.given) }
@@ -54,7 +54,7 @@ impl<'a, 'h, K: Truth<A>, A, W: Work<Answer = A>, G: Gate, R: Wait> Pull<'a, 'h,
     }
 
     // What the reader hands in: the morsel that it drew is begun first.
-    fn take_done(&mut self) -> Option<Done<K, A>>
+    fn take_done(&mut self) -> Option<MorselProgress<K, A>>
         requires { W.ready self.old.exchange.now.work.now }
         ensures empty { self.new.hand ≡ Hand.Empty }
         ensures same { (self.new.exchange ≡ self.old.exchange) × (self.new.given ≡ self.old.given) }
@@ -67,7 +67,7 @@ impl<'a, 'h, K: Truth<A>, A, W: Work<Answer = A>, G: Gate, R: Wait> Pull<'a, 'h,
     }
 
     // Does what is to be done next. Whether a turn of a morsel is over.
-    fn perform(&mut self, task: Task<Answered<K, A>>) -> bool
+    fn perform(&mut self, task: Task<MorselAnswer<K, A>>) -> bool
         requires ready { W.ready self.old.exchange.now.work.now }
         requires empty { self.old.hand ≡ Hand.Empty }
         ensures same { (self.new.exchange ≡ self.old.exchange) × (self.new.given ≡ self.old.given) }
@@ -84,7 +84,7 @@ impl<'a, 'h, K: Truth<A>, A, W: Work<Answer = A>, G: Gate, R: Wait> Pull<'a, 'h,
 
     // The answer of a morsel, or none where a turn of one is over before it is there. What it does
     // before has an end, since only so many morsels may be begun and made.
-    fn look(&mut self, number: usize) -> Option<Answered<K, A>>
+    fn look(&mut self, number: usize) -> Option<MorselAnswer<K, A>>
         requires { W.ready self.old.exchange.now.work.now }
         ensures found { IfSome result (λ answered. answered.number ≡ number) }
         ensures same { (self.new.exchange ≡ self.old.exchange) × (self.new.given ≡ self.old.given) }
@@ -93,8 +93,8 @@ impl<'a, 'h, K: Truth<A>, A, W: Work<Answer = A>, G: Gate, R: Wait> Pull<'a, 'h,
             let done = self.take_done();
             match self.exchange.window.seek(self.exchange.rt, number, done) {
                 Ok(answered) => return Some(answered),
-                Err(Meanwhile::Turned) => return None,
-                Err(Meanwhile::Task(task)) => {
+                Err(Interim::Turned) => return None,
+                Err(Interim::Task(task)) => {
                     if self.perform(task) {
                         return None;
                     }
@@ -105,7 +105,7 @@ impl<'a, 'h, K: Truth<A>, A, W: Work<Answer = A>, G: Gate, R: Wait> Pull<'a, 'h,
     }
 
     // The answer of a morsel.
-    fn find(&mut self, number: usize) -> Answered<K, A>
+    fn find(&mut self, number: usize) -> MorselAnswer<K, A>
         requires { W.ready self.old.exchange.now.work.now }
         ensures found { result.number ≡ number }
         ensures same { (self.new.exchange ≡ self.old.exchange) × (self.new.given ≡ self.old.given) }

@@ -2,11 +2,12 @@
 
 ghost use Rattle.std.specs.Prelude.{◌≡◌, true, false, Some, IfErr, IfNone, IfSome, MatchOption};
 ghost use Rattle.std.specs.Prelude.{OnOk, option_map};
-ghost use Rattle.scan_workers.specs.Held.{IsInHand, Lies, MayBegin, Seeks, Tasks, asked, begun_one};
-ghost use Rattle.scan_workers.specs.Held.{laid, taken};
+ghost use Rattle.scan_workers.specs.MorselRing.{IsInHand, Lies, MayBegin, Seeks, Tasks, asked};
+ghost use Rattle.scan_workers.specs.MorselRing.{begun_one};
+ghost use Rattle.scan_workers.specs.MorselRing.{laid, taken};
 
-use crate::answered::{Answered, Done, Meanwhile, Stage, Task, Truth};
-use crate::held::Held;
+use crate::morsel_answer::{Interim, MorselAnswer, MorselProgress, Stage, Task, Truth};
+use crate::morsel_ring::MorselRing;
 use std::alloc::{AllocError, Global};
 
 // How many morsels there are, how many may be begun and not read at once, and how many of those may
@@ -20,7 +21,7 @@ pub struct Bounds {
 
 // The morsels from the one on for which the reader asks, and how far they are.
 pub struct Slots<K: Truth<A>, A> {
-    held: Held<K, A>,
+    held: MorselRing<K, A>,
     // How many answers may be made or there at once.
     most_made: usize,
     // How many answers are made.
@@ -36,7 +37,7 @@ pub struct Slots<K: Truth<A>, A> {
 impl<K: Truth<A>, A> Slots<K, A> {
     // Slots for as many morsels as may be begun.
     pub fn new(alloc: Global, bounds: Bounds) -> Result<Slots<K, A>, AllocError> {
-        let held = Held::new(alloc, bounds.count, bounds.begun)?;
+        let held = MorselRing::new(alloc, bounds.count, bounds.begun)?;
         Ok(Slots {
             held,
             most_made: bounds.made,
@@ -91,7 +92,10 @@ impl<K: Truth<A>, A> Slots<K, A> {
 
     // Takes in what was done of a morsel, if anything was. Whether it tells the reader something of
     // the morsel for which it asks. Who has no such morsel in hand keeps what it has.
-    pub fn take_in(&mut self, done: Option<Done<K, A>>) -> Result<bool, Answered<K, A>>
+    pub fn take_in(
+        &mut self,
+        done: Option<MorselProgress<K, A>>,
+    ) -> Result<bool, MorselAnswer<K, A>>
         ensures laid { OnOk result (MatchOption done (self.new.held ≡ self.old.held)
             (λ done. IsInHand self.old.held done.answered.number
             × (self.new.held ≡ laid self.old.held done.answered.number))) }
@@ -106,7 +110,7 @@ impl<K: Truth<A>, A> Slots<K, A> {
     }
 
     // The same, where something was done.
-    fn lay(&mut self, done: Done<K, A>) -> Result<bool, Answered<K, A>>
+    fn lay(&mut self, done: MorselProgress<K, A>) -> Result<bool, MorselAnswer<K, A>>
         ensures laid { OnOk result (IsInHand self.old.held done.answered.number
             × (self.new.held ≡ laid self.old.held done.answered.number)) }
         ensures kept { IfErr result (λ answered. (answered ≡ done.answered)
@@ -114,7 +118,7 @@ impl<K: Truth<A>, A> Slots<K, A> {
     {
         let number = done.answered.number;
         if !self.held.is_in_hand(number) {
-            let Done { answered, stage: _ } = done;
+            let MorselProgress { answered, stage: _ } = done;
             return Err(answered);
         }
         let asked = number == self.held.read();
@@ -124,7 +128,7 @@ impl<K: Truth<A>, A> Slots<K, A> {
     }
 
     // Takes the first one of which more may be made.
-    fn take_first(&mut self) -> Option<Answered<K, A>>
+    fn take_first(&mut self) -> Option<MorselAnswer<K, A>>
         ensures some { IfSome result (λ answered. Lies self.old.held answered.number
             × (self.new.held ≡ taken self.old.held answered.number)) }
         ensures none { IfNone result (self.new.held ≡ self.old.held) }
@@ -174,7 +178,7 @@ impl<K: Truth<A>, A> Slots<K, A> {
 
     // What is to be done next: more of the first answer of which more may be made, or else one more
     // is begun.
-    pub fn task(&mut self) -> Option<Task<Answered<K, A>>>
+    pub fn task(&mut self) -> Option<Task<MorselAnswer<K, A>>>
         ensures { Tasks (λ answered. answered.number) self.old.held result self.new.held }
     {
         match self.take_first() {
@@ -207,14 +211,14 @@ impl<K: Truth<A>, A> Slots<K, A> {
     }
 
     // The answer for which the reader asks, or what it does meanwhile, if there is anything.
-    pub fn seek(&mut self) -> Option<Result<Answered<K, A>, Meanwhile<Answered<K, A>>>>
+    pub fn seek(&mut self) -> Option<Result<MorselAnswer<K, A>, Interim<MorselAnswer<K, A>>>>
         ensures { Seeks (λ answered. answered.number) self.old.held result self.new.held }
     {
         match self.held.give() {
             Some(answered) => Some(Ok(answered)),
             None => match self.task() {
-                Some(task) => Some(Err(Meanwhile::Task(task))),
-                None if self.turned => Some(Err(Meanwhile::Turned)),
+                Some(task) => Some(Err(Interim::Task(task))),
+                None if self.turned => Some(Err(Interim::Turned)),
                 None => None,
             },
         }

@@ -1,9 +1,9 @@
 // Where the workers and the reader meet.
 
 ghost use Rattle.std.specs.Prelude.{◌≡◌, IfOk, IfSome};
-ghost use Rattle.scan_workers.specs.Held.{Tasks};
+ghost use Rattle.scan_workers.specs.MorselRing.{Tasks};
 
-use crate::answered::{Answered, Done, Meanwhile, Task, Truth};
+use crate::morsel_answer::{Interim, MorselAnswer, MorselProgress, Task, Truth};
 use crate::slots::{Bounds, Slots};
 use std::alloc::{AllocError, Global};
 use std::hint::spin_loop;
@@ -27,7 +27,7 @@ fn look_for_another(number: &AtomicUsize, seen: usize) {
 }
 
 // What the threads share, and who of them waits.
-struct Shared<K: Truth<A>, A> {
+struct WindowState<K: Truth<A>, A> {
     slots: Slots<K, A>,
     // How many workers wait for something to do, how many of those sleep, and how many of these
     // were woken and do not go on yet.
@@ -39,7 +39,7 @@ struct Shared<K: Truth<A>, A> {
 }
 
 // The answer for which the reader asks, or what it does meanwhile.
-type Sought<T> = Result<T, Meanwhile<T>>;
+type AnswerOrInterim<T> = Result<T, Interim<T>>;
 
 // Who is told that there may be something for it, and who is woken for that.
 #[derive(Clone, Copy, Drop)]
@@ -50,7 +50,7 @@ struct News {
     wakes_reader: bool,
 }
 
-impl<K: Truth<A>, A> Shared<K, A> {
+impl<K: Truth<A>, A> WindowState<K, A> {
     // Whom a thread tells, where there is something of the reader's morsel or not. It wakes a
     // worker only where all that wait sleep, and one of these was not woken yet.
     fn news(&mut self, reader: bool) -> News {
@@ -68,7 +68,7 @@ impl<K: Truth<A>, A> Shared<K, A> {
     }
 
     // What a worker does next, if there is anything.
-    fn task(&mut self) -> Option<Task<Answered<K, A>>>
+    fn task(&mut self) -> Option<Task<MorselAnswer<K, A>>>
         ensures { Tasks (λ answered. answered.number) self.old.slots.held result
             self.new.slots.held }
     {
@@ -80,7 +80,7 @@ impl<K: Truth<A>, A> Shared<K, A> {
 
     // The answer of a morsel, or what the reader does meanwhile, if there is anything. It asks for
     // the next one in order.
-    fn seek(&mut self, number: usize) -> Option<Sought<Answered<K, A>>>
+    fn seek(&mut self, number: usize) -> Option<AnswerOrInterim<MorselAnswer<K, A>>>
         ensures { IfSome result (λ sought. IfOk sought (λ answered. answered.number ≡ number)) }
     {
         if self.slots.read() != number {
@@ -92,7 +92,7 @@ impl<K: Truth<A>, A> Shared<K, A> {
 
 // What the workers and the reader share. They hand in what they did, and get what they do next.
 pub struct Window<K: Truth<A>, A> {
-    shared: Mutex<Shared<K, A>>,
+    shared: Mutex<WindowState<K, A>>,
     // How often a worker was told that there is something to do, or that nothing is left, and the
     // reader that there is something of its morsel.
     offers: AtomicUsize,
@@ -106,7 +106,7 @@ impl<K: Truth<A>, A> Window<K, A> {
     pub fn new(alloc: Global, bounds: Bounds) -> Result<Window<K, A>, AllocError> {
         let slots = Slots::new(alloc, bounds)?;
         Ok(Window {
-            shared: Mutex::new(Shared {
+            shared: Mutex::new(WindowState {
                 slots,
                 waiting: 0,
                 asleep: 0,
@@ -150,8 +150,8 @@ impl<K: Truth<A>, A> Window<K, A> {
     pub fn hand_in(
         &self,
         rt: &impl Wait,
-        done: Option<Done<K, A>>,
-    ) -> Option<Task<Answered<K, A>>> {
+        done: Option<MorselProgress<K, A>>,
+    ) -> Option<Task<MorselAnswer<K, A>>> {
         let mut shared = self.shared.lock(rt);
         let tells = match shared.slots.take_in(done) {
             Ok(tells) => tells,
@@ -178,7 +178,7 @@ impl<K: Truth<A>, A> Window<K, A> {
     }
 
     // Waits until there is something to do. It sleeps where nothing was offered while it looked.
-    fn wait_for_task(&self, rt: &impl Wait, offers: usize) -> Option<Task<Answered<K, A>>> {
+    fn wait_for_task(&self, rt: &impl Wait, offers: usize) -> Option<Task<MorselAnswer<K, A>>> {
         let mut seen = offers;
         for _ in rt.forever() {
             look_for_another(&self.offers, seen);
@@ -210,13 +210,13 @@ impl<K: Truth<A>, A> Window<K, A> {
         &self,
         rt: &impl Wait,
         number: usize,
-        done: Option<Done<K, A>>,
-    ) -> Sought<Answered<K, A>>
+        done: Option<MorselProgress<K, A>>,
+    ) -> AnswerOrInterim<MorselAnswer<K, A>>
         ensures { IfOk result (λ answered. answered.number ≡ number) }
     {
         let mut shared = self.shared.lock(rt);
         if let Err(answered) = shared.slots.take_in(done) {
-            return Err(Meanwhile::Task(Task::Make(answered)));
+            return Err(Interim::Task(Task::Make(answered)));
         }
         shared.slots.ask();
         let sought = shared.seek(number);
@@ -233,7 +233,12 @@ impl<K: Truth<A>, A> Window<K, A> {
 
     // Waits until the answer of a morsel is there, or there is something that the reader does
     // meanwhile.
-    fn wait_for(&self, rt: &impl Wait, number: usize, seen: usize) -> Sought<Answered<K, A>>
+    fn wait_for(
+        &self,
+        rt: &impl Wait,
+        number: usize,
+        seen: usize,
+    ) -> AnswerOrInterim<MorselAnswer<K, A>>
         ensures { IfOk result (λ answered. answered.number ≡ number) }
     {
         look_for_another(&self.answers, seen);
@@ -270,7 +275,7 @@ impl<K: Truth<A>, A: Drop> Window<K, A> {
             offered: _,
             answered: _,
         } = self;
-        let Shared {
+        let WindowState {
             slots,
             waiting: _,
             asleep: _,

@@ -3,13 +3,13 @@
 use denote.Param.Send.{IsSend, sendable}
 use denote.RattleType.{RattleType}
 use Rattle.std.proofs.Crossing.{crosses}
-use Rattle.version_cell.specs.contracts.rest.Rest as rest
+use Rattle.version_cell.specs.contracts.seat_rest.Rest as rest
 use Rattle.version_cell.proofs.book.History.TheSendSync as book
 use Rattle.version_cell.proofs.times.Times.TheLaws.TheKnot as times
-use Rattle.commands.specs.contracts.shown.ShownSeat as shown
+use Rattle.commands.specs.contracts.shown_seat.ShownSeat as shown
 use Rattle.server_cases.specs.contracts.history.History as history
 use Rattle.server_cases.specs.contracts.history.Seats as seats
-use Rattle.server_cases.specs.contracts.keeping.Kept as kept
+use Rattle.server_cases.specs.contracts.recording_listener.ListenerRecord as kept
 use Rattle.server_cases.specs.declared.history.BookName as book_name
 use Rattle.server_cases.proofs.history.Seats.TheLaws.TheKnot as knot
 

@@ -1,10 +1,10 @@
 //! Connections that are open at once.
 
 use crate::WHOLE;
-use crate::asking::{Wire, add_all, add_lines, connected, endpoints_of, put_into};
+use crate::open_stream::{Wire, add_all, add_lines, connected, endpoints_of, put_into};
 use crate::streams::{CUT_PUT, ONE_TO_FIVE, OTHER_SCHEMA, SIX_AND_SEVEN};
 use client_calls::Failure;
-use grpc_frame::{Counted, Input, Output};
+use grpc_frame::{CountedEnd, Input, Output};
 use scan_base::{Fault, PutMode};
 use std::alloc::AllocGlobal;
 use std::net::{Net, TcpListener, TcpStream};
@@ -70,14 +70,14 @@ where
 
 // Writes the bytes, and ends what is written.
 fn write_cut(wire: &Wire, bytes: &[u8]) -> Result<(), Failure> {
-    Counted::new(wire).write(bytes)?;
+    CountedEnd::new(wire).write(bytes)?;
     wire.end()
 }
 
 // Whether the server closes its end with nothing answered before. The read waits until it does.
 fn is_closed(wire: &Wire) -> bool {
     let mut answer = [0; 1];
-    matches!(Counted::new(wire).read(&mut answer), Ok(0))
+    matches!(CountedEnd::new(wire).read(&mut answer), Ok(0))
 }
 
 // Writes a put that is cut, and waits until the server has met the cut.

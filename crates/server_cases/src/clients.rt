@@ -5,16 +5,15 @@ ghost use Rattle.std.specs.Prelude.{◌<◌, ◌≡◌, IfOk};
 
 use crate::texts::push_text;
 use client_calls::{Failure, Target};
-use client_commands::put::{Putting, put};
-use client_commands::query::{Querying, query};
+use client_commands::put::{PutCommand, put};
+use client_commands::query::{QueryCommand, query};
 use client_commands::tables::tables;
 use command_ends::{Connect, Listen};
 use command_line::Format;
-use commands::shown::ShownSeat;
+use commands::shown_seat::ShownSeat;
 use grpc_frame::{MemoryInput, MemoryOutput};
-use hash_seed::HashSeed;
 use loopback::{Loopback, Port};
-use scan_base::{Fault, PutMode};
+use scan_base::{Fault, HashSeed, PutMode};
 use std::alloc::{AllocError, AllocGlobal, Global};
 use std::io;
 use std::net::{Net, TcpListener, TcpStream};
@@ -59,9 +58,9 @@ const NOTHING: &[u8] = b"";
 // ---- over loopback
 
 // A put that creates a table.
-pub(crate) fn created(port: u16, table: &str) -> Putting<'_> {
+pub(crate) fn created(port: u16, table: &str) -> PutCommand<'_> {
     let mode = PutMode::Create;
-    Putting {
+    PutCommand {
         port,
         target: Target { table, mode },
     }
@@ -85,7 +84,7 @@ pub(crate) fn add_heard(
 // Puts a stream.
 pub(crate) fn put_stream<R>(
     rt: &R,
-    putting: Putting<'_>,
+    putting: PutCommand<'_>,
     stream: &[u8],
     told: &mut String,
 ) -> Result<(), AllocError>
@@ -132,7 +131,7 @@ pub(crate) fn seed(rt: &impl RandomSource) -> Result<HashSeed, Failure> {
 // A query over two connections at most, which prints on these lines.
 pub(crate) fn ask_rows<R>(
     rt: &R,
-    querying: Querying<'_>,
+    querying: QueryCommand<'_>,
     mut lines: MemoryOutput,
     told: &mut String,
 ) -> Result<(), AllocError>
@@ -158,7 +157,7 @@ where
     let alloc = rt.alloc();
     put_stream(rt, created(port, "t"), STREAM, told)?;
     list_tables(rt, port, told)?;
-    let grouped = Querying {
+    let grouped = QueryCommand {
         port,
         streams: 2,
         sql: GROUPED,
@@ -166,7 +165,7 @@ where
         seed: seed(rt)?,
     };
     ask_rows(rt, grouped, MemoryOutput::new(alloc), told)?;
-    let all = Querying {
+    let all = QueryCommand {
         sql: ALL,
         ..grouped
     };
@@ -205,13 +204,13 @@ where
 
 // Connections whose server answers so.
 #[derive(Drop)]
-pub(crate) struct Answering<'a> {
+pub(crate) struct FixedAnswers<'a> {
     alloc: Global,
     answer: &'a [u8],
     made: u32,
 }
 
-impl<'a> Connect for Answering<'a> {
+impl<'a> Connect for FixedAnswers<'a> {
     type Reader = MemoryInput<'a>;
 
     type Writer = MemoryOutput;
@@ -222,7 +221,7 @@ impl<'a> Connect for Answering<'a> {
 
     // No case asks for another.
     fn share(&mut self) -> Self {
-        Answering {
+        FixedAnswers {
             alloc: self.alloc,
             answer: self.answer,
             made: 0,
@@ -236,8 +235,8 @@ impl<'a> Connect for Answering<'a> {
 }
 
 // Connections whose server answers so, of which none was made.
-pub(crate) fn network_of(alloc: Global, answer: &[u8]) -> Answering<'_> {
-    Answering {
+pub(crate) fn network_of(alloc: Global, answer: &[u8]) -> FixedAnswers<'_> {
+    FixedAnswers {
         alloc,
         answer,
         made: 0,
@@ -245,59 +244,59 @@ pub(crate) fn network_of(alloc: Global, answer: &[u8]) -> Answering<'_> {
 }
 
 // A put: its name, the input, after how many reads one fails, and the answer.
-pub(crate) struct Case {
+pub(crate) struct PutCase {
     pub(crate) name: &'static str,
     input: &'static [u8],
     calls: u64,
     answer: &'static [u8],
 }
 
-pub(crate) static PUTS: [Case; 8] = [
-    Case {
+pub(crate) static PUTS: [PutCase; 8] = [
+    PutCase {
         name: "put, a count",
         input: STREAM,
         calls: 9,
         answer: b"\x02\x00\x00\x00\x00\x04\x0a\x02\x08\x05\x04\x00\x00\x00",
     },
     // No count is a count of 0.
-    Case {
+    PutCase {
         name: "put, no count",
         input: NOTHING,
         calls: 9,
         answer: b"\x02\x00\x00\x00\x00\x00\x04\x00\x00\x00",
     },
-    Case {
+    PutCase {
         name: "put, a table that exists",
         input: STREAM,
         calls: 9,
         answer: b"\x04\x06\x00\x0fF10 TableExists",
     },
     // The server's faults are told as they came, those of its own frames too.
-    Case {
+    PutCase {
         name: "put, a fault of the server's frames",
         input: STREAM,
         calls: 9,
         answer: b"\x04\x03\x00\x0bF1 BadFrame",
     },
-    Case {
+    PutCase {
         name: "put, a broken answer",
         input: STREAM,
         calls: 9,
         answer: b"\x07",
     },
-    Case {
+    PutCase {
         name: "put, no answer",
         input: STREAM,
         calls: 9,
         answer: NOTHING,
     },
-    Case {
+    PutCase {
         name: "put, an input that is cut",
         input: b"\x00",
         calls: 9,
         answer: NOTHING,
     },
-    Case {
+    PutCase {
         name: "put, an input that fails",
         input: STREAM,
         calls: 1,
@@ -307,7 +306,7 @@ pub(crate) static PUTS: [Case; 8] = [
 
 // What a put comes to: its exit status, how many connections it made, its lines, and what is said
 // of faults.
-pub(crate) fn told_put(alloc: Global, case: &Case) -> Result<String, AllocError> {
+pub(crate) fn told_put(alloc: Global, case: &PutCase) -> Result<String, AllocError> {
     let mut network = network_of(alloc, case.answer);
     let mut input = MemoryInput::new(case.input).failing_after(case.calls);
     let mut lines = MemoryOutput::new(alloc);
@@ -316,7 +315,7 @@ pub(crate) fn told_put(alloc: Global, case: &Case) -> Result<String, AllocError>
         table: "t",
         mode: PutMode::Append,
     };
-    let putting = Putting { port: 1, target };
+    let putting = PutCommand { port: 1, target };
     let status = put(
         alloc,
         &mut network,

@@ -2,7 +2,7 @@
 
 use crate::clients::{STREAM, add_heard, ask_rows, created, put_stream, seed};
 use client_calls::Failure;
-use client_commands::query::{Querying, query};
+use client_commands::query::{QueryCommand, query};
 use command_line::Format;
 use grpc_frame::MemoryOutput;
 use loopback::Loopback;
@@ -14,7 +14,7 @@ use std::thread::Threads;
 // The Arrow IPC stream of a query. No byte of it is told.
 pub(crate) fn stream_of<R>(
     rt: &R,
-    querying: Querying<'_>,
+    querying: QueryCommand<'_>,
     told: &mut String,
 ) -> Result<MemoryOutput, AllocError>
 where
@@ -30,7 +30,7 @@ where
 }
 
 // Copies a table: the Arrow IPC stream of a query is put again.
-fn copy_rows<R>(rt: &R, querying: Querying<'_>, told: &mut String) -> Result<(), AllocError>
+fn copy_rows<R>(rt: &R, querying: QueryCommand<'_>, told: &mut String) -> Result<(), AllocError>
 where
     R: Net<Listener = TcpListener, Stream = TcpStream> + AllocGlobal + Threads + Sync,
 {
@@ -48,7 +48,7 @@ where
 {
     let alloc = rt.alloc();
     put_stream(rt, created(port, "t"), STREAM, told)?;
-    let all = Querying {
+    let all = QueryCommand {
         port,
         streams: 2,
         sql: "SELECT s FROM t",
@@ -56,18 +56,18 @@ where
         seed: seed(rt)?,
     };
     ask_rows(rt, all, MemoryOutput::new(alloc), told)?;
-    let copied = Querying {
+    let copied = QueryCommand {
         format: Format::Arrow,
         ..all
     };
     copy_rows(rt, copied, told)?;
-    let grouped = Querying {
+    let grouped = QueryCommand {
         sql: "SELECT s, COUNT(*) FROM copy GROUP BY s",
         format: Format::Lines,
         ..all
     };
     ask_rows(rt, grouped, MemoryOutput::new(alloc), told)?;
-    let aligned = Querying {
+    let aligned = QueryCommand {
         format: Format::Table,
         ..grouped
     };
@@ -84,7 +84,7 @@ where
     R: Threads + Sync,
 {
     put_stream(rt, created(port, "t"), STREAM, told)?;
-    let alone = Querying {
+    let alone = QueryCommand {
         port,
         streams: 1,
         sql: "SELECT s FROM t",
@@ -92,14 +92,14 @@ where
         seed: seed(rt)?,
     };
     let one = stream_of(rt, alone, told)?;
-    let spread = Querying {
+    let spread = QueryCommand {
         streams: 3,
         ..alone
     };
     let three = stream_of(rt, spread, told)?;
     write!(told, " {}", three.as_slice() == one.as_slice())?;
     put_stream(rt, created(port, "copy"), three.as_slice(), told)?;
-    let lines = Querying {
+    let lines = QueryCommand {
         sql: "SELECT s FROM copy",
         format: Format::Lines,
         ..alone

@@ -1,11 +1,11 @@
 //! What the listeners of a server were shown.
 
 ghost use Rattle.std.specs.Prelude.{◌≡◌, ◌++◌, ◌∷◌, [], length, IfSome};
-ghost use Rattle.version_cell.specs.Signed.{GoesOn};
+ghost use Rattle.version_cell.specs.SignedEntries.{GoesOn};
 ghost use Rattle.server_cases.specs.History.{log_in, SawOne};
 
-use command_ends::Known;
-use commands::shown::ShownSeat;
+use command_ends::SeatView;
+use commands::shown_seat::ShownSeat;
 use std::marker::{Brand, Model, PhantomData};
 use std::snapshot::Snapshot;
 

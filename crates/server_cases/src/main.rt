@@ -2,25 +2,26 @@
 //! and over answers in memory: a line for each case. `README.md` says what stands in a line.
 #![tactic(auto)]
 
-mod asking;
 mod at_once;
-mod breaking;
 mod clients;
-mod endless;
-mod expiring;
+mod endless_serve;
+mod expiries;
 mod formats;
 mod history;
-mod keeping;
-mod serving;
+mod open_stream;
+mod recording_listener;
+mod server_thread;
 mod side_by_side;
+mod stopped_queries;
 mod streams;
 mod texts;
 
-use crate::breaking::{STOPPING, told_stream};
 use crate::clients::{PUTS, told_port, told_put};
-use crate::endless::without_end;
-use crate::serving::{Client, beside};
-use crate::side_by_side::{told_ahead, told_order};
+use crate::endless_serve::without_end;
+use crate::server_thread::{Client, beside};
+use crate::side_by_side::told_ahead;
+use crate::stopped_queries::{STOPPING, told_stream};
+use command_line::Format;
 use std::io;
 
 // Each piece is written whole.
@@ -56,8 +57,8 @@ fn main(rt: HostRuntime) -> io::Result<()> {
         let stream = told_stream(&rt, alloc, case)?;
         println!(rt; "{}: {stream}", case.name)?;
     }
-    let order = told_order(&rt, alloc)?;
-    println!(rt; "second ends first: {order}")?;
-    let ahead = told_ahead(&rt, alloc)?;
-    println!(rt; "second is begun ahead: {ahead}")
+    let lines = told_ahead(&rt, alloc, Format::Lines)?;
+    println!(rt; "lines, second is begun ahead: {lines}")?;
+    let stream = told_ahead(&rt, alloc, Format::Arrow)?;
+    println!(rt; "stream, second is begun ahead: {stream}")
 }

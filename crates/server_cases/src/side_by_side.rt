@@ -1,17 +1,15 @@
-//! Queries over two connections, over answers in memory: those of the first one wait for the second
-//! one.
+//! Queries over two connections, over answers in memory: the rows of the first one come once the
+//! second one is made.
 
 ghost use Rattle.std.specs.Prelude.{◌<◌, ◌≡◌};
 
-use crate::breaking::push_stream;
 use crate::clients::STREAM;
-use crate::texts::push_text;
-use client_commands::query::{Querying, query};
+use crate::stopped_queries::push_written;
+use client_commands::query::{QueryCommand, query};
 use command_ends::Connect;
 use command_line::Format;
 use grpc_frame::{Input, MemoryInput, MemoryOutput};
-use hash_seed::HashSeed;
-use scan_base::Fault;
+use scan_base::{Fault, HashSeed};
 use std::alloc::{AllocError, Global};
 use std::io::ErrorKind;
 use std::random::RandomSource;
@@ -25,46 +23,44 @@ use std::{io, thread};
 pub(crate) const INFO: &[u8] =
     b"\x02\x00\x00\x00\x00\x0e\x1a\x05\x0a\x03\x0a\x01A\x1a\x05\x0a\x03\x0a\x01B\x04\x00\x00\x00";
 
-// An input of which the reads after so many free ones wait until a counter is above a number, for
+// An input of which the reads after so many free ones wait until two connections are made, for
 // 10,000 turns at most. It counts that it was closed.
-struct Gated<'a, R> {
+struct GatedInput<'a, R> {
     rt: &'a R,
     input: MemoryInput<'a>,
     closed: &'a AtomicU64,
-    counter: &'a AtomicU64,
-    above: u64,
+    made: &'a AtomicU64,
     free: u32,
 }
 
-impl<R> Drop for Gated<'_, R> {
+impl<R> Drop for GatedInput<'_, R> {
     fn drop(self) {
-        let Gated {
+        let GatedInput {
             rt: _,
             input: _,
             closed,
-            counter: _,
-            above: _,
+            made: _,
             free: _,
         } = self;
         closed.fetch_add(1, Ordering::SeqCst);
     }
 }
 
-// What is added to a counter that was not above the number in time.
+// What is added to the connections made where the second was not made in time.
 const LATE: u64 = 1_000;
 
-// Waits until a counter is above a number, or for 10,000 turns.
-fn wait_for<R: Clock>(rt: &R, counter: &AtomicU64, above: u64) {
+// Waits until two connections are made, or for 10,000 turns.
+fn wait_for<R: Clock>(rt: &R, made: &AtomicU64) {
     for _ in 0..10_000 {
-        if counter.load(Ordering::SeqCst) > above {
+        if made.load(Ordering::SeqCst) > 1 {
             return;
         }
         thread::sleep(rt, Duration::from_millis(1));
     }
-    counter.fetch_add(LATE, Ordering::SeqCst);
+    made.fetch_add(LATE, Ordering::SeqCst);
 }
 
-impl<R: Clock> Input for Gated<'_, R> {
+impl<R: Clock> Input for GatedInput<'_, R> {
     ghost use Rattle.std.specs.Prelude.{Some, length};
     ghost use Rattle.grpc_frame.specs.Ends.{tape_of};
 
@@ -77,7 +73,7 @@ impl<R: Clock> Input for Gated<'_, R> {
     fn read(&mut self, piece: &mut [u8]) -> Result<usize, Fault> {
         match self.free.checked_sub(1) {
             Some(free) => self.free = free,
-            None => wait_for(self.rt, self.counter, self.above),
+            None => wait_for(self.rt, self.made),
         }
         self.input.read(piece)
     }
@@ -87,22 +83,20 @@ impl<R: Clock> Input for Gated<'_, R> {
     }
 }
 
-// A network of two connections. The reads of the first one after the info wait until the second one
-// is closed. Or, where that is begun ahead, those after the schema of the first stream, which has
-// come with the first 13 pieces, wait until it is made.
+// A network of two connections. The reads of the first one after the schema of its stream, which
+// has come with the first 13 pieces, wait until the second one is made.
 #[derive(Drop)]
-struct Two<'a, R> {
+struct ConnectionPair<'a, R> {
     rt: &'a R,
     alloc: Global,
     first: &'a [u8],
     second: &'a [u8],
     closed: &'a AtomicU64,
     made: &'a AtomicU64,
-    ahead: bool,
 }
 
-impl<'a, R: Clock> Connect for Two<'a, R> {
-    type Reader = Gated<'a, R>;
+impl<'a, R: Clock> Connect for ConnectionPair<'a, R> {
+    type Reader = GatedInput<'a, R>;
 
     type Writer = MemoryOutput;
 
@@ -111,33 +105,29 @@ impl<'a, R: Clock> Connect for Two<'a, R> {
     ghost shares = { λ _ _ _. Unit {0} };
 
     fn share(&mut self) -> Self {
-        Two {
+        ConnectionPair {
             rt: self.rt,
             alloc: self.alloc,
             first: self.first,
             second: self.second,
             closed: self.closed,
             made: self.made,
-            ahead: self.ahead,
         }
     }
 
-    fn connect(&mut self, _port: u16) -> io::Result<(Gated<'a, R>, MemoryOutput)> {
+    fn connect(&mut self, _port: u16) -> io::Result<(GatedInput<'a, R>, MemoryOutput)> {
         let place = self.made.fetch_add(1, Ordering::SeqCst);
-        let (bytes, free) = match (place, self.ahead) {
-            (0, false) => (self.first, 1),
-            (0, true) => (self.first, 14),
-            (1, _) => (self.second, u32::MAX),
+        let (bytes, free) = match place {
+            0 => (self.first, 14),
+            1 => (self.second, u32::MAX),
             _ => return Err(io::Error::from(ErrorKind::NotConnected)),
         };
-        let counter = if self.ahead { self.made } else { self.closed };
         let input = MemoryInput::new(bytes).in_pieces_of(INFO.len().max(1));
-        let gated = Gated {
+        let gated = GatedInput {
             rt: self.rt,
             input,
             closed: self.closed,
-            counter,
-            above: u64::from(self.ahead),
+            made: self.made,
             free,
         };
         Ok((gated, MemoryOutput::new(self.alloc)))
@@ -169,25 +159,6 @@ pub(crate) fn add_stream(answer: &mut Vec<u8>, letters: &'static [u8]) -> Result
     Ok(())
 }
 
-// What a query comes to whose second connection ends before the first one: the exit status, how
-// many connections were made and closed, and the lines, which come in the order of the endpoints.
-pub(crate) fn told_order<R>(rt: &R, alloc: Global) -> io::Result<String>
-where
-    R: Clock + RandomSource + Threads + Sync,
-{
-    told_two(rt, alloc, Format::Lines)
-}
-
-// What a query as an Arrow IPC stream comes to, of which the rows of the first stream come once the
-// second connection is made: the exit status, how many connections were made and closed, and how
-// many messages were written.
-pub(crate) fn told_ahead<R>(rt: &R, alloc: Global) -> io::Result<String>
-where
-    R: Clock + RandomSource + Threads + Sync,
-{
-    told_two(rt, alloc, Format::Arrow)
-}
-
 // What the answers of a connection end with: a stream of these letters of texts.
 fn with_stream(alloc: Global, front: &[u8], letters: &'static [u8]) -> Result<Vec<u8>, AllocError> {
     let mut answer = Vec::new(alloc);
@@ -196,8 +167,9 @@ fn with_stream(alloc: Global, front: &[u8], letters: &'static [u8]) -> Result<Ve
     Ok(answer)
 }
 
-// What a query of two endpoints comes to, in a format.
-fn told_two<R>(rt: &R, alloc: Global, format: Format) -> io::Result<String>
+// What a query of two endpoints comes to in a format: the exit status, what is printed, and how
+// many connections were made and closed.
+pub(crate) fn told_ahead<R>(rt: &R, alloc: Global, format: Format) -> io::Result<String>
 where
     R: Clock + RandomSource + Threads + Sync,
 {
@@ -205,14 +177,13 @@ where
     let second = with_stream(alloc, b"", b"vwxyz")?;
     let closed = AtomicU64::new(0);
     let made = AtomicU64::new(0);
-    let mut network = Two {
+    let mut network = ConnectionPair {
         rt,
         alloc,
         first: &first,
         second: &second,
         closed: &closed,
         made: &made,
-        ahead: format == Format::Arrow,
     };
     let mut told = told_query(rt, alloc, &mut network, format)?;
     let (made, closed) = (made.load(Ordering::SeqCst), closed.load(Ordering::SeqCst));
@@ -224,7 +195,7 @@ where
 fn told_query<R>(
     rt: &R,
     alloc: Global,
-    network: &mut Two<'_, R>,
+    network: &mut ConnectionPair<'_, R>,
     format: Format,
 ) -> io::Result<String>
 where
@@ -232,7 +203,7 @@ where
 {
     let mut output = MemoryOutput::new(alloc);
     let mut faults = MemoryOutput::new(alloc);
-    let querying = Querying {
+    let querying = QueryCommand {
         port: 1,
         streams: 3,
         sql: "SELECT s FROM t",
@@ -241,9 +212,6 @@ where
     };
     let status = query(rt, alloc, network, &mut output, &mut faults, querying).number();
     let mut told = format!(in alloc; "{status}")?;
-    match format {
-        Format::Arrow => push_stream(alloc, &mut told, output.as_slice())?,
-        _ => push_text(&mut told, output.as_slice())?,
-    }
+    push_written(alloc, &mut told, format, output.as_slice())?;
     Ok(told)
 }

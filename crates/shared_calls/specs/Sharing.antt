@@ -4,7 +4,7 @@ use Rattle.logbook.specs.Pages.{Book}
 use Rattle.version_log.specs.Log.{Begins}
 use Rattle.version_cell.specs.Rests.{RestAt}
 use Rattle.version_cell.specs.Seats as cell
-use Rattle.version_cell.specs.Signed.{log_of}
+use Rattle.version_cell.specs.SignedEntries.{log_of}
 use Rattle.flight_core.specs.Seats.{Seat, Moves}
 
 -- it looks by entering the cell, and asks the cell's putter

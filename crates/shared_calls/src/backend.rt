@@ -12,7 +12,7 @@ use table_versions::{Put, Snapshot};
 use version_cell::{CellName, Rest, Scanner, SharedPutter};
 
 /// A backend over a seat of a cell, which others may see as it rests.
-pub trait Resting: Backend {
+pub trait RestingBackend: Backend {
     ghost use Rattle.std.specs.Prelude.{◌≡◌, ℕ};
     ghost use Rattle.logbook.specs.Pages.{Book};
     ghost use Rattle.flight_core.specs.Seats.{AsksOnce, Learns};
@@ -47,7 +47,7 @@ impl SeatName for Brand {
 
 /// The versions of a connection that shares them with others: its seat of their cell, and the
 /// cell's putter.
-pub struct Shared<'a, C: CellName, N: SeatName, R: Wait + Drop, H: Wait> {
+pub struct SharedBackend<'a, C: CellName, N: SeatName, R: Wait + Drop, H: Wait> {
     rt: &'a H,
     putter: &'a SharedPutter<C, R>,
     scanner: Scanner<C>,
@@ -55,9 +55,9 @@ pub struct Shared<'a, C: CellName, N: SeatName, R: Wait + Drop, H: Wait> {
 }
 
 // Written out, so that dropping it is one call (docs/DECISIONS.md).
-impl<'a, C: CellName, N: SeatName, R: Wait + Drop, H: Wait> Drop for Shared<'a, C, N, R, H> {
+impl<'a, C: CellName, N: SeatName, R: Wait + Drop, H: Wait> Drop for SharedBackend<'a, C, N, R, H> {
     fn drop(self) {
-        let Shared {
+        let SharedBackend {
             rt: _,
             putter: _,
             scanner: _,
@@ -66,7 +66,8 @@ impl<'a, C: CellName, N: SeatName, R: Wait + Drop, H: Wait> Drop for Shared<'a, 
     }
 }
 
-impl<'a, C: CellName, N: SeatName, R: Wait + Drop, H: Wait> Model for Shared<'a, C, N, R, H> {
+impl<'a, C: CellName, N: SeatName, R: Wait + Drop, H: Wait> Model
+    for SharedBackend<'a, C, N, R, H> {
     ghost use Rattle.std.specs.Prelude.{◌≡◌};
     ghost use Rattle.flight_core.specs.Seats.{Seat};
     ghost use Rattle.shared_calls.specs.Sharing.{seat_at};
@@ -78,17 +79,17 @@ impl<'a, C: CellName, N: SeatName, R: Wait + Drop, H: Wait> Model for Shared<'a,
     ghost invariant = { λ s. s.scanner.number ≡ N.number };
 }
 
-impl<'a, C: CellName, N: SeatName, R: Wait + Drop, H: Wait> Shared<'a, C, N, R, H> {
+impl<'a, C: CellName, N: SeatName, R: Wait + Drop, H: Wait> SharedBackend<'a, C, N, R, H> {
     /// Those of a seat, whose number N is.
     pub fn new(
         rt: &'a H,
         putter: &'a SharedPutter<C, R>,
         seat: Scanner<C>,
-    ) -> Shared<'a, C, N, R, H>
+    ) -> SharedBackend<'a, C, N, R, H>
         requires { seat.number ≡ N.number }
         ensures { result ≡ seat_at seat }
     {
-        Shared {
+        SharedBackend {
             rt,
             putter,
             scanner: seat,
@@ -100,7 +101,7 @@ impl<'a, C: CellName, N: SeatName, R: Wait + Drop, H: Wait> Shared<'a, C, N, R, 
     pub fn into_seat(self) -> Scanner<C>
         ensures { seat_at result ≡ self.entry }
     {
-        let Shared {
+        let SharedBackend {
             rt: _,
             putter: _,
             scanner,
@@ -110,7 +111,8 @@ impl<'a, C: CellName, N: SeatName, R: Wait + Drop, H: Wait> Shared<'a, C, N, R, 
     }
 }
 
-impl<'a, C: CellName, N: SeatName, R: Wait + Drop, H: Wait> Backend for Shared<'a, C, N, R, H> {
+impl<'a, C: CellName, N: SeatName, R: Wait + Drop, H: Wait> Backend
+    for SharedBackend<'a, C, N, R, H> {
     ghost use Rattle.std.specs.Prelude.{[], ◌++◌, false, refl};
     ghost use Rattle.std.proofs.Common.{◌∙◌, sym, ap, append-nil, append_assoc};
     ghost use Rattle.shared_calls.specs.Sharing.{onward};
@@ -161,7 +163,8 @@ impl<'a, C: CellName, N: SeatName, R: Wait + Drop, H: Wait> Backend for Shared<'
     ) };
 }
 
-impl<'a, C: CellName, N: SeatName, R: Wait + Drop, H: Wait> Resting for Shared<'a, C, N, R, H> {
+impl<'a, C: CellName, N: SeatName, R: Wait + Drop, H: Wait> RestingBackend
+    for SharedBackend<'a, C, N, R, H> {
     ghost book = { C.book };
 
     ghost number = { N.number };

@@ -5,4 +5,4 @@
 
 mod backend;
 
-pub use crate::backend::{Resting, SeatName, Shared};
+pub use crate::backend::{RestingBackend, SeatName, SharedBackend};

@@ -18,7 +18,7 @@ use Rattle.sql_parse.specs.QuerySteps.{whole_at, ended}
 use Rattle.sql_parse.specs.Limits.{passes, IsFirstPast}
 use Rattle.sql_parse.specs.Parse.{IsSentence, IsShallow, Accepts, fault_or, Refuses}
 use Rattle.sql_parse.specs.Clauses.{query}
-use Rattle.sql_parse.specs.Factored.{factor}
+use Rattle.sql_parse.specs.FactoredGrammar.{factor_by_operand}
 use Rattle.sql_query.specs.Sentence.{Sentence, is_left_out_whole}
 use Rattle.sql_parse.proofs.Told.{Told}
 use Rattle.sql_parse.specs.Parse.{Answered, Parsed}
@@ -39,13 +39,13 @@ use Rattle.sql_parse.proofs.Past.{marks_length}
 begins_by : (L M : Language Mark Sentence) → Within L M → (front : List Mark) → Begins L front → Begins M front
 begins_by L M w front b = (b.0, b.1, w (front ++ b.0) b.1 b.2)
 
-offends_by : (ts place : List Mark) → Offends (Spells (Nested factor 64) query) (Spells (Any factor) query) ts place →
+offends_by : (ts place : List Mark) → Offends (Spells (Nested factor_by_operand 64) query) (Spells (Any factor_by_operand) query) ts place →
     Offends IsShallow IsSentence ts place
 offends_by ts [] o = record {
   front = o.front;
   splits = o.splits;
   begins =
-      begins_by (Spells (Nested factor 64) query) IsShallow printed_shallow o.front o.begins;
+      begins_by (Spells (Nested factor_by_operand 64) query) IsShallow printed_shallow o.front o.begins;
   ends =
       λ v s. o.ends v (read_sentence o.front v s);
 }
@@ -53,25 +53,25 @@ offends_by ts (t ∷ place) o = record {
   front = o.front;
   splits = o.splits;
   begins =
-      begins_by (Spells (Nested factor 64) query) IsShallow printed_shallow o.front o.begins;
+      begins_by (Spells (Nested factor_by_operand 64) query) IsShallow printed_shallow o.front o.begins;
   ends =
       λ more v s. o.ends more v (read_sentence (o.front ++ t ∷ more) v s);
 }
 
-exceeds_by : (ts : List Mark) → Exceeds (Spells (Nested factor 64) query) (Spells (Any factor) query) ts →
+exceeds_by : (ts : List Mark) → Exceeds (Spells (Nested factor_by_operand 64) query) (Spells (Any factor_by_operand) query) ts →
     Exceeds IsShallow IsSentence ts
 exceeds_by ts x = record {
   front = x.front;
   rest = x.rest;
   splits = x.splits;
   begins =
-      begins_by (Spells (Any factor) query) IsSentence printed_sentence x.front x.begins;
+      begins_by (Spells (Any factor_by_operand) query) IsSentence printed_sentence x.front x.begins;
   passes =
-      λ b. x.passes (begins_by IsShallow (Spells (Nested factor 64) query) read_shallow x.front b);
+      λ b. x.passes (begins_by IsShallow (Spells (Nested factor_by_operand 64) query) read_shallow x.front b);
 }
 
 at_end : (ts : List Mark) (o : Outcome Mark Sentence) →
-    Tells (Spells (Nested factor 64) query) (Spells (Any factor) query) ts (wholly o) →
+    Tells (Spells (Nested factor_by_operand 64) query) (Spells (Any factor_by_operand) query) ts (wholly o) →
     Told (λ s. s) ts (ended (seen o))
 unfolding seen
 at_end ts (Read s []) t = (printed_shallow ts s t.0, λ other q. t.1 other (read_sentence ts other q))
@@ -82,7 +82,7 @@ at_end ts Over t = exceeds_by ts t
 pub whole_told : (ts : List Mark) → Told (λ s. s) ts (whole_at 64 ts)
 unfolding whole_at
 whole_told ts = subst (λ a. Told (λ s. s) ts (ended a)) (query_same 64 ts)
-    (at_end ts (reads (Some (read factor 64)) query ts) (told 64 ts))
+    (at_end ts (reads (Some (read factor_by_operand 64)) query ts) (told 64 ts))
 
 pub told_by : {X : Type 0} (view : X → Sentence) (ts : List Mark) (r : Result X Refusal) →
     Gives view r (whole_at 64 ts) → Told view ts r

@@ -19,7 +19,7 @@ use Rattle.sql_parse.specs.Clauses.{alias, selection, item, list, place, equal, 
 use Rattle.sql_parse.specs.Notation.{Of}
 use Rattle.sql_parse.specs.Clauses.{filter, source, ending, query}
 use Rattle.sql_parse.specs.Notation.{maybe, a_word, a_symbol, ◌⊳◌}
-use Rattle.sql_parse.specs.Factored.{factor}
+use Rattle.sql_parse.specs.FactoredGrammar.{factor_by_operand}
 use Rattle.sql_parse.specs.Steps.{at, token_at, column_at}
 use Rattle.sql_parse.specs.ClauseSteps.{alias_at, counted_at, selection_at, item_at, items_at, list_at, place_at}
 use Rattle.sql_parse.specs.ClauseSteps.{equal_at, equals_at, joined_at, join_at, joins_at, source_at, columns_at}
@@ -73,11 +73,11 @@ more : {A : Type 0} (g : Of A) → well_made g ≡ true → nullable g ≡ false
 more {A} g w n f front ts = rw (sym (alike ts), one_more g w n 0 ts)
     (simp (flat, nil_after, append-nil, alike, alone))
   where
-    alike : (us : List Mark) → reads (Some (read factor 0)) (many g) us ≡ reads None (many g) us
-    alike us = flat_alike (Some (read factor 0)) None (many g) f us
+    alike : (us : List Mark) → reads (Some (read factor_by_operand 0)) (many g) us ≡ reads None (many g) us
+    alike us = flat_alike (Some (read factor_by_operand 0)) None (many g) f us
 
-    alone : (us : List Mark) → reads (Some (read factor 0)) g us ≡ reads None g us
-    alone us = flat_alike (Some (read factor 0)) None g f us
+    alone : (us : List Mark) → reads (Some (read factor_by_operand 0)) g us ≡ reads None g us
+    alone us = flat_alike (Some (read factor_by_operand 0)) None g f us
 
 items_made : well_made (a_symbol symbol.Comma ⊳ item) ≡ true
 unfolding item selection alias column name same_word same_symbol
@@ -186,14 +186,14 @@ group_flat = refl
 group_any : (D : Nest) (ts : List Mark) → seen (reads D group ts) ≡ group_at ts
 group_any D ts = ap seen (flat_alike D None group group_flat ts) ∙ group_same ts
 
-filter_same : (d : ℕ) (ts : List Mark) → seen (reads (Some (read factor d)) filter ts) ≡ filter_at d ts
+filter_same : (d : ℕ) (ts : List Mark) → seen (reads (Some (read factor_by_operand d)) filter ts) ≡ filter_at d ts
 unfolding filter filter_at token_at at
 filter_same d ts = simp (flat, pred_same)
 
-ending_same : (d : ℕ) (ts : List Mark) → seen (reads (Some (read factor d)) ending ts) ≡ ending_at d ts
+ending_same : (d : ℕ) (ts : List Mark) → seen (reads (Some (read factor_by_operand d)) ending ts) ≡ ending_at d ts
 unfolding ending ending_at token_at at
 ending_same d ts = simp (flat, filter_same, group_any)
 
-pub query_same : (d : ℕ) (ts : List Mark) → seen (reads (Some (read factor d)) query ts) ≡ query_at d ts
+pub query_same : (d : ℕ) (ts : List Mark) → seen (reads (Some (read factor_by_operand d)) query ts) ≡ query_at d ts
 unfolding query query_at token_at
 query_same d ts = simp (flat, list_any, source_any, ending_same)

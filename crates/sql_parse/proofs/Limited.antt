@@ -14,15 +14,18 @@ use Rattle.grammar.specs.Reading.{nullable}
 use Rattle.grammar.proofs.Rules.{solid_of}
 use Rattle.sql_parse.specs.Limits.{TallyAt, passes_from, passes}
 use Rattle.sql_parse.specs.Parse.{IsSentence}
-use Rattle.sql_parse.specs.Productions.{name, column, minus, digits, date, number, string, operand, compare}
+use Rattle.sql_parse.specs.Productions.{name, column, minus, digits, date, number, string, operand}
+use Rattle.sql_parse.specs.Productions.{compare}
 use Rattle.sql_parse.specs.Notation.{Condition}
-use Rattle.sql_parse.specs.Productions.{negated, conj, pred, comparison_of, range_of, membership_of, null_test_of, simple}
-use Rattle.sql_parse.specs.Productions.{truth_value, factor}
+use Rattle.sql_parse.specs.Productions.{negated}
+use Rattle.sql_parse.specs.PredicateProductions.{conj, pred, comparison_of, range_of, membership_of}
+use Rattle.sql_parse.specs.PredicateProductions.{null_test_of, simple}
+use Rattle.sql_parse.specs.PredicateProductions.{truth_value, factor}
 use Rattle.sql_parse.specs.Clauses.{alias, selection, item, list, place, equal, join, group}
 use Rattle.sql_parse.specs.Clauses.{filter, source, ending, query}
 use Rattle.sql_parse.specs.Tokens.{Mark, same_word, same_symbol}
 use Rattle.sql_parse.proofs.EveryKind.{kinds}
-use Rattle.sql_parse.specs.Within.{members, filter_members, select_items, IsWithinLimits}
+use Rattle.sql_parse.specs.SentenceLimits.{members, filter_members, select_items, IsWithinLimits}
 use Rattle.sql_parse.proofs.Everywhere.{apart}
 use Rattle.sql_parse.proofs.Gathered.{ends_apart, Ending, ends, any_solid, any_ends}
 use Rattle.sql_parse.proofs.Parts.{if_said}

@@ -19,9 +19,12 @@ use Rattle.sql_query.specs.Sentence.{Sentence}
 use Rattle.grammar.specs.Rule.{both, either, many, make, Language, Spells, Any}
 use Rattle.sql_parse.specs.Parse.{IsSentence}
 use Rattle.sql_parse.specs.Notation.{Condition, Of, a_word, a_symbol, symbol_for, ◌⊳◌, ◌⊲◌, maybe, listed}
-use Rattle.sql_parse.specs.Productions.{name, column, minus, digits, date, number, string, operand, compare}
-use Rattle.sql_parse.specs.Productions.{negated, conj, pred, comparison_of, range_of, membership_of, null_test_of, simple}
-use Rattle.sql_parse.specs.Productions.{truth_value, factor}
+use Rattle.sql_parse.specs.Productions.{name, column, minus, digits, date, number, string, operand}
+use Rattle.sql_parse.specs.Productions.{compare}
+use Rattle.sql_parse.specs.Productions.{negated}
+use Rattle.sql_parse.specs.PredicateProductions.{conj, pred, comparison_of, range_of, membership_of}
+use Rattle.sql_parse.specs.PredicateProductions.{null_test_of, simple}
+use Rattle.sql_parse.specs.PredicateProductions.{truth_value, factor}
 use Rattle.sql_parse.specs.Clauses.{alias, selection, item, list, place, equal, join, group}
 use Rattle.sql_parse.specs.Clauses.{filter, source, ending, query}
 use Rattle.sql_parse.specs.Tokens.{Mark, same_word, same_symbol, is_word, is_symbol, word_token, symbol_token}

@@ -25,14 +25,17 @@ use Rattle.sql_query.specs.declared.query.Equality.{Equality}
 use Rattle.sql_query.specs.declared.query.Join.{Join}
 use Rattle.sql_query.specs.Sentence.{Sentence}
 use Rattle.grammar.specs.Rule.{empty, both, either, many, make, Language, Spells, Any}
-use Rattle.sql_parse.specs.Within.{column_names, expression_names, item_names, select_names, place_names}
-use Rattle.sql_parse.specs.Within.{equality_names, join_names, operand_names, condition_names, filter_names}
-use Rattle.sql_parse.specs.Within.{sentence_names}
+use Rattle.sql_parse.specs.SentenceLimits.{column_names, expression_names, item_names, select_names, place_names}
+use Rattle.sql_parse.specs.SentenceLimits.{equality_names, join_names, operand_names, condition_names, filter_names}
+use Rattle.sql_parse.specs.SentenceLimits.{sentence_names}
 use Rattle.sql_parse.specs.Parse.{IsSentence}
 use Rattle.sql_parse.specs.Notation.{Condition, Of, a_word, a_symbol, word_for, symbol_for, ◌⊳◌, ◌⊲◌, maybe, listed}
-use Rattle.sql_parse.specs.Productions.{name, column_name, column, minus, digits, date, number, string, operand, compare}
-use Rattle.sql_parse.specs.Productions.{negated, pred, comparison_of, range_of, membership_of, null_test_of, simple}
-use Rattle.sql_parse.specs.Productions.{factor}
+use Rattle.sql_parse.specs.Productions.{name, column_name, column, minus, digits, date, number}
+use Rattle.sql_parse.specs.Productions.{string, operand, compare}
+use Rattle.sql_parse.specs.Productions.{negated}
+use Rattle.sql_parse.specs.PredicateProductions.{pred, comparison_of, range_of, membership_of}
+use Rattle.sql_parse.specs.PredicateProductions.{null_test_of, simple}
+use Rattle.sql_parse.specs.PredicateProductions.{factor}
 use Rattle.sql_parse.specs.Clauses.{alias, selection, item, list, place, equal, join, group, filter}
 use Rattle.sql_parse.specs.Clauses.{source, ending, query}
 use Rattle.sql_parse.specs.Tokens.{Mark, value_of, same_word, same_symbol, is_word, name_token, word_token}

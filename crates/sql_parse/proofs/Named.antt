@@ -33,9 +33,11 @@ use Rattle.grammar.proofs.Keeping.{keeps_opened, keeps_any}
 use Rattle.sql_parse.specs.Limits.{TallyAt, counted, is_past, is_long_name, passes_from, passes}
 use Rattle.sql_parse.specs.Parse.{IsSentence, Accepts, Answered}
 use Rattle.sql_parse.specs.Notation.{Condition, Of, a_word, a_symbol, symbol_for, ◌⊳◌, ◌⊲◌, maybe, listed, joined}
-use Rattle.sql_parse.specs.Productions.{name, column_name, column, operand, compare, negated, inner, conj, pred}
-use Rattle.sql_parse.specs.Productions.{comparison_of, range_of, membership_of, null_test_of, simple, primary_of}
-use Rattle.sql_parse.specs.Productions.{tested, truth_value, test_of, factor}
+use Rattle.sql_parse.specs.Productions.{name, column_name, column, operand, compare, negated}
+use Rattle.sql_parse.specs.PredicateProductions.{inner, conj, pred}
+use Rattle.sql_parse.specs.PredicateProductions.{comparison_of, range_of, membership_of}
+use Rattle.sql_parse.specs.PredicateProductions.{null_test_of, simple, primary_of}
+use Rattle.sql_parse.specs.PredicateProductions.{tested, truth_value, test_of, factor}
 use Rattle.sql_parse.specs.Clauses.{alias, selection, item, list, place}
 use Rattle.sql_parse.specs.Clauses.{equal, join, group, filter, source, ending, query}
 use Rattle.sql_parse.specs.Tokens.{Mark, mark, marks, value_of, is_word, is_symbol, name_token, word_token}

@@ -8,11 +8,11 @@ use Rattle.grammar.specs.Rule.{Language}
 use Rattle.grammar.specs.Sentence.{Begins, NoneGoesOn}
 use Rattle.grammar.proofs.Exact.{one_value}
 use Rattle.grammar.proofs.Flags.{or-left, or-right}
-use Rattle.sql_parse.specs.Factored.{factor}
+use Rattle.sql_parse.specs.FactoredGrammar.{factor_by_operand}
 use Rattle.sql_parse.specs.Limits.{TallyAt, counted, is_past, is_long_name, passes_from, passes}
 use Rattle.sql_parse.specs.Parse.{IsSentence, IsShallow, Accepts, PassesLimit, HasOffender}
 use Rattle.sql_parse.specs.Parse.{fault_or, Refuses}
-use Rattle.sql_parse.specs.Productions.{begins_factor}
+use Rattle.sql_parse.specs.PredicateProductions.{begins_factor}
 use Rattle.sql_parse.specs.Clauses.{query}
 use Rattle.sql_parse.proofs.EveryKind.{follows_factor}
 use Rattle.sql_query.specs.Sentence.{Sentence, is_left_out_whole}
@@ -22,11 +22,11 @@ use Rattle.sql_parse.proofs.Conditions.{one_way, made_well, guarded, filled, beg
 use Rattle.sql_parse.proofs.Everywhere.{covered, apart}
 use Rattle.sql_parse.proofs.Printed.{read_sentence, sentence_of_shallow}
 use Rattle.sql_parse.proofs.Limited.{limited}
-use Rattle.sql_parse.specs.Within.{IsWithinLimits}
+use Rattle.sql_parse.specs.SentenceLimits.{IsWithinLimits}
 
 -- a list of tokens says at most one sentence
 pub one_sentence : (ts : List Mark) (s other : Sentence) → IsSentence ts s → IsSentence ts other → s ≡ other
-one_sentence ts s other q r = one_value kinds factor begins_factor follows_factor covered apart made_well guarded
+one_sentence ts s other q r = one_value kinds factor_by_operand begins_factor follows_factor covered apart made_well guarded
     filled begins_so one_way query query_made_well query_one_way ts s other (read_sentence ts s q)
     (read_sentence ts other r)
 

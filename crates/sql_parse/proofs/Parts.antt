@@ -8,8 +8,10 @@ use Rattle.sql_text.specs.declared.symbol.Symbol.TheVariants as symbol
 use Rattle.sql_text.specs.declared.token.TokenKind.{TokenKind}
 use Rattle.grammar.specs.Rule.{empty, both, many, make, Language, Spells}
 use Rattle.sql_parse.specs.Notation.{Condition, Of, a_word, a_symbol, ◌⊳◌, ◌⊲◌, maybe, listed, joined, is_one_of}
-use Rattle.sql_parse.specs.Productions.{negated, inner, conj, pred, simple, primary_of, tested, truth_value, test_of}
-use Rattle.sql_parse.specs.Productions.{factor}
+use Rattle.sql_parse.specs.Productions.{negated}
+use Rattle.sql_parse.specs.PredicateProductions.{inner, conj, pred, simple, primary_of, tested}
+use Rattle.sql_parse.specs.PredicateProductions.{truth_value, test_of}
+use Rattle.sql_parse.specs.PredicateProductions.{factor}
 use Rattle.sql_parse.specs.Tokens.{Mark, same_word, same_symbol, is_word, is_symbol, word_token, symbol_token}
 use Rattle.sql_parse.proofs.EveryKind.{kinds}
 use Rattle.sql_parse.proofs.Everywhere.{apart}

@@ -10,12 +10,14 @@ use Rattle.grammar.proofs.Rules.{wider}
 use Rattle.sql_parse.specs.Tokens.{Mark}
 use Rattle.sql_parse.specs.Productions.{operand, compare}
 use Rattle.sql_parse.specs.Notation.{Condition, Of, a_word, a_symbol, word_for, ◌⊳◌, ◌⊲◌, listed}
-use Rattle.sql_parse.specs.Productions.{negated, comparison_of, range_of, membership_of, null_test_of, simple}
-use Rattle.sql_parse.specs.Productions.{primary_of, test_of, factor_of}
-use Rattle.sql_parse.specs.Productions as printed
+use Rattle.sql_parse.specs.Productions.{negated}
+use Rattle.sql_parse.specs.PredicateProductions.{comparison_of, range_of, membership_of}
+use Rattle.sql_parse.specs.PredicateProductions.{null_test_of, simple}
+use Rattle.sql_parse.specs.PredicateProductions.{primary_of, test_of, factor_of}
+use Rattle.sql_parse.specs.PredicateProductions as printed
 use Rattle.sql_parse.specs.Clauses.{query}
 use Rattle.sql_parse.specs.Parse.{IsSentence, IsShallow}
-use Rattle.sql_parse.specs.Factored.{Value, compared, nulled, ranged, among, tail, forms, primary, test, factor}
+use Rattle.sql_parse.specs.FactoredGrammar.{Value, compared, nulled, ranged, among, tail, forms, primary, test, factor_by_operand}
 
 abbrev Negatable : Type 0
 Negatable = Bool → Value → Condition
@@ -282,39 +284,39 @@ module _ (D : Language Mark Condition) where
   factor_by g h w ts v (inl q) = inl q
   factor_by g h w ts v (inr q) = inr (w ts v q)
 
-  read_factor : Within (Spells D printed.factor) (Spells D factor)
-  unfolding printed.factor factor test primary
+  read_factor : Within (Spells D printed.factor) (Spells D factor_by_operand)
+  unfolding printed.factor factor_by_operand test primary
   read_factor = factor_by (test_of (primary_of simple)) (test_of (primary_of forms))
       (test_by (primary_of simple) (primary_of forms) (primary_by simple forms read_simple))
 
-  print_factor : Within (Spells D factor) (Spells D printed.factor)
-  unfolding printed.factor factor test primary
+  print_factor : Within (Spells D factor_by_operand) (Spells D printed.factor)
+  unfolding printed.factor factor_by_operand test primary
   print_factor = factor_by (test_of (primary_of forms)) (test_of (primary_of simple))
       (test_by (primary_of forms) (primary_of simple) (primary_by forms simple print_forms))
 
-read_nested : (d : ℕ) → Within (Nested printed.factor d) (Nested factor d)
+read_nested : (d : ℕ) → Within (Nested printed.factor d) (Nested factor_by_operand d)
 read_nested zero = read_factor Nowhere
-read_nested (suc d) = λ ts v q. read_factor (Nested factor d) ts v
-    (wider (Nested printed.factor d) (Nested factor d) (read_nested d) printed.factor ts v q)
+read_nested (suc d) = λ ts v q. read_factor (Nested factor_by_operand d) ts v
+    (wider (Nested printed.factor d) (Nested factor_by_operand d) (read_nested d) printed.factor ts v q)
 
-print_nested : (d : ℕ) → Within (Nested factor d) (Nested printed.factor d)
+print_nested : (d : ℕ) → Within (Nested factor_by_operand d) (Nested printed.factor d)
 print_nested zero = print_factor Nowhere
 print_nested (suc d) = λ ts v q. print_factor (Nested printed.factor d) ts v
-    (wider (Nested factor d) (Nested printed.factor d) (print_nested d) factor ts v q)
+    (wider (Nested factor_by_operand d) (Nested printed.factor d) (print_nested d) factor_by_operand ts v q)
 
 -- ---- queries
 
-pub read_shallow : Within IsShallow (Spells (Nested factor 64) query)
-read_shallow = wider (Nested printed.factor 64) (Nested factor 64) (read_nested 64) query
+pub read_shallow : Within IsShallow (Spells (Nested factor_by_operand 64) query)
+read_shallow = wider (Nested printed.factor 64) (Nested factor_by_operand 64) (read_nested 64) query
 
-pub printed_shallow : Within (Spells (Nested factor 64) query) IsShallow
-printed_shallow = wider (Nested factor 64) (Nested printed.factor 64) (print_nested 64) query
+pub printed_shallow : Within (Spells (Nested factor_by_operand 64) query) IsShallow
+printed_shallow = wider (Nested factor_by_operand 64) (Nested printed.factor 64) (print_nested 64) query
 
-pub read_sentence : Within IsSentence (Spells (Any factor) query)
-read_sentence = wider (Any printed.factor) (Any factor) (λ ts v q. (q.0, read_nested q.0 ts v q.1)) query
+pub read_sentence : Within IsSentence (Spells (Any factor_by_operand) query)
+read_sentence = wider (Any printed.factor) (Any factor_by_operand) (λ ts v q. (q.0, read_nested q.0 ts v q.1)) query
 
-pub printed_sentence : Within (Spells (Any factor) query) IsSentence
-printed_sentence = wider (Any factor) (Any printed.factor) (λ ts v q. (q.0, print_nested q.0 ts v q.1)) query
+pub printed_sentence : Within (Spells (Any factor_by_operand) query) IsSentence
+printed_sentence = wider (Any factor_by_operand) (Any printed.factor) (λ ts v q. (q.0, print_nested q.0 ts v q.1)) query
 
 pub sentence_of_shallow : Within IsShallow IsSentence
 sentence_of_shallow = wider (Nested printed.factor 64) (Any printed.factor) (λ ts v q. (64, q)) query

@@ -30,11 +30,13 @@ use Rattle.sql_parse.specs.declared.refusal.Refusal.{Refusal}
 use Rattle.sql_parse.specs.declared.refusal.Refusal.TheVariants as refusal
 use Rattle.sql_parse.specs.Answers.{seen}
 use Rattle.sql_parse.specs.QuerySteps.{whole_at, ended}
-use Rattle.sql_parse.specs.Factored.{compared, nulled, ranged, among, tail, forms, primary, test, factor}
+use Rattle.sql_parse.specs.FactoredGrammar.{compared, nulled, ranged, among, tail, forms, primary, test, factor_by_operand}
 use Rattle.sql_parse.specs.Limits.{counted, is_past, is_long_name, passes}
 use Rattle.sql_parse.specs.Parse.{IsSentence, IsShallow, fault_or, Refuses, Answered, Parsed}
-use Rattle.sql_parse.specs.Productions.{name, column, minus, digits, date, number, string, operand, compare, negated, conj}
-use Rattle.sql_parse.specs.Productions.{pred, truth_value}
+use Rattle.sql_parse.specs.Productions.{name, column, minus, digits, date, number, string, operand}
+use Rattle.sql_parse.specs.Productions.{compare, negated}
+use Rattle.sql_parse.specs.PredicateProductions.{conj}
+use Rattle.sql_parse.specs.PredicateProductions.{pred, truth_value}
 use Rattle.sql_parse.specs.Clauses.{alias, selection, item, list, place, equal, join, group}
 use Rattle.sql_parse.specs.Clauses.{filter, source, ending, query}
 use Rattle.sql_parse.proofs.Told.{Told}
@@ -51,7 +53,7 @@ record Means (text : List ℕ) (answer : Result Sentence Fault) : Type 0 where
 
 -- what reading the grammar from the left gives
 abbrev outcome : List Mark → Result Sentence Refusal
-outcome ts = ended (seen (reads (Some (read factor 64)) query ts))
+outcome ts = ended (seen (reads (Some (read factor_by_operand 64)) query ts))
 
 -- the tokens before the place, and those from there on, where so many are left
 abbrev before : ℕ → List Mark → List Mark
@@ -78,7 +80,7 @@ answer : List ℕ → Result Sentence Fault
 unfolding tokens_in tokens_from tokens_within front_at mark_front pair single word_kind number_of unquoted same_word
     same_symbol begins token seen counted is_past is_long_name passes name column minus digits date number string operand
     compare negated conj pred truth_value alias selection item list place equal join group filter source ending query
-    compared nulled ranged among tail forms primary test factor
+    compared nulled ranged among tail forms primary test factor_by_operand
 answer text = answer_of (length text) (tokens_in text)
 
 -- the place and what stands before it, cut off the tokens

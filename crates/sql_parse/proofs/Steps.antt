@@ -18,11 +18,13 @@ use Rattle.scan_base.specs.Predicate.{conjunction, disjunction, negation}
 use Rattle.grammar.specs.Rule.{many, make}
 use Rattle.grammar.proofs.Deep.{flat_alike}
 use Rattle.sql_query.specs.declared.query.ColumnName.{ColumnName}
-use Rattle.sql_parse.specs.Productions.{name, column, minus, digits, date, number, string, operand, compare}
+use Rattle.sql_parse.specs.Productions.{name, column, minus, digits, date, number, string, operand}
+use Rattle.sql_parse.specs.Productions.{compare}
 use Rattle.sql_parse.specs.Notation.{Condition}
-use Rattle.sql_parse.specs.Productions.{negated, truth_value, conj, pred, inner}
+use Rattle.sql_parse.specs.Productions.{negated}
+use Rattle.sql_parse.specs.PredicateProductions.{truth_value, conj, pred, inner}
 use Rattle.sql_parse.specs.Notation.{a_word, a_symbol, ◌⊳◌, ◌⊲◌}
-use Rattle.sql_parse.specs.Factored.{compared, nulled, ranged, among, tail, forms, primary, test, factor}
+use Rattle.sql_parse.specs.FactoredGrammar.{compared, nulled, ranged, among, tail, forms, primary, test, factor_by_operand}
 use Rattle.sql_parse.specs.Steps.{at, token_at, name_at, column_at, minus_at, numbered, digits_at, date_at, number_at}
 use Rattle.sql_parse.specs.Steps.{operand_at, compare_at}
 use Rattle.sql_parse.specs.PredicateSteps.{negated_at, truth_at, compared_at, nulled_at, ranged_at}
@@ -178,20 +180,20 @@ forms_same : (D : Nest) (ts : List Mark) → seen (reads D forms ts) ≡ form_at
 unfolding forms form_at
 forms_same D ts = simp (flat, operand_same, tail_same)
 
-conj_same : (d : ℕ) (ts : List Mark) → seen (reads (Some (read factor d)) conj ts) ≡ conj_at d ts
+conj_same : (d : ℕ) (ts : List Mark) → seen (reads (Some (read factor_by_operand d)) conj ts) ≡ conj_at d ts
 unfolding conj conj_at ands_at factor_at
 conj_same d ts = simp flat
 
-pub pred_same : (d : ℕ) (ts : List Mark) → seen (reads (Some (read factor d)) pred ts) ≡ pred_at d ts
+pub pred_same : (d : ℕ) (ts : List Mark) → seen (reads (Some (read factor_by_operand d)) pred ts) ≡ pred_at d ts
 unfolding pred pred_at ors_at
 pred_same d ts = simp (flat, conj_same)
 
 -- the recursive nonterminal, where d more may be opened
 abbrev pub level : ℕ → Nest
 level zero = None
-level (suc d) = Some (read factor d)
+level (suc d) = Some (read factor_by_operand d)
 
-level_read : (d : ℕ) (ts : List Mark) → read factor d ts ≡ reads (level d) factor ts
+level_read : (d : ℕ) (ts : List Mark) → read factor_by_operand d ts ≡ reads (level d) factor_by_operand ts
 level_read zero ts = refl
 level_read (suc d) ts = refl
 
@@ -223,8 +225,8 @@ negation_same zero ts = refl
 negation_same (suc d) ts = rw (positive d, below d) (simp flat)
 
 factor_parts : (d : ℕ) (ts : List Mark) →
-    seen (reads (level d) factor ts) ≡ cond (at (is_word word.Not) ts) (negation_at d ts) (test_at d ts)
-unfolding factor at
+    seen (reads (level d) factor_by_operand ts) ≡ cond (at (is_word word.Not) ts) (negation_at d ts) (test_at d ts)
+unfolding factor_by_operand at
 factor_parts d ts = simp (flat, negation_same, test_same)
 
 pub factor_step : (d : ℕ) (ts : List Mark) →
@@ -266,7 +268,7 @@ pub operands_step : (front : List (Operand ColumnName)) (ts : List Mark) →
     (Ok (front, ts))
 unfolding operands_at token_at at
 operands_step front ts = rw (
-  sym (operands_flat (Some (read factor 0)) ts),
+  sym (operands_flat (Some (read factor_by_operand 0)) ts),
   one_more (a_symbol symbol.Comma ⊳ operand) operand_made refl 0 ts,
 )
     (simp (flat, operand_same, nil_after, append-nil, operands_flat))

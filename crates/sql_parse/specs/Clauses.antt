@@ -15,7 +15,8 @@ use Rattle.sql_query.specs.declared.query.Join.{Join}
 use Rattle.sql_query.specs.Sentence.{Sentence}
 use Rattle.sql_parse.specs.Notation.{Condition, Of, a_word, a_symbol, symbol_for, ◌⊳◌, ◌⊲◌, maybe}
 use Rattle.sql_parse.specs.Notation.{listed}
-use Rattle.sql_parse.specs.Productions.{name, column, pred}
+use Rattle.sql_parse.specs.Productions.{name, column}
+use Rattle.sql_parse.specs.PredicateProductions.{pred}
 
 -- [ [AS] name ]
 unfoldable pub alias : Of (Option (List ℕ))

@@ -4,12 +4,12 @@ use Rattle.scan_base.specs.Limits.{most_open}
 use Rattle.scan_base.specs.declared.fault.Fault.{Fault}
 use Rattle.grammar.specs.Rule.{Spells, Nested, Any}
 use Rattle.sql_parse.specs.Clauses.{query}
-use Rattle.sql_parse.specs.Factored as factored
+use Rattle.sql_parse.specs.FactoredGrammar as factored
 use Rattle.sql_parse.specs.Parse.{IsSentence, IsShallow, Accepts, Refuses}
 use Rattle.sql_query.specs.Sentence.{Sentence}
 use Rattle.sql_parse.specs.Tokens.{Mark}
 use Rattle.sql_parse.specs.Limits.{passes}
-use Rattle.sql_parse.specs.Within.{IsWithinLimits}
+use Rattle.sql_parse.specs.SentenceLimits.{IsWithinLimits}
 
 -- a list of tokens says at most one sentence
 abbrev pub AtMostOneSentence : Type 0
@@ -43,5 +43,5 @@ PassedForGood =
 -- ones: with any depth of parentheses and NOTs, and with as many as may be open.
 abbrev pub FactoredSpellsTheSame : Type 0
 FactoredSpellsTheSame = (ts : List Mark) (s : Sentence)
-    → (IsSentence ts s ↔ Spells (Any factored.factor) query ts s)
-    × (IsShallow ts s ↔ Spells (Nested factored.factor most_open) query ts s)
+    → (IsSentence ts s ↔ Spells (Any factored.factor_by_operand) query ts s)
+    × (IsShallow ts s ↔ Spells (Nested factored.factor_by_operand most_open) query ts s)

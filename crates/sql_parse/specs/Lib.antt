@@ -1,8 +1,9 @@
 pub mod Tokens
 pub mod Productions
+pub mod PredicateProductions
 pub mod Clauses
 pub mod Notation
-pub mod Factored
+pub mod FactoredGrammar
 pub mod Answers
 pub mod Calls
 pub mod Steps
@@ -10,6 +11,6 @@ pub mod PredicateSteps
 pub mod ClauseSteps
 pub mod QuerySteps
 pub mod Limits
-pub mod Within
+pub mod SentenceLimits
 pub mod Parse
 pub mod Laws

@@ -12,7 +12,7 @@ use Rattle.grammar.specs.Rule.{Language, Spells, Nested, Any}
 use Rattle.grammar.specs.Sentence.{Begins, Offends}
 use Rattle.sql_query.specs.Sentence.{Sentence, is_left_out_whole}
 use Rattle.sql_parse.specs.Tokens.{Mark, mark_of}
-use Rattle.sql_parse.specs.Productions.{factor}
+use Rattle.sql_parse.specs.PredicateProductions.{factor}
 use Rattle.sql_parse.specs.Clauses.{query}
 use Rattle.sql_parse.specs.Limits.{passes}
 

@@ -15,10 +15,11 @@ use Rattle.sql_query.specs.declared.query.ColumnName.{ColumnName}
 use Rattle.sql_parse.specs.declared.refusal.Refusal.TheVariants as refusal
 use Rattle.sql_parse.specs.Tokens.{Mark, is_word, is_symbol}
 use Rattle.sql_parse.specs.Answers.{Answer, seen, ◌>>=◌}
-use Rattle.sql_parse.specs.Productions.{operand, inner}
+use Rattle.sql_parse.specs.Productions.{operand}
+use Rattle.sql_parse.specs.PredicateProductions.{inner}
 use Rattle.sql_parse.specs.Notation.{Condition, a_word, a_symbol, ◌⊳◌, joined}
-use Rattle.sql_parse.specs.Productions.{conj}
-use Rattle.sql_parse.specs.Factored.{factor}
+use Rattle.sql_parse.specs.PredicateProductions.{conj}
+use Rattle.sql_parse.specs.FactoredGrammar.{factor_by_operand}
 use Rattle.sql_parse.specs.Steps.{at, token_at, operand_at, compare_at}
 
 unfoldable pub negated_at : List Mark → Answer Bool
@@ -83,11 +84,11 @@ tail_at a ts =
 
 -- a factor, where d more may be opened
 unfoldable pub factor_at : ℕ → List Mark → Answer Condition
-factor_at d ts = seen (read factor d ts)
+factor_at d ts = seen (read factor_by_operand d ts)
 
 -- more factors after p
 unfoldable pub ands_at : ℕ → Condition → List Mark → Answer Condition
-ands_at d p ts = seen (reads (Some (read factor d)) (many (a_word word.And ⊳ inner)) ts)
+ands_at d p ts = seen (reads (Some (read factor_by_operand d)) (many (a_word word.And ⊳ inner)) ts)
     >>= λ qs. Ok (joined conjunction p qs.0, qs.1)
 
 unfoldable pub conj_at : ℕ → List Mark → Answer Condition
@@ -96,7 +97,7 @@ conj_at d ts = do
   ands_at d p.0 p.1
 
 unfoldable pub ors_at : ℕ → Condition → List Mark → Answer Condition
-ors_at d p ts = seen (reads (Some (read factor d)) (many (a_word word.Or ⊳ conj)) ts)
+ors_at d p ts = seen (reads (Some (read factor_by_operand d)) (many (a_word word.Or ⊳ conj)) ts)
     >>= λ qs. Ok (joined disjunction p qs.0, qs.1)
 
 unfoldable pub pred_at : ℕ → List Mark → Answer Condition

@@ -12,7 +12,7 @@ use Rattle.std.proofs.lemmas.Str.{IsCharBoundary-end, IsCharBoundary-before_asci
 use Rattle.sql_text.specs.declared.front.Front.{Front}
 use Rattle.sql_text.specs.declared.symbol.Symbol.{Symbol}
 use Rattle.sql_text.specs.Values.{opened}
-use Rattle.sql_text.specs.Standard.{begins_word, continues_word, is_separator, continues_comment, Form, separator, comment, word, delimited_name, string, unclosed, digits, mark, Spells, StandsInFront, is_sound}
+use Rattle.sql_text.specs.Standard.{begins_word, continues_word, is_separator, continues_comment, Form, separator, comment, word, delimited_name, string, unclosed, digits, mark, SpellsPiece, StandsInFront, is_sound}
 use Rattle.sql_text.specs.Symbols.{symbols, symbol_in}
 use Rattle.sql_text.specs.Reading.{front_at}
 use Rattle.sql_text.proofs.Groups.{mark_short, some_byte}
@@ -80,8 +80,8 @@ more_passes p (y ∷ xs) x e f = both (p y) refl e (more_passes p xs x)
     both false g e more = absurd cc
 
 -- the byte after a comment is LF
-comment_cut : (front rest : List ℕ) → Spells comment front
-    → ((form : Form) (text more : List ℕ) → front ++ rest ≡ text ++ more → Spells form text → length text ≤ length front)
+comment_cut : (front rest : List ℕ) → SpellsPiece comment front
+    → ((form : Form) (text more : List ℕ) → front ++ rest ≡ text ++ more → SpellsPiece form text → length text ≤ length front)
     → IsCharBoundary (front ++ rest) (length front)
 comment_cut front [] h longest = rw (ap length (sym (append-nil front))) (IsCharBoundary-end (front ++ []))
 comment_cut front (c ∷ rest) h longest = go (c == 10) refl
@@ -97,11 +97,11 @@ comment_cut front (c ∷ rest) h longest = go (c == 10) refl
         let lf : c ≡ 10 = eqb-true c 10 e in
         IsCharBoundary-before_ascii (front ++ (c ∷ rest)) (length front) within (rw here (omega arith))
     go false e =
-        let longer : Spells comment (front ++ (c ∷ [])) = (h.0 ++ (c ∷ []), rw h.1 refl, more_passes continues_comment h.0 c h.2 (rw e refl)) in
+        let longer : SpellsPiece comment (front ++ (c ∷ [])) = (h.0 ++ (c ∷ []), rw h.1 refl, more_passes continues_comment h.0 c h.2 (rw e refl)) in
         let le : length (front ++ (c ∷ [])) ≤ length front = longest comment (front ++ (c ∷ [])) rest (sym (append_assoc front (c ∷ []) rest)) longer in
         absurd (omega (arith, length-append front (c ∷ [])))
 
-ends_of : (form : Form) (front : List ℕ) → Spells form front → is_sound form front ≡ true → form ≢ comment → Ends front
+ends_of : (form : Form) (front : List ℕ) → SpellsPiece form front → is_sound form front ≡ true → form ≢ comment → Ends front
 ends_of separator front h sound other = record { before = []; last = h.0; whole = h.1; ascii = separator_ascii h.0 h.2 }
   where
     separator_ascii : (b : ℕ) → is_separator b ≡ true → b < 128
@@ -124,7 +124,7 @@ pub sound_cut : (form : Form) (front rest : List ℕ) → StandsInFront (record 
 sound_cut comment front rest s sound utf8 = comment_cut front rest s.spells s.longest
 sound_cut form front rest s sound utf8 = ends_cut front rest (ends_of form front s.spells sound (λ e. cc)) utf8
 
-some_bytes : (form : Form) (front : List ℕ) → Spells form front → 0 < length front
+some_bytes : (form : Form) (front : List ℕ) → SpellsPiece form front → 0 < length front
 some_bytes form [] h = absurd (some_byte form h)
 some_bytes form (b ∷ front) h = omega arith
 

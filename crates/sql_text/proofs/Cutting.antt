@@ -9,7 +9,7 @@ use Rattle.scan_base.specs.Reading.{◌>>=◌, wanted}
 use Rattle.sql_text.specs.declared.front.Front.{Front}
 use Rattle.sql_text.specs.declared.token.TokenKind.{TokenKind}
 use Rattle.sql_text.proofs.Groups.{some_byte}
-use Rattle.sql_text.specs.Standard.{Spells, Form, Piece, StandsInFront, AreCut, sound, kind_of, Lexeme, token_here, tokens_of, AreTokens, HasFaultAt}
+use Rattle.sql_text.specs.Standard.{SpellsPiece, Form, Piece, StandsInFront, AreCut, sound, kind_of, Lexeme, token_here, tokens_of, AreTokens, HasFaultAt}
 use Rattle.sql_text.specs.Reading.{front_at, tokens_within, tokens_from}
 use Rattle.sql_text.proofs.Fronts.{front_read}
 use Rattle.sql_text.proofs.Unique.{same_piece}
@@ -58,7 +58,7 @@ front_again bytes piece rest s right = go bytes s (front_at bytes) refl
         e ∙ ap Some (λ i. record { kind = kinds i; len = lens i })
     go [] s None e = absurd (nothing piece.text s.whole s.spells)
       where
-        nothing : (text : List ℕ) → [] ≡ text ++ rest → Spells piece.form text → ⊥
+        nothing : (text : List ℕ) → [] ≡ text ++ rest → SpellsPiece piece.form text → ⊥
         nothing [] e h = some_byte piece.form h
         nothing (b ∷ text) e h = cc
     go (b ∷ bytes) s None e = let wrong = none_sound b bytes e piece rest s in absurd cc

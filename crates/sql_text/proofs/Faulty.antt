@@ -9,7 +9,7 @@ use Rattle.sql_text.specs.declared.symbol.Symbol.{Symbol}
 use Rattle.sql_text.specs.declared.token.TokenKind.TheVariants as kind
 use Rattle.sql_text.specs.Values.{doubled, is_small}
 use Rattle.sql_text.specs.Standard.{begins_word, is_separator, Form, delimited_name, unclosed, digits, Piece, StandsInFront, sound, is_sound}
-use Rattle.sql_text.specs.Reading.{space, token, closed_at, string_front, delimited_front, word_front, digits_front, comment_front, pair, single, one_mark, two_marks, mark_front, front_at}
+use Rattle.sql_text.specs.Reading.{space, front_token, closed_at, string_front, delimited_front, word_front, digits_front, comment_front, pair, single, one_mark, two_marks, mark_front, front_at}
 use Rattle.sql_text.proofs.Groups.{group, marks}
 use Rattle.sql_text.proofs.Quotes.{Closed, closed_of, open_of}
 use Rattle.sql_text.proofs.Fronts.{Stands, digits_len, digits_stands, double_stands, unclosed_stands, NoComment, Marked, none_stands}
@@ -32,8 +32,8 @@ digits_none b tail first e = go (is_small text) refl (rw (digits_len b tail firs
     text : List ℕ
     text = b ∷ take (prefix_len is_ascii_digit tail) tail
 
-    go : (x : Bool) → is_small text ≡ x → cond (is_small text) (token kind.Digits (suc (prefix_len is_ascii_digit tail))) None ≡ None → NoneSound (b ∷ tail)
-    go true small e = let d : token kind.Digits (suc (prefix_len is_ascii_digit tail)) ≡ None = rw small at e in absurd cc
+    go : (x : Bool) → is_small text ≡ x → cond (is_small text) (front_token kind.Digits (suc (prefix_len is_ascii_digit tail))) None ≡ None → NoneSound (b ∷ tail)
+    go true small e = let d : front_token kind.Digits (suc (prefix_len is_ascii_digit tail)) ≡ None = rw small at e in absurd cc
     go false small e = unsound_only (b ∷ tail) digits _ (digits_stands b tail first) small
 
 nil_of : (xs : List ℕ) → length xs ≡ 0 → xs ≡ []
@@ -45,14 +45,14 @@ unfolding double_stands unclosed_stands
 delimited_none tail e = go (closed_at 34 0 tail) refl e
   where
     made : ℕ → Option Front
-    made len = cond (len == 1) None (token kind.DelimitedName (1 + len))
+    made len = cond (len == 1) None (front_token kind.DelimitedName (1 + len))
 
     empty : (len : ℕ) → Closed 34 0 tail len → (x : Bool) → (len == 1) ≡ x → made len ≡ None → NoneSound (34 ∷ tail)
     empty len c true one e =
         let len_is : len ≡ 1 = eqb-true len 1 one in
         let none : flat_map (doubled 34) c.value ≡ [] = nil_of (flat_map (doubled 34) c.value) (omega (arith, c.len_is)) in
         unsound_only (34 ∷ tail) delimited_name _ (double_stands tail len c) (rw none refl)
-    empty len c false one e = let d : token kind.DelimitedName (1 + len) ≡ None = rw one at e in absurd cc
+    empty len c false one e = let d : front_token kind.DelimitedName (1 + len) ≡ None = rw one at e in absurd cc
 
     go : (o : Option ℕ) → closed_at 34 0 tail ≡ o → option_and_then made o ≡ None → NoneSound (34 ∷ tail)
     go None f e = unsound_only (34 ∷ tail) unclosed _ (unclosed_stands 34 tail refl (open_of 34 0 tail f)) refl
@@ -62,14 +62,14 @@ string_none : (tail : List ℕ) → string_front tail ≡ None → NoneSound (39
 unfolding unclosed_stands
 string_none tail e = go (closed_at 39 0 tail) refl e
   where
-    go : (o : Option ℕ) → closed_at 39 0 tail ≡ o → option_and_then (λ (len : ℕ). token kind.String (1 + len)) o ≡ None → NoneSound (39 ∷ tail)
+    go : (o : Option ℕ) → closed_at 39 0 tail ≡ o → option_and_then (λ (len : ℕ). front_token kind.String (1 + len)) o ≡ None → NoneSound (39 ∷ tail)
     go None f e = unsound_only (39 ∷ tail) unclosed _ (unclosed_stands 39 tail refl (open_of 39 0 tail f)) refl
     go (Some len) f e = absurd cc
 
 no_symbol : (first : ℕ) → one_mark first ≡ None → single first ≡ None
 no_symbol first e = go (single first) refl e
   where
-    go : (o : Option Symbol) → single first ≡ o → option_and_then (λ (s : Symbol). token (kind.Symbol s) 1) o ≡ None → single first ≡ None
+    go : (o : Option Symbol) → single first ≡ o → option_and_then (λ (s : Symbol). front_token (kind.Symbol s) 1) o ≡ None → single first ≡ None
     go None f e = f
     go (Some s) f e = absurd cc
 

@@ -14,8 +14,8 @@ use Rattle.sql_text.specs.declared.symbol.Symbol.{Symbol}
 use Rattle.sql_text.specs.declared.token.TokenKind.TheVariants as kind
 use Rattle.sql_text.specs.Words.{word_kind}
 use Rattle.sql_text.specs.Values.{doubled, opened, quoted, is_small}
-use Rattle.sql_text.specs.Standard.{begins_word, continues_word, is_separator, is_quote, continues_comment, Form, separator, comment, word, delimited_name, string, unclosed, digits, mark, Spells, Piece, StandsInFront, is_sound, kind_of}
-use Rattle.sql_text.specs.Reading.{space, token, closed_at, string_front, delimited_front, word_front, digits_front, comment_front, pair, single, one_mark, two_marks, mark_front, front_at}
+use Rattle.sql_text.specs.Standard.{begins_word, continues_word, is_separator, is_quote, continues_comment, Form, separator, comment, word, delimited_name, string, unclosed, digits, mark, SpellsPiece, Piece, StandsInFront, is_sound, kind_of}
+use Rattle.sql_text.specs.Reading.{space, front_token, closed_at, string_front, delimited_front, word_front, digits_front, comment_front, pair, single, one_mark, two_marks, mark_front, front_at}
 use Rattle.sql_text.proofs.Groups.{words, numerals, separators, double_quotes, single_quotes, marks, group, Begins, of_word, of_digit, of_separator, mark_short, some_byte, longest_of, all_fits}
 use Rattle.sql_text.proofs.Quotes.{Closed, Open, closed_of, no_longer}
 use Rattle.sql_text.proofs.Cuts.{run_passes}
@@ -29,7 +29,7 @@ pub record Stands (text : List ℕ) (form : Form) (len : ℕ) : Type 0 where
 
 -- ---- separators
 
-separator_bound : (b : ℕ) (tail : List ℕ) (form : Form) (t more : List ℕ) → Begins form separators → tail ≡ t ++ more → Spells form (b ∷ t) → length (b ∷ t) ≤ 1
+separator_bound : (b : ℕ) (tail : List ℕ) (form : Form) (t more : List ℕ) → Begins form separators → tail ≡ t ++ more → SpellsPiece form (b ∷ t) → length (b ∷ t) ≤ 1
 separator_bound b tail separator t more g e h = let f = h.1 in let none : t ≡ [] = cc in rw none (omega arith)
 separator_bound b tail form t more g e h = absurd g
 
@@ -47,7 +47,7 @@ separator_stands b tail first = record {
 
 -- ---- words and digits
 
-word_bound : (b : ℕ) (tail : List ℕ) (form : Form) (t more : List ℕ) → Begins form words → tail ≡ t ++ more → Spells form (b ∷ t) → length (b ∷ t) ≤ suc (prefix_len continues_word tail)
+word_bound : (b : ℕ) (tail : List ℕ) (form : Form) (t more : List ℕ) → Begins form words → tail ≡ t ++ more → SpellsPiece form (b ∷ t) → length (b ∷ t) ≤ suc (prefix_len continues_word tail)
 word_bound b tail word t more g e h =
     let f = h.2 in
     let same : t ≡ h.1 = cc in
@@ -70,7 +70,7 @@ word_stands b tail first =
       len_is = rw len refl;
     }
 
-pub digits_bound : (b : ℕ) (tail : List ℕ) (form : Form) (t more : List ℕ) → Begins form numerals → tail ≡ t ++ more → Spells form (b ∷ t) → length (b ∷ t) ≤ suc (prefix_len is_ascii_digit tail)
+pub digits_bound : (b : ℕ) (tail : List ℕ) (form : Form) (t more : List ℕ) → Begins form numerals → tail ≡ t ++ more → SpellsPiece form (b ∷ t) → length (b ∷ t) ≤ suc (prefix_len is_ascii_digit tail)
 digits_bound b tail digits t more g e h =
     let fits : length t ≤ prefix_len is_ascii_digit tail = rw e (all_fits is_ascii_digit t more (and_parts (is_ascii_digit b) _ h.1).1) in
     omega arith
@@ -110,7 +110,7 @@ opened_bound quote tail n bounded b t more value e f =
     let le = bounded.unended value more (e ∙ rw same refl) in
     rw same (omega arith)
 
-pub double_bound : (tail : List ℕ) (n : ℕ) → Bounded 34 tail n → (form : Form) (t more : List ℕ) → Begins form double_quotes → tail ≡ t ++ more → Spells form (34 ∷ t) → length (34 ∷ t) ≤ n
+pub double_bound : (tail : List ℕ) (n : ℕ) → Bounded 34 tail n → (form : Form) (t more : List ℕ) → Begins form double_quotes → tail ≡ t ++ more → SpellsPiece form (34 ∷ t) → length (34 ∷ t) ≤ n
 double_bound tail n bounded delimited_name t more g e h = quoted_bound 34 tail n bounded 34 t more h.0 e h.1
 double_bound tail n bounded unclosed t more g e h =
     let f = h.3 in
@@ -118,7 +118,7 @@ double_bound tail n bounded unclosed t more g e h =
     opened_bound 34 tail n bounded 34 t more h.1 e (rw same at h.3)
 double_bound tail n bounded form t more g e h = absurd g
 
-pub single_bound : (tail : List ℕ) (n : ℕ) → Bounded 39 tail n → (form : Form) (t more : List ℕ) → Begins form single_quotes → tail ≡ t ++ more → Spells form (39 ∷ t) → length (39 ∷ t) ≤ n
+pub single_bound : (tail : List ℕ) (n : ℕ) → Bounded 39 tail n → (form : Form) (t more : List ℕ) → Begins form single_quotes → tail ≡ t ++ more → SpellsPiece form (39 ∷ t) → length (39 ∷ t) ≤ n
 single_bound tail n bounded string t more g e h = quoted_bound 39 tail n bounded 39 t more h.0 e h.1
 single_bound tail n bounded unclosed t more g e h =
     let f = h.3 in
@@ -130,12 +130,6 @@ pub closed_bounded : (quote : ℕ) (tail : List ℕ) (len : ℕ) → Closed quot
 closed_bounded quote tail len c = record {
   closed = λ value more e. (let le = no_longer quote c.value value c.rest (quote ∷ more) c.parts (sym c.whole ∙ e) in omega (arith, c.len_is));
   unended = λ value more e. (let le = no_longer quote c.value value c.rest more c.parts (sym c.whole ∙ e) in omega (arith, c.len_is));
-}
-
-whole_bounded : (quote : ℕ) (tail : List ℕ) → Bounded quote tail (1 + length tail)
-whole_bounded quote tail = record {
-  closed = λ value more e. omega (arith, ap length e, length-append (flat_map (doubled quote) value) (quote ∷ more));
-  unended = λ value more e. omega (arith, ap length e, length-append (flat_map (doubled quote) value) more);
 }
 
 unfoldable pub double_stands : (tail : List ℕ) (len : ℕ) → Closed 34 0 tail len → Stands (34 ∷ tail) delimited_name (1 + len)
@@ -184,7 +178,7 @@ unclosed_stands quote tail q h = record {
 
 -- ---- comments and symbols
 
-comment_bound : (bytes : List ℕ) (form : Form) (t more : List ℕ) → Begins form marks → 45 ∷ bytes ≡ t ++ more → Spells form (45 ∷ t) → length (45 ∷ t) ≤ 2 + prefix_len continues_comment bytes
+comment_bound : (bytes : List ℕ) (form : Form) (t more : List ℕ) → Begins form marks → 45 ∷ bytes ≡ t ++ more → SpellsPiece form (45 ∷ t) → length (45 ∷ t) ≤ 2 + prefix_len continues_comment bytes
 comment_bound bytes comment t more g e h =
     let f = h.1 in
     let same : t ≡ 45 ∷ h.0 = cc in
@@ -223,7 +217,7 @@ pub record Marked (first : ℕ) (tail : List ℕ) (n : ℕ) : Type 0 where
   pub ones : (s : Symbol) → single first ≡ Some s → 1 ≤ n
   pub twos : (s : Symbol) (c : ℕ) (more : List ℕ) → tail ≡ c ∷ more → pair first c ≡ Some s → 2 ≤ n
 
-mark_bound : (first : ℕ) (tail : List ℕ) (n : ℕ) → Marked first tail n → (form : Form) (t more : List ℕ) → Begins form marks → tail ≡ t ++ more → Spells form (first ∷ t) → length (first ∷ t) ≤ n
+mark_bound : (first : ℕ) (tail : List ℕ) (n : ℕ) → Marked first tail n → (form : Form) (t more : List ℕ) → Begins form marks → tail ≡ t ++ more → SpellsPiece form (first ∷ t) → length (first ∷ t) ≤ n
 unfolding single pair
 mark_bound first tail n m comment t more g e h =
     let f = h.1 in
@@ -265,7 +259,7 @@ two_stands first second bytes s g m h = record {
 pub none_stands : (first : ℕ) (tail : List ℕ) → group first ≡ marks → Marked first tail 0 → (piece : Piece) (more : List ℕ) → StandsInFront piece (first ∷ tail) more → ⊥
 none_stands first tail g m piece more s = go piece.text (longest_of 0 first tail (λ form t more b e sp. mark_bound first tail 0 m form t more (rw g at b) e sp) piece.form piece.text more s.whole s.spells) s.spells
   where
-    go : (text : List ℕ) → length text ≤ 0 → Spells piece.form text → ⊥
+    go : (text : List ℕ) → length text ≤ 0 → SpellsPiece piece.form text → ⊥
     go [] le sp = some_byte piece.form sp
     go (b ∷ text) le sp = omega arith
 
@@ -308,9 +302,9 @@ digits_read b tail first front e = go (is_small text) refl (rw (digits_len b tai
     text : List ℕ
     text = b ∷ take (prefix_len is_ascii_digit tail) tail
 
-    go : (x : Bool) → is_small text ≡ x → cond (is_small text) (token kind.Digits (suc (prefix_len is_ascii_digit tail))) None ≡ Some front → Read (b ∷ tail) front
+    go : (x : Bool) → is_small text ≡ x → cond (is_small text) (front_token kind.Digits (suc (prefix_len is_ascii_digit tail))) None ≡ Some front → Read (b ∷ tail) front
     go true small e =
-        let d : token kind.Digits (suc (prefix_len is_ascii_digit tail)) ≡ Some front = rw small at e in
+        let d : front_token kind.Digits (suc (prefix_len is_ascii_digit tail)) ≡ Some front = rw small at e in
         read_as (b ∷ tail) _ front d (record { form = digits; stands = digits_stands b tail first; sound = small; kind_is = refl })
     go false small e = let d : None ≡ Some front = rw small at e in absurd cc
 
@@ -319,12 +313,12 @@ unfolding double_stands
 delimited_read tail front e = go (closed_at 34 0 tail) refl e
   where
     made : ℕ → Option Front
-    made len = cond (len == 1) None (token kind.DelimitedName (1 + len))
+    made len = cond (len == 1) None (front_token kind.DelimitedName (1 + len))
 
     take_it : (len : ℕ) → Closed 34 0 tail len → (x : Bool) → (len == 1) ≡ x → made len ≡ Some front → Read (34 ∷ tail) front
     take_it len c true one e = let d : None ≡ Some front = rw one at e in absurd cc
     take_it len c false one e =
-        let d : token kind.DelimitedName (1 + len) ≡ Some front = rw one at e in
+        let d : front_token kind.DelimitedName (1 + len) ≡ Some front = rw one at e in
         let more : ¬ (length (quoted 34 c.value) ≡ 2) = λ two. eqb-false len 1 one (omega (arith, c.len_is, length-append (flat_map (doubled 34) c.value) (34 ∷ []))) in
         let sound : bytes_eq (quoted 34 c.value) (34 ∷ 34 ∷ []) ≡ false = unequal nat_eq (quoted 34 c.value) (34 ∷ 34 ∷ []) more in
         read_as (34 ∷ tail) _ front d (record { form = delimited_name; stands = double_stands tail len c; sound = rw sound refl; kind_is = refl })
@@ -337,7 +331,7 @@ string_read : (tail : List ℕ) (front : Front) → string_front tail ≡ Some f
 unfolding single_stands
 string_read tail front e = go (closed_at 39 0 tail) refl e
   where
-    go : (o : Option ℕ) → closed_at 39 0 tail ≡ o → option_and_then (λ (len : ℕ). token kind.String (1 + len)) o ≡ Some front → Read (39 ∷ tail) front
+    go : (o : Option ℕ) → closed_at 39 0 tail ≡ o → option_and_then (λ (len : ℕ). front_token kind.String (1 + len)) o ≡ Some front → Read (39 ∷ tail) front
     go None f e = absurd cc
     go (Some len) f e = read_as (39 ∷ tail) _ front e (record { form = string; stands = single_stands tail len (closed_of 39 0 tail len f); sound = refl; kind_is = refl })
 
@@ -345,7 +339,7 @@ one_read : (first : ℕ) (tail : List ℕ) → group first ≡ marks → Marked 
 unfolding one_stands
 one_read first tail g m front e = go (single first) refl e
   where
-    go : (o : Option Symbol) → single first ≡ o → option_and_then (λ (s : Symbol). token (kind.Symbol s) 1) o ≡ Some front → Read (first ∷ tail) front
+    go : (o : Option Symbol) → single first ≡ o → option_and_then (λ (s : Symbol). front_token (kind.Symbol s) 1) o ≡ Some front → Read (first ∷ tail) front
     go None f e = absurd cc
     go (Some s) f e = read_as (first ∷ tail) _ front e (record { form = mark s; stands = one_stands first tail s g m f; sound = refl; kind_is = refl })
 

@@ -7,7 +7,7 @@ use Rattle.std.proofs.Math.Bool.{and-false}
 use Rattle.std.proofs.lemmas.Bool.{eqb-true}
 use Rattle.std.proofs.lemmas.Bool.Decides.{nat_tests}
 use Rattle.sql_text.specs.declared.symbol.Symbol.{Symbol}
-use Rattle.sql_text.specs.Standard.{begins_word, is_separator, is_quote, Form, separator, comment, word, delimited_name, string, unclosed, digits, mark, Spells}
+use Rattle.sql_text.specs.Standard.{begins_word, is_separator, is_quote, Form, separator, comment, word, delimited_name, string, unclosed, digits, mark, SpellsPiece}
 use Rattle.sql_text.specs.Symbols.{symbols, symbol_in}
 
 pub data Group : Type 0 where
@@ -72,7 +72,7 @@ of_mark b t s e =
 pub mark_short : (a b c : ℕ) (t : List ℕ) (s : Symbol) → symbol_in symbols (a ∷ b ∷ c ∷ t) ≡ Some s → ⊥
 mark_short a b c t s e = let none = simp and-false at e in cc
 
-pub some_byte : (form : Form) → Spells form [] → ⊥
+pub some_byte : (form : Form) → SpellsPiece form [] → ⊥
 some_byte separator h = let e = h.1 in cc
 some_byte comment h = let e = h.1 in cc
 some_byte word h = let e = h.2 in cc
@@ -82,7 +82,7 @@ some_byte unclosed h = let e = h.3 in cc
 some_byte digits h = h.0 refl
 some_byte (mark s) h = cc
 
-pub begins : (form : Form) (b : ℕ) (t : List ℕ) → Spells form (b ∷ t) → Begins form (group b)
+pub begins : (form : Form) (b : ℕ) (t : List ℕ) → SpellsPiece form (b ∷ t) → Begins form (group b)
 begins separator b t h = let e : b ≡ h.0 = (let f = h.1 in cc) in rw (of_separator b (rw e h.2)) tt
 begins comment b t h = let e : b ≡ 45 = (let f = h.1 in cc) in rw e tt
 begins word b t h = let e : b ≡ h.0 = (let f = h.2 in cc) in rw (of_word b (rw e h.3)) tt
@@ -106,13 +106,13 @@ begins (mark s) b t h = rw (of_mark b t s h) tt
 
 -- Where each piece of a form that may begin with the first byte has at most n bytes, so has each piece.
 pub longest_of : (n b : ℕ) (tail : List ℕ)
-    → ((form : Form) (t more : List ℕ) → Begins form (group b) → tail ≡ t ++ more → Spells form (b ∷ t) → length (b ∷ t) ≤ n)
-    → (form : Form) (text more : List ℕ) → b ∷ tail ≡ text ++ more → Spells form text → length text ≤ n
+    → ((form : Form) (t more : List ℕ) → Begins form (group b) → tail ≡ t ++ more → SpellsPiece form (b ∷ t) → length (b ∷ t) ≤ n)
+    → (form : Form) (text more : List ℕ) → b ∷ tail ≡ text ++ more → SpellsPiece form text → length text ≤ n
 longest_of n b tail bound form [] more e h = absurd (some_byte form h)
 longest_of n b tail bound form (x ∷ t) more e h =
     let same : x ≡ b = cc in
     let rest : tail ≡ t ++ more = cc in
-    let here : Spells form (b ∷ t) = subst (λ (y : ℕ). Spells form (y ∷ t)) same h in
+    let here : SpellsPiece form (b ∷ t) = subst (λ (y : ℕ). SpellsPiece form (y ∷ t)) same h in
     bound form t more (begins form b t here) rest here
 
 -- what passes at the front is no longer than the run

@@ -19,7 +19,7 @@ use Rattle.sql_text.specs.declared.token.TokenKind.TheVariants as kind
 use Rattle.sql_text.specs.Words.{is_name, meaning_in, meanings, word_kind}
 use Rattle.sql_text.specs.Values.{doubled, opened, quoted}
 use Rattle.sql_text.specs.Standard.{Form, separator, comment, word, delimited_name, string, unclosed, digits, mark}
-use Rattle.sql_text.specs.Standard.{Spells, Piece, StandsInFront, AreCut, is_sound, kind_of, sound, token_here}
+use Rattle.sql_text.specs.Standard.{SpellsPiece, Piece, StandsInFront, AreCut, is_sound, kind_of, sound, token_here}
 use Rattle.sql_text.specs.Standard.{tokens_of}
 use Rattle.sql_text.specs.Calls.{lexeme_of, KeepsPieces, SaysText, said}
 use Rattle.sql_text.proofs.Boundaries.{sound_cut}
@@ -124,7 +124,7 @@ says_word (kind.Symbol s) text d n = cc
 
 -- ---- tokens
 
-here : (form : Form) (text : List ℕ) (start : ℕ) → Spells form text → is_sound form text ≡ true → IsUtf8 text →
+here : (form : Form) (text : List ℕ) (start : ℕ) → SpellsPiece form text → is_sound form text ≡ true → IsUtf8 text →
     All SaysText (token_here (kind_of form text) start text)
 here separator text start h s utf8 = All-nil SaysText
 here comment text start h s utf8 = All-nil SaysText

@@ -6,7 +6,7 @@ use Rattle.std.proofs.lemmas.Bool.Decides.{nat_tests}
 use Rattle.std.proofs.lemmas.List.{length-drop}
 use Rattle.scan_base.specs.declared.fault.Fault.{Fault}
 use Rattle.scan_base.specs.declared.fault.Fault.TheVariants.{BadSql, LimitReached}
-use Rattle.scan_base.specs.Lists.{behind}
+use Rattle.scan_base.proofs.ReadingLaws.{behind}
 use Rattle.scan_base.specs.Reading.{◌>>=◌, RefusesFirst, demand}
 use Rattle.sql_text.specs.declared.front.Front.{Front}
 use Rattle.sql_text.specs.Standard.{Lexeme, token_here}

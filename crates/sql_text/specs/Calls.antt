@@ -31,8 +31,8 @@ said kind.String text = unquoted (byte "'") text
 said other text = text
 
 -- the same of a token
-abbrev pub value_of : Lexeme → List ℕ
-value_of token = said token.kind token.text
+abbrev pub lexeme_value : Lexeme → List ℕ
+lexeme_value token = said token.kind token.text
 
 -- the number that a token's text says; none, unless it is digits
 abbrev pub numeral : TokenKind → List ℕ → Option ℤ
@@ -56,4 +56,5 @@ IsAtPlace sql token = slice_range sql token.start (token.start + length token.te
 
 -- what a name says is a text of a byte or more
 abbrev pub SaysText : Lexeme → Type 0
-SaysText token = is_name token.kind ≡ true → (1 ≤ length (value_of token)) × IsUtf8 (value_of token)
+SaysText token = is_name token.kind ≡ true →
+    (1 ≤ length (lexeme_value token)) × IsUtf8 (lexeme_value token)

@@ -24,8 +24,8 @@ AtMostOneList =
     tokens ≡ others
 
 -- a text has at most one first fault
-abbrev pub AtMostOneFault : Type 0
-AtMostOneFault =
+abbrev pub AtMostOneLexicalFault : Type 0
+AtMostOneLexicalFault =
     (text : List ℕ) (position other : ℕ) → HasFaultAt text position → HasFaultAt text other →
     position ≡ other
 

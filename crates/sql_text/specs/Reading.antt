@@ -26,8 +26,8 @@ abbrev pub space : ℕ → Option Front
 space len = Some (record { kind = None; len = len })
 
 -- a token of so many bytes
-abbrev pub token : TokenKind → ℕ → Option Front
-token kind len = Some (record { kind = Some kind; len = len })
+abbrev pub front_token : TokenKind → ℕ → Option Front
+front_token kind len = Some (record { kind = Some kind; len = len })
 
 -- The number of bytes up to the quote that closes, with it, where a piece of a value of `at` bytes
 -- stands before these. A quote that another follows is one of the value.
@@ -41,24 +41,25 @@ closed_at quote at (b ∷ c ∷ bytes) =
 -- a string, after its opening quote
 abbrev pub string_front : List ℕ → Option Front
 string_front bytes =
-    option_and_then (λ (len : ℕ). token kind.String (1 + len)) (closed_at (byte "'") 0 bytes)
+    option_and_then (λ (len : ℕ). front_token kind.String (1 + len)) (closed_at (byte "'") 0 bytes)
 
 -- a delimited name, after its opening quote; it is not empty
 abbrev pub delimited_front : List ℕ → Option Front
 delimited_front bytes =
-    option_and_then (λ (len : ℕ). if len == 1 then None else token kind.DelimitedName (1 + len))
+    option_and_then (λ (len : ℕ). if len == 1 then None
+    else front_token kind.DelimitedName (1 + len))
     (closed_at (byte "\"") 0 bytes)
 
 -- a word, the longest that stands there
 abbrev pub word_front : List ℕ → Option Front
 word_front bytes =
-    let len = prefix_len continues_word bytes in token (word_kind (take len bytes)) len
+    let len = prefix_len continues_word bytes in front_token (word_kind (take len bytes)) len
 
 -- digits, the longest that stand there, where their value is small
 abbrev pub digits_front : List ℕ → Option Front
 digits_front bytes =
     let len = prefix_len is_ascii_digit bytes in
-    if is_small (take len bytes) then token kind.Digits len else None
+    if is_small (take len bytes) then front_token kind.Digits len else None
 
 -- a comment, after the two signs
 abbrev pub comment_front : List ℕ → Option Front
@@ -74,11 +75,12 @@ single first = symbol_in symbols (first ∷ [])
 
 -- a symbol of one byte
 abbrev pub one_mark : ℕ → Option Front
-one_mark first = option_and_then (λ (mark : Symbol). token (kind.Symbol mark) 1) (single first)
+one_mark first =
+    option_and_then (λ (mark : Symbol). front_token (kind.Symbol mark) 1) (single first)
 
 -- a symbol of two bytes, or else of the first
 abbrev pub two_marks : ℕ → Option Symbol → Option Front
-two_marks first (Some mark) = token (kind.Symbol mark) 2
+two_marks first (Some mark) = front_token (kind.Symbol mark) 2
 two_marks first None = one_mark first
 
 -- a comment, or the longest symbol

@@ -49,19 +49,19 @@ pub data Form : Type 0 where
   mark : Symbol → Form
 
 -- the bytes, all of them, are such a piece
-abbrev pub Spells : Form → List ℕ → Type 0
-Spells separator bytes = (b : ℕ) × (bytes ≡ b ∷ []) × IsTrue (is_separator b)
-Spells comment bytes =
+abbrev pub SpellsPiece : Form → List ℕ → Type 0
+SpellsPiece separator bytes = (b : ℕ) × (bytes ≡ b ∷ []) × IsTrue (is_separator b)
+SpellsPiece comment bytes =
     (rest : List ℕ) × (bytes ≡ codes "--" ++ rest) × IsTrue (list_all continues_comment rest)
-Spells word bytes =
+SpellsPiece word bytes =
     (first : ℕ) × (rest : List ℕ) × (bytes ≡ first ∷ rest) × IsTrue (begins_word first)
     × IsTrue (list_all continues_word rest)
-Spells delimited_name bytes = (value : List ℕ) × (bytes ≡ quoted (byte "\"") value)
-Spells string bytes = (value : List ℕ) × (bytes ≡ quoted (byte "'") value)
-Spells unclosed bytes =
+SpellsPiece delimited_name bytes = (value : List ℕ) × (bytes ≡ quoted (byte "\"") value)
+SpellsPiece string bytes = (value : List ℕ) × (bytes ≡ quoted (byte "'") value)
+SpellsPiece unclosed bytes =
     (quote : ℕ) × (value : List ℕ) × IsTrue (is_quote quote) × (bytes ≡ opened quote value)
-Spells digits bytes = (bytes ≢ []) × IsTrue (list_all is_ascii_digit bytes)
-Spells (mark s) bytes = symbol_in symbols bytes ≡ Some s
+SpellsPiece digits bytes = (bytes ≢ []) × IsTrue (list_all is_ascii_digit bytes)
+SpellsPiece (mark s) bytes = symbol_in symbols bytes ≡ Some s
 
 -- a piece of a text: its form, and its bytes
 pub record Piece : Type 0 where
@@ -71,9 +71,9 @@ pub record Piece : Type 0 where
 -- the piece stands in front of the bytes, and no longer piece of any form does
 pub record StandsInFront (piece : Piece) (bytes rest : List ℕ) : Type 0 where
   pub whole : bytes ≡ piece.text ++ rest
-  pub spells : Spells piece.form piece.text
+  pub spells : SpellsPiece piece.form piece.text
   pub longest :
-      (form : Form) (text more : List ℕ) → bytes ≡ text ++ more → Spells form text →
+      (form : Form) (text more : List ℕ) → bytes ≡ text ++ more → SpellsPiece form text →
       length text ≤ length piece.text
 
 -- the pieces stand in front of the bytes, one after the other, and then the rest

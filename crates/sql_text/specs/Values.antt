@@ -24,13 +24,13 @@ abbrev pub is_small : List ℕ → Bool
 is_small digits = nat_lt (digits_value 10 digits) (10 ^ 38)
 
 -- bytes that are digits alone
-abbrev pub is_digits : List ℕ → Bool
-is_digits bytes = list_all is_ascii_digit bytes && not (length bytes == 0)
+abbrev pub are_digits : List ℕ → Bool
+are_digits bytes = list_all is_ascii_digit bytes && not (length bytes == 0)
 
 -- the value that bytes say as a literal of digits
 unfoldable pub number_of : List ℕ → Option ℤ
 number_of bytes =
-    if is_digits bytes && is_small bytes then Some (pos (digits_value 10 bytes)) else None
+    if are_digits bytes && is_small bytes then Some (pos (digits_value 10 bytes)) else None
 
 -- what stands between two quotes, where a text has them at its ends, and else the text
 abbrev pub inside : ℕ → List ℕ → List ℕ

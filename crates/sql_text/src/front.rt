@@ -7,7 +7,7 @@ ghost use Rattle.std.specs.List.{prefix_len};
 ghost use Rattle.sql_text.specs.Standard.{begins_word, continues_word, is_separator};
 ghost use Rattle.sql_text.specs.Standard.{continues_comment};
 ghost use Rattle.sql_text.specs.Reading.{closed_at, string_front, delimited_front, word_front};
-ghost use Rattle.sql_text.specs.Reading.{digits_front, mark_front, front_at, space, token};
+ghost use Rattle.sql_text.specs.Reading.{digits_front, mark_front, front_at, space, front_token};
 
 use crate::number::number;
 use crate::symbol::Symbol;
@@ -88,7 +88,7 @@ impl Front {
     }
 
     fn token(kind: TokenKind, len: usize) -> Option<Front>
-        ensures { result ≡ token kind len }
+        ensures { result ≡ front_token kind len }
     {
         let kind = Some(kind);
         Some(Front { kind, len })

@@ -2,7 +2,7 @@
 //! the laws.
 
 ghost use Rattle.sql_text.specs.Laws.{ReadingKeepsPieces, RefusalIsFirstFault, AtMostOneList};
-ghost use Rattle.sql_text.specs.Laws.{AtMostOneFault, TokensOrFault, QuotedReadsBack};
+ghost use Rattle.sql_text.specs.Laws.{AtMostOneLexicalFault, TokensOrFault, QuotedReadsBack};
 
 /// A text reads as a list of tokens exactly where its pieces, each the longest at its place, are
 /// that list.
@@ -22,7 +22,7 @@ pub fn at_most_one_list()
 
 /// A text has at most one first fault.
 pub fn at_most_one_fault()
-    ensures { AtMostOneFault }
+    ensures { AtMostOneLexicalFault }
 {}
 
 /// A text is a list of tokens, or has a fault.

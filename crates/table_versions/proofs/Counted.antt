@@ -9,7 +9,7 @@ use Rattle.scan_base.specs.Limits.{most_name_bytes, most_tables}
 use Rattle.table_versions.specs.Table.{Name}
 use Rattle.table_versions.specs.Database.{table_at, with_table, faults_at}
 use Rattle.table_versions.specs.Order.{IsInOrder}
-use Rattle.table_versions.specs.Stored.{TableAt, CatalogAt, PutAt, plain, put_of}
+use Rattle.table_versions.specs.StoredTables.{TableAt, CatalogAt, PutAt, plain, put_of}
 use Rattle.table_versions.specs.Valid.{IsName}
 use Rattle.table_versions.proofs.Accepted.{among}
 use Rattle.table_versions.proofs.Search.{absent}

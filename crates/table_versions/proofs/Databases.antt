@@ -9,7 +9,7 @@ use Rattle.std.proofs.lemmas.Grind.{common_steps}
 use Rattle.std.proofs.lemmas.Option.{slice_get_within}
 use Rattle.scan_base.specs.declared.fault.Fault.{Fault}
 use Rattle.table_versions.specs.Table.{Name}
-use Rattle.table_versions.specs.Database.{Database, Put, table_at, with_table, after, accepted, after_all, database_of, version, AreAccepted, logged}
+use Rattle.table_versions.specs.Database.{Database, Put, table_at, with_table, after, accepted, after_all, database_after, version_after, AreAccepted, logged}
 use Rattle.table_versions.specs.Laws.{TablesAreFound, LogsGrow, LogsStay, LogsHoldAcceptedPuts}
 
 -- two tests that do not both hold go in either order
@@ -49,17 +49,17 @@ after_all-push old n (first ∷ log) put =
     let e : n + 1 + length log ≡ n + suc (length log) = omega arith in
     rw (← e) (after_all-push (accepted old (after old n first)) (n + 1) log put)
 
-database_of-push : (log : List Put) (put : Put) → database_of (log ++ put ∷ []) ≡ accepted (database_of log) (after (database_of log) (length log) put)
+database_of-push : (log : List Put) (put : Put) → database_after (log ++ put ∷ []) ≡ accepted (database_after log) (after (database_after log) (length log) put)
 database_of-push log put = let e : 0 + length log ≡ length log = omega arith in rw (← e) (after_all-push [] 0 log put)
 
 pub logs_grow : LogsGrow
-logs_grow log put database h = (longer, ap database_of longer ∙ database_of-push log put ∙ rw h refl, earlier)
+logs_grow log put database h = (longer, ap database_after longer ∙ database_of-push log put ∙ rw h refl, earlier)
   where
     longer : logged log put ≡ log ++ put ∷ []
     longer = rw h refl
 
-    earlier : (n : ℕ) → n ≤ length log → version (logged log put) n ≡ version log n
-    earlier n small = ap (λ puts. database_of (take n puts)) longer ∙ ap database_of (take-append-le n log (put ∷ []) small)
+    earlier : (n : ℕ) → n ≤ length log → version_after (logged log put) n ≡ version_after log n
+    earlier n small = ap (λ puts. database_after (take n puts)) longer ∙ ap database_after (take-append-le n log (put ∷ []) small)
 
 pub logs_stay : LogsStay
 logs_stay log put fault h = rw h refl
@@ -73,14 +73,14 @@ pushed_at (x ∷ xs) y z zero h old new = old h
 pushed_at (x ∷ xs) y z (suc n) h old new = pushed_at xs y z n h old (λ e. new (ap suc e))
 
 -- a log with an accepted put after it
-pub longer_log : (log : List Put) (put : Put) (database : Database) → AreAccepted log → after (database_of log) (length log) put ≡ Ok database →
+pub longer_log : (log : List Put) (put : Put) (database : Database) → AreAccepted log → after (database_after log) (length log) put ≡ Ok database →
     AreAccepted (log ++ put ∷ [])
 longer_log log put database is h n other at = pushed_at log put other n at old new
   where
-    earlier : (i : ℕ) → i ≤ length log → version (log ++ put ∷ []) i ≡ version log i
-    earlier i small = ap database_of (take-append-le i log (put ∷ []) small)
+    earlier : (i : ℕ) → i ≤ length log → version_after (log ++ put ∷ []) i ≡ version_after log i
+    earlier i small = ap database_after (take-append-le i log (put ∷ []) small)
 
-    old : slice_get log n ≡ Some other → after (version (log ++ put ∷ []) n) n other ≡ Ok (version (log ++ put ∷ []) (n + 1))
+    old : slice_get log n ≡ Some other → after (version_after (log ++ put ∷ []) n) n other ≡ Ok (version_after (log ++ put ∷ []) (n + 1))
     old here =
         let within = slice_get_within log n other here in
         ap (λ d. after d n other) (earlier n (omega (arith, within))) ∙ is n other here
@@ -92,16 +92,16 @@ longer_log log put database is h n other at = pushed_at log put other n at old n
     all : take (length log + 1) (log ++ put ∷ []) ≡ log ++ put ∷ []
     all = grind (arith, common_steps)
 
-    new : n ≡ length log → put ≡ other → after (version (log ++ put ∷ []) n) n other ≡ Ok (version (log ++ put ∷ []) (n + 1))
+    new : n ≡ length log → put ≡ other → after (version_after (log ++ put ∷ []) n) n other ≡ Ok (version_after (log ++ put ∷ []) (n + 1))
     new e same =
         rw (e, sym same)
-        (ap (λ d. after d (length log) put) (earlier (length log) (omega arith) ∙ ap database_of whole) ∙ h
-        ∙ ap (λ d. Ok d) (sym (ap database_of all ∙ database_of-push log put ∙ rw h refl)))
+        (ap (λ d. after d (length log) put) (earlier (length log) (omega arith) ∙ ap database_after whole) ∙ h
+        ∙ ap (λ d. Ok d) (sym (ap database_after all ∙ database_of-push log put ∙ rw h refl)))
 
 pub logs_hold_accepted_puts : LogsHoldAcceptedPuts
-logs_hold_accepted_puts = (λ n put at. cc, λ log put is. kept log put is (after (database_of log) (length log) put) refl)
+logs_hold_accepted_puts = (λ n put at. cc, λ log put is. kept log put is (after (database_after log) (length log) put) refl)
   where
-    kept : (log : List Put) (put : Put) → AreAccepted log → (result : Result Database Fault) → after (database_of log) (length log) put ≡ result →
+    kept : (log : List Put) (put : Put) → AreAccepted log → (result : Result Database Fault) → after (database_after log) (length log) put ≡ result →
         AreAccepted (logged log put)
     kept log put is (Ok database) h = subst (λ (l : List Put). AreAccepted l) (sym (logs_grow log put database h).0) (longer_log log put database is h)
     kept log put is (Err fault) h = subst (λ (l : List Put). AreAccepted l) (sym (logs_stay log put fault h)) is

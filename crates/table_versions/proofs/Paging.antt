@@ -4,23 +4,23 @@ use Rattle.std.proofs.Common.{◌≡◌, ◌<◌, ◌≤◌, ℕ, zero, suc, ◌
 use Rattle.std.specs.List.{flat_map}
 use Rattle.std.specs.Slice.{IsItemAt}
 use Rattle.std.proofs.lemmas.Option.{slice_get_read}
-use Rattle.arrow_schema.specs.declared.schema.Schema.{Schema}
+use Rattle.arrow_types.specs.declared.schema.Schema.{Schema}
 use Rattle.arrays.specs.Batch.{BatchAt, rows_of}
-use Rattle.arrays.specs.Typed.{AreOfTypes}
+use Rattle.arrays.specs.TypedLayouts.{AreOfTypes}
 use Rattle.batch_stats.specs.declared.beginnings.Beginnings.{Beginnings}
-use Rattle.batch_stats.specs.declared.owned.OwnedStats.{OwnedStats}
+use Rattle.batch_stats.specs.declared.owned_stats.OwnedStats.{OwnedStats}
 use Rattle.batch_stats.specs.declared.side.Side.{Side}
 use Rattle.batch_stats.specs.Columns.{stats_in}
 use Rattle.batch_stats.specs.Beginnings.{AreBeginnings}
-use Rattle.batch_stats.specs.Owned.{AreKept}
+use Rattle.batch_stats.specs.OwnedStats.{AreKept}
 use Rattle.batch_stats.specs.Sides.{side_at}
 use Rattle.batch_stats.specs.Stats.{StatsAt}
 use Rattle.scan_base.specs.Limits.{most_rows}
 use Rattle.table_versions.specs.declared.placed_batch.PlacedBatch.{PlacedBatch}
 use Rattle.table_versions.specs.declared.stats_page.StatsPage.{StatsPage}
-use Rattle.table_versions.specs.Kept.{AreSound, IsKept, Stands}
+use Rattle.table_versions.specs.KeptTables.{AreSound, IsKept, Stands}
 use Rattle.table_versions.specs.StatsPages.{AreOfBatch, AreRowsFrom, AreStatsFrom, IsPageFrom, ArePages, AreStored}
-use Rattle.table_versions.specs.Stored.{TableAt, has_rows}
+use Rattle.table_versions.specs.StoredTables.{TableAt, has_rows}
 use Rattle.table_versions.specs.Batches.{ArePlaced, placed_table}
 use Rattle.table_versions.proofs.Placing.{batches, batches_push, batch_there, placed_push}
 use Rattle.table_versions.proofs.Storable.{IsBatch, batch_at}
@@ -65,10 +65,6 @@ pages_push batches pages page are more is = record {
   few = omega (arith, more, length-append pages (page ∷ []));
   each = each_push (λ p one. IsPageFrom batches (p * 256) one) pages page are.each is;
 }
-
--- no pages
-pub no_pages : (batches : List BatchAt) → ArePages batches []
-no_pages batches = record { few = omega arith; each = λ p page at. cc }
 
 -- one batch more
 pub stored_push : (schema : Schema) (placed : List PlacedBatch) (pages : List StatsPage) (rows : ℕ) → AreStored schema placed pages rows →

@@ -6,15 +6,15 @@ use Rattle.std.proofs.lemmas.List.{length-map, map-append, take_all, take-append
 use Rattle.std.proofs.lemmas.List.Elements.{All-push}
 use Rattle.std.proofs.lemmas.List.Folds.{list_all-append}
 use Rattle.std.proofs.lemmas.Option.{slice_get-map, slice_get_within}
-use Rattle.arrow_schema.specs.declared.schema.Schema.{Schema}
+use Rattle.arrow_types.specs.declared.schema.Schema.{Schema}
 use Rattle.arrays.specs.Batch.{BatchAt, rows_of}
-use Rattle.arrays.specs.Typed.{AreOfTypes}
+use Rattle.arrays.specs.TypedLayouts.{AreOfTypes}
 use Rattle.scan_base.specs.Limits.{most_rows}
 use Rattle.table_versions.specs.declared.placed_batch.PlacedBatch.{PlacedBatch}
 use Rattle.table_versions.specs.Batches.{placed_table, AreStarts, ArePlaced}
-use Rattle.table_versions.specs.Kept.{AreSound, IsKept, Stands}
+use Rattle.table_versions.specs.KeptTables.{AreSound, IsKept, Stands}
 use Rattle.table_versions.specs.Standing.{rows_before, StandsIn}
-use Rattle.table_versions.specs.Stored.{has_rows}
+use Rattle.table_versions.specs.StoredTables.{has_rows}
 use Rattle.table_versions.proofs.ListTests.{all_push}
 use Rattle.shared_pages.proofs.Lists.{slice_get-append_left, slice_get-append_right}
 use Rattle.table_versions.proofs.Rowing.{rows-push, length-filled-le}
@@ -81,19 +81,6 @@ module _ (schema : Schema) (placed : List PlacedBatch) (rows : ℕ) (are : ArePl
   -- there are no more batches than a table may have rows
   pub few_batches : length placed ≤ most_rows
   few_batches = omega (arith, length-filled-le (batches placed) are.kept.filled, are.kept.counted, are.kept.few, length-map placed (λ (each : PlacedBatch). each.batch))
-
-  -- a table with a row has a batch
-  pub some_batch : (row : ℕ) → row < rows → 0 < length placed
-  some_batch row h = by placed are.kept.counted
-    where
-      by : (some : List PlacedBatch) → rows ≡ length (flat_map rows_of (batches some)) → 0 < length some
-      by [] none = absurd (omega (arith, none, h))
-      by (one ∷ some) _ = omega arith
-
-  -- all rows stand before the end of the batches
-  pub rows_in_all : rows_before (batches placed) (length placed) ≡ rows
-  rows_in_all = ap (λ (some : List BatchAt). length (flat_map rows_of some))
-      (take_all (length placed) (batches placed) (omega (arith, length-map placed (λ (each : PlacedBatch). each.batch)))) ∙ sym are.kept.counted
 
   -- each batch before another has rows
   pub filled_before : (i : ℕ) → i ≤ length placed → i ≤ rows_before (batches placed) i

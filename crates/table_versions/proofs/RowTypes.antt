@@ -4,14 +4,14 @@ use Rattle.std.specs.List.{flat_map, AllByRecursion}
 use Rattle.std.proofs.lemmas.List.Elements.{All-nil, All-head, All-tail, All-append, All-get_or, recursion_from_All}
 use Rattle.std.proofs.lemmas.List.FromFn.{length-map-range_with_len, get_or-map-range_with_len}
 use Rattle.scan_base.specs.declared.value.Value.TheVariants.{Null}
-use Rattle.arrow_schema.specs.declared.data_type.DataType.{DataType}
-use Rattle.arrow_schema.specs.declared.schema.Field.{Field}
+use Rattle.arrow_types.specs.declared.data_type.DataType.{DataType}
+use Rattle.arrow_types.specs.declared.schema.Field.{Field}
 use Rattle.arrays.specs.Batch.{BatchAt, row_of, rows_of}
 use Rattle.arrays.specs.Column.{ColumnAt, IsColumn, slot_of, values_of}
-use Rattle.arrays.specs.Typed.{IsOfType, AreOfTypes, IsValueOf, ValuesAreOfTheirType}
-use Rattle.table_versions.specs.Stored.{PutAt, put_of}
-use Rattle.table_versions.specs.Kept.{Stands}
-use Rattle.table_versions.specs.Kept.{IsStorable}
+use Rattle.arrays.specs.TypedLayouts.{IsOfType, AreOfTypes, IsValueOf, ValuesAreOfTheirType}
+use Rattle.table_versions.specs.StoredTables.{PutAt, put_of}
+use Rattle.table_versions.specs.KeptTables.{Stands}
+use Rattle.table_versions.specs.KeptTables.{IsStorable}
 use Rattle.table_versions.specs.Valid.{HasTypes, IsPut}
 use Rattle.table_versions.proofs.Storable.{AreTyped}
 

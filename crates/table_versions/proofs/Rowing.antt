@@ -4,7 +4,7 @@ use Rattle.std.specs.List.{flat_map, list_all}
 use Rattle.std.proofs.lemmas.Grind.{flat_map-append}
 use Rattle.std.proofs.lemmas.List.FromFn.{length-map-range_with_len}
 use Rattle.arrays.specs.Batch.{BatchAt, rows_of, row_of}
-use Rattle.table_versions.specs.Stored.{has_rows}
+use Rattle.table_versions.specs.StoredTables.{has_rows}
 use Rattle.table_versions.specs.Standing.{rows_before}
 use Rattle.std.proofs.lemmas.Option.{slice_get_read}
 use Rattle.std.proofs.lemmas.Bool.{and_parts}

@@ -3,18 +3,18 @@ use Rattle.std.proofs.Common.{ℕ, zero, suc, ◌≡◌, refl, pos, true, false,
 use Rattle.std.specs.List.{range_with_len}
 use Rattle.scan_base.specs.declared.value.Value.TheVariants.{Int, Null, Text}
 use Rattle.scan_base.specs.declared.fault.Fault.TheVariants.{TableMissing, TableExists, LimitReached, BadBatch, SchemaMismatch}
-use Rattle.arrow_schema.specs.declared.data_type.DataType.{DataType}
-use Rattle.arrow_schema.specs.declared.data_type.DataType.TheVariants.{Integer, Utf8, Dictionary}
-use Rattle.arrow_schema.specs.declared.data_type.IntegerType.TheVariants.{Int8, Int64, UInt8}
-use Rattle.arrow_schema.specs.declared.schema.Field.{Field}
+use Rattle.arrow_types.specs.declared.data_type.DataType.{DataType}
+use Rattle.arrow_types.specs.declared.data_type.DataType.TheVariants.{Integer, Utf8, Dictionary}
+use Rattle.arrow_types.specs.declared.data_type.IntegerType.TheVariants.{Int8, Int64, UInt8}
+use Rattle.arrow_types.specs.declared.schema.Field.{Field}
 use Rattle.arrays.specs.Batch.{BatchAt}
 use Rattle.scan_base.specs.declared.put_options.IfExists.{IfExists}
 use Rattle.scan_base.specs.declared.put_options.IfExists.TheVariants.{Unspecified, Fail, Append, Replace}
 use Rattle.scan_base.specs.declared.put_options.IfNotExist.{IfNotExist}
 use Rattle.scan_base.specs.declared.put_options.IfNotExist.TheVariants as absent
 use Rattle.table_versions.specs.Table.{Name, Row, Table}
-use Rattle.table_versions.specs.Database.{Database, Put, after, database_of, version, AreAccepted, logged}
-use Rattle.table_versions.specs.Stored.{stored_after}
+use Rattle.table_versions.specs.Database.{Database, Put, after, database_after, version_after, AreAccepted, logged}
+use Rattle.table_versions.specs.StoredTables.{stored_after}
 use Rattle.table_versions.specs.StatsPages.{AreRowsFrom}
 
 abbrev field : Name → DataType → Field
@@ -53,23 +53,23 @@ table data_type rows = record { schema = record { fields = field (codes "a") dat
 abbrev log : List Put
 log = created ∷ appended int64 (int 3 ∷ []) ∷ replaced ∷ []
 
-version-0 : version log 0 ≡ []
+version-0 : version_after log 0 ≡ []
 version-0 = refl
 
-version-1 : version log 1 ≡ (codes "t", table int64 (int 1 ∷ int 2 ∷ [])) ∷ []
+version-1 : version_after log 1 ≡ (codes "t", table int64 (int 1 ∷ int 2 ∷ [])) ∷ []
 version-1 = refl
 
-version-2 : version log 2 ≡ (codes "t", table int64 (int 1 ∷ int 2 ∷ int 3 ∷ [])) ∷ []
+version-2 : version_after log 2 ≡ (codes "t", table int64 (int 1 ∷ int 2 ∷ int 3 ∷ [])) ∷ []
 version-2 = refl
 
-version-3 : version log 3 ≡ (codes "t", table Utf8 []) ∷ []
+version-3 : version_after log 3 ≡ (codes "t", table Utf8 []) ∷ []
 version-3 = refl
 
 -- tables stand in byte order of their names, and each keeps its own rows
 abbrev named : Name → List Row → Put
 named name rows = record (put absent.Create Fail int64 rows) { table = name }
 
-in_order : database_of (named (codes "b") [] ∷ named (codes "ab") (int 1 ∷ []) ∷ named (codes "a") [] ∷ [])
+in_order : database_after (named (codes "b") [] ∷ named (codes "ab") (int 1 ∷ []) ∷ named (codes "a") [] ∷ [])
     ≡ (codes "a", table int64 []) ∷ (codes "ab", table int64 (int 1 ∷ [])) ∷ (codes "b", table int64 []) ∷ []
 in_order = refl
 
@@ -78,7 +78,7 @@ append_absent : after [] 0 (put absent.Unspecified Append int64 []) ≡ Err Tabl
 append_absent = refl
 
 -- a create where the table is there, and unspecified is no APPEND
-create_present : after (database_of (created ∷ [])) 1 (put absent.Create Unspecified int64 []) ≡ Err TableExists
+create_present : after (database_after (created ∷ [])) 1 (put absent.Create Unspecified int64 []) ≡ Err TableExists
 create_present = refl
 
 -- an append that may create makes an absent table
@@ -92,7 +92,7 @@ name-65 = refl
 name-0 : after [] 0 (record created { table = [] }) ≡ Err LimitReached
 name-0 = refl
 
-name-64 : database_of (named (replicate 64 97) [] ∷ []) ≡ (replicate 64 97, table int64 []) ∷ []
+name-64 : database_after (named (replicate 64 97) [] ∷ []) ≡ (replicate 64 97, table int64 []) ∷ []
 name-64 = refl
 
 two_alike : after [] 0 (record created {
@@ -101,25 +101,25 @@ two_alike : after [] 0 (record created {
 }) ≡ Err SchemaMismatch
 two_alike = refl
 
-other_type : after (database_of (created ∷ [])) 1 (appended (Integer UInt8) []) ≡ Err SchemaMismatch
+other_type : after (database_after (created ∷ [])) 1 (appended (Integer UInt8) []) ≡ Err SchemaMismatch
 other_type = refl
 
-other_name : after (database_of (created ∷ [])) 1 (record (appended int64 []) { schema = record { fields = field (codes "b") int64 ∷ [] } })
+other_name : after (database_after (created ∷ [])) 1 (record (appended int64 []) { schema = record { fields = field (codes "b") int64 ∷ [] } })
     ≡ Err SchemaMismatch
 other_name = refl
 
-fewer_columns : after (database_of (created ∷ [])) 1 (record (appended int64 []) { schema = record { fields = [] } }) ≡ Err SchemaMismatch
+fewer_columns : after (database_after (created ∷ [])) 1 (record (appended int64 []) { schema = record { fields = [] } }) ≡ Err SchemaMismatch
 fewer_columns = refl
 
 -- a dictionary's id and index type are not compared, and the table keeps its own
 abbrev dictionary : ℕ → DataType
 dictionary id = Dictionary (record { id = id; index = Int8 })
 
-dictionaries : after (database_of (put absent.Create Fail (dictionary 1) [] ∷ [])) 1
+dictionaries : after (database_after (put absent.Create Fail (dictionary 1) [] ∷ [])) 1
     (appended (Dictionary (record { id = 2; index = UInt8 })) []) ≡ Ok ((codes "t", table (dictionary 1) []) ∷ [])
 dictionaries = refl
 
-dictionary_not_text : after (database_of (put absent.Create Fail (dictionary 1) [] ∷ [])) 1 (appended Utf8 []) ≡ Err SchemaMismatch
+dictionary_not_text : after (database_after (put absent.Create Fail (dictionary 1) [] ∷ [])) 1 (appended Utf8 []) ≡ Err SchemaMismatch
 dictionary_not_text = refl
 
 -- a null in a column that takes none
@@ -175,7 +175,7 @@ is_logged : logged (created ∷ []) replaced ≡ created ∷ replaced ∷ []
 is_logged = refl
 
 refused_in_log : AreAccepted (created ∷ created ∷ []) → ⊥
-refused_in_log is = let no : Err TableExists ≡ Ok (version (created ∷ created ∷ []) 2) = is 1 created refl in cc
+refused_in_log is = let no : Err TableExists ≡ Ok (version_after (created ∷ created ∷ []) 2) = is 1 created refl in cc
 
 -- batches without rows are not stored, and an append's stand after the old ones
 abbrev batch : ℕ → BatchAt

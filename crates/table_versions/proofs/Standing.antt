@@ -4,7 +4,7 @@ use Rattle.std.specs.List.{flat_map}
 use Rattle.std.proofs.lemmas.Grind.{common_steps, flat_map-append}
 use Rattle.std.proofs.lemmas.List.{take-append-le, drop-append-le}
 use Rattle.arrays.specs.Batch.{BatchAt, rows_of, BatchSlicesKeepRows}
-use Rattle.table_versions.specs.Stored.{TableAt}
+use Rattle.table_versions.specs.StoredTables.{TableAt}
 use Rattle.table_versions.specs.Standing.{rows_before, StandsAt, BatchesAreRows}
 use Rattle.table_versions.proofs.Places.{split_at}
 use Rattle.table_versions.proofs.Rowing.{length-rows_of, rows-push}

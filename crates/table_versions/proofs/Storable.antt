@@ -5,14 +5,14 @@ use Rattle.std.proofs.lemmas.List.Elements.{All-push, All-get_or}
 use Rattle.std.proofs.lemmas.List.Folds.{list_any-append}
 use Rattle.std.proofs.lemmas.Option.{slice_get_within, get_or_from_slice_get}
 use Rattle.std.proofs.lemmas.Bool.{or_from}
-use Rattle.arrow_schema.specs.declared.schema.Field.{Field}
-use Rattle.arrow_schema.specs.declared.schema.Schema.{Schema}
+use Rattle.arrow_types.specs.declared.schema.Field.{Field}
+use Rattle.arrow_types.specs.declared.schema.Schema.{Schema}
 use Rattle.arrays.specs.Column.{ColumnAt}
 use Rattle.arrays.specs.Batch.{BatchAt, rows_of}
-use Rattle.arrays.specs.Typed.{AreOfTypes}
+use Rattle.arrays.specs.TypedLayouts.{AreOfTypes}
 use Rattle.table_versions.specs.Table.{Row, has_bad_null, is_long_text}
-use Rattle.table_versions.specs.Stored.{TableAt, has_rows}
-use Rattle.table_versions.specs.Kept.{IsStorable, AreSound, IsKept}
+use Rattle.table_versions.specs.StoredTables.{TableAt, has_rows}
+use Rattle.table_versions.specs.KeptTables.{IsStorable, AreSound, IsKept}
 use Rattle.shared_pages.proofs.Lists.{all_at}
 
 abbrev pub AreTyped : List Field → BatchAt → Type 0

@@ -14,7 +14,7 @@ use Rattle.scan_base.specs.declared.put_options.IfExists.{IfExists}
 use Rattle.scan_base.specs.declared.put_options.IfExists.TheVariants.{Unspecified, Fail, Append, Replace}
 use Rattle.table_versions.specs.Table.{Name}
 use Rattle.table_versions.specs.Database.{Database, table_at, with_table, table_after, faults_at, put_faults, after}
-use Rattle.table_versions.specs.Stored.{TableAt, CatalogAt, PutAt, table_of, plain, tables_of, put_of, kept, stored_after, catalog_after}
+use Rattle.table_versions.specs.StoredTables.{TableAt, CatalogAt, PutAt, table_of, plain, tables_of, put_of, kept, stored_after, catalog_after}
 
 -- a batch without rows adds none
 rows-kept : (batches : List BatchAt) → flat_map rows_of (kept batches) ≡ flat_map rows_of batches

@@ -1,10 +1,10 @@
 -- Inside: the batches of a table, each with its place.
 use Rattle.std.specs.Prelude.{◌≡◌, ℕ, List, map, Some, slice_get}
-use Rattle.arrow_schema.specs.declared.schema.Schema.{Schema}
+use Rattle.arrow_types.specs.declared.schema.Schema.{Schema}
 use Rattle.table_versions.specs.declared.placed_batch.PlacedBatch.{PlacedBatch}
-use Rattle.table_versions.specs.Kept.{IsKept}
+use Rattle.table_versions.specs.KeptTables.{IsKept}
 use Rattle.table_versions.specs.Standing.{rows_before}
-use Rattle.table_versions.specs.Stored.{TableAt}
+use Rattle.table_versions.specs.StoredTables.{TableAt}
 
 -- a table of these columns and placed batches
 abbrev pub placed_table : Schema → List PlacedBatch → TableAt

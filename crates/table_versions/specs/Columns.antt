@@ -1,7 +1,7 @@
 -- Inside: the tests of rows, column by column.
 use Rattle.std.specs.Prelude.{Bool, not, ◌&&◌, List}
 use Rattle.std.specs.List.{list_any, zip}
-use Rattle.arrow_schema.specs.declared.schema.Field.{Field}
+use Rattle.arrow_types.specs.declared.schema.Field.{Field}
 use Rattle.arrays.specs.Column.{ColumnAt, values_of}
 use Rattle.scan_base.specs.Value.{is_null}
 use Rattle.table_versions.specs.Table.{is_long_text}

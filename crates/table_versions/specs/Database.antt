@@ -6,7 +6,7 @@ use Rattle.std.specs.List.{list_any}
 use Rattle.std.specs.Str.{bytes_eq}
 use Rattle.std.specs.Cmp.Lexicographic.{slice_cmp}
 use Rattle.std.specs.Ordering.{nat_cmp, is_lt}
-use Rattle.arrow_schema.specs.declared.schema.Schema.{Schema}
+use Rattle.arrow_types.specs.declared.schema.Schema.{Schema}
 use Rattle.scan_base.specs.declared.fault.Fault.{Fault}
 use Rattle.scan_base.specs.declared.fault.Fault.TheVariants.{BadBatch, TableMissing, TableExists}
 use Rattle.scan_base.specs.declared.fault.Fault.TheVariants.{SchemaMismatch, LimitReached}
@@ -99,21 +99,21 @@ after_all database n (put ∷ puts) =
     after_all (accepted database (after database n put)) (n + 1) puts
 
 -- the database after puts, of which those that are refused are passed over
-abbrev pub database_of : List Put → Database
-database_of puts = after_all [] 0 puts
+abbrev pub database_after : List Put → Database
+database_after puts = after_all [] 0 puts
 
 -- version n is the database after the first n puts
-abbrev pub version : List Put → ℕ → Database
-version puts n = database_of (take n puts)
+abbrev pub version_after : List Put → ℕ → Database
+version_after puts n = database_after (take n puts)
 
 -- all of these puts are accepted: put n by version n, and it gives version n + 1
 abbrev pub AreAccepted : List Put → Type 0
 AreAccepted puts = (n : ℕ) (put : Put) → slice_get puts n ≡ Some put →
-    after (version puts n) n put ≡ Ok (version puts (n + 1))
+    after (version_after puts n) n put ≡ Ok (version_after puts (n + 1))
 
 -- the puts after one more: an accepted one stands at their end, and a refused one changes nothing
 abbrev pub logged : List Put → Put → List Put
-logged puts put = going (after (database_of puts) (length puts) put)
+logged puts put = going (after (database_after puts) (length puts) put)
   where
     going : Result Database Fault → List Put
     going (Ok database) = puts ++ put ∷ []

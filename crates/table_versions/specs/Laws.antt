@@ -6,8 +6,9 @@ use Rattle.scan_base.specs.declared.fault.Fault.{Fault}
 use Rattle.scan_base.specs.Limits.{most_rows}
 use Rattle.table_versions.specs.Table.{Name, Table}
 use Rattle.table_versions.specs.Order.{IsInOrder}
-use Rattle.table_versions.specs.Database.{Database, Put, table_at, with_table, after, database_of}
-use Rattle.table_versions.specs.Database.{version, AreAccepted, logged}
+use Rattle.table_versions.specs.Database.{Database, Put, table_at, with_table, after}
+use Rattle.table_versions.specs.Database.{database_after}
+use Rattle.table_versions.specs.Database.{version_after, AreAccepted, logged}
 use Rattle.table_versions.specs.Valid.{IsDatabase, IsPut, HasDatabases}
 
 -- the table that was put is found at its name, and each other name has what it had
@@ -22,15 +23,15 @@ TablesAreFound =
 abbrev pub LogsGrow : Type 0
 LogsGrow =
     (puts : List Put) (put : Put) (database : Database) →
-    after (database_of puts) (length puts) put ≡ Ok database →
-    (logged puts put ≡ puts ++ put ∷ []) × (database_of (logged puts put) ≡ database)
-    × ((n : ℕ) → n ≤ length puts → version (logged puts put) n ≡ version puts n)
+    after (database_after puts) (length puts) put ≡ Ok database →
+    (logged puts put ≡ puts ++ put ∷ []) × (database_after (logged puts put) ≡ database)
+    × ((n : ℕ) → n ≤ length puts → version_after (logged puts put) n ≡ version_after puts n)
 
 -- a refused put is not logged
 abbrev pub LogsStay : Type 0
 LogsStay =
     (puts : List Put) (put : Put) (fault : Fault) →
-    after (database_of puts) (length puts) put ≡ Err fault → logged puts put ≡ puts
+    after (database_after puts) (length puts) put ≡ Err fault → logged puts put ≡ puts
 
 -- no puts at all are accepted ones, and so are those that are logged after accepted ones
 abbrev pub LogsHoldAcceptedPuts : Type 0
@@ -39,7 +40,7 @@ LogsHoldAcceptedPuts = AreAccepted []
 
 -- the names of every version are in byte order, and each stands once
 abbrev pub NamesAreInOrder : Type 0
-NamesAreInOrder = (puts : List Put) → IsInOrder (database_of puts)
+NamesAreInOrder = (puts : List Put) → IsInOrder (database_after puts)
 
 -- an accepted put has no more rows than a table may have
 abbrev pub AcceptedPutsAreFew : Type 0

@@ -3,8 +3,8 @@ pub mod StatsPages
 pub mod Table
 pub mod Columns
 pub mod Database
-pub mod Stored
-pub mod Kept
+pub mod StoredTables
+pub mod KeptTables
 pub mod Valid
 pub mod Order
 pub mod Standing

@@ -2,11 +2,11 @@
 use Rattle.std.specs.Prelude.{◌≡◌, ◌≤◌, ℕ, ◌+◌, ◌*◌, List, length, map, Some, option_map, slice_get}
 use Rattle.std.specs.Prelude.{Vec}
 use Rattle.std.specs.Global.{Global}
-use Rattle.arrow_schema.specs.declared.schema.Schema.{Schema}
+use Rattle.arrow_types.specs.declared.schema.Schema.{Schema}
 use Rattle.arrays.specs.Batch.{BatchAt}
-use Rattle.batch_stats.specs.declared.owned.OwnedStats.{OwnedStats}
+use Rattle.batch_stats.specs.declared.owned_stats.OwnedStats.{OwnedStats}
 use Rattle.batch_stats.specs.Columns.{stats_in}
-use Rattle.batch_stats.specs.Owned.{AreKept}
+use Rattle.batch_stats.specs.OwnedStats.{AreKept}
 use Rattle.table_versions.specs.declared.placed_batch.PlacedBatch.{PlacedBatch}
 use Rattle.table_versions.specs.declared.stats_page.StatsPage.{StatsPage}
 use Rattle.table_versions.specs.Batches.{ArePlaced}

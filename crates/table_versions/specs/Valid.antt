@@ -2,13 +2,13 @@
 use Rattle.std.specs.Prelude.{◌≡◌, ◌≤◌, ℕ, true, false, List, [], ◌∷◌, length, All}
 use Rattle.scan_base.specs.declared.value.Value.{Value}
 use Rattle.scan_base.specs.Lists.{repeats}
-use Rattle.arrow_schema.specs.declared.schema.Field.{Field}
-use Rattle.arrow_schema.specs.Schema.{IsSchema}
-use Rattle.arrays.specs.Typed.{IsValueOf}
+use Rattle.arrow_types.specs.declared.schema.Field.{Field}
+use Rattle.arrow_types.specs.Schema.{IsSchema}
+use Rattle.arrays.specs.TypedLayouts.{IsValueOf}
 use Rattle.scan_base.specs.Value.{is_null}
 use Rattle.scan_base.specs.Limits.{most_name_bytes, most_rows}
 use Rattle.table_versions.specs.Table.{Name, Row, Table, same_name, is_long_text}
-use Rattle.table_versions.specs.Database.{Database, Put, version}
+use Rattle.table_versions.specs.Database.{Database, Put, version_after}
 use Rattle.table_versions.specs.Order.{IsInOrder}
 
 -- a value of a column: of its type, null only where the column takes nulls, and no text above the
@@ -55,4 +55,4 @@ pub record IsPut (put : Put) : Type 0 where
 
 -- each version of a log is a database
 abbrev pub HasDatabases : List Put → Type 0
-HasDatabases log = (n : ℕ) → IsDatabase (version log n)
+HasDatabases log = (n : ℕ) → IsDatabase (version_after log n)

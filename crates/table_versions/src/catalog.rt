@@ -12,8 +12,7 @@ ghost use Rattle.table_versions.specs.Valid.{IsName};
 
 use crate::handles::spliced;
 use crate::table::TableVersion;
-use hash_seed::HashSeed;
-use scan_base::Text;
+use scan_base::{HashSeed, Text};
 use std::alloc::{AllocError, Global};
 use std::cmp::Ordering;
 use std::marker::Model;
@@ -32,8 +31,8 @@ pub struct CatalogVersion {
 impl Model for CatalogVersion {
     ghost use Rattle.std.specs.Prelude.{List, ℕ, map};
     ghost use Rattle.std.specs.Arc.{arc_value};
-    ghost use Rattle.table_versions.specs.Kept.{IsCatalog};
-    ghost use Rattle.table_versions.specs.Stored.{TableAt};
+    ghost use Rattle.table_versions.specs.KeptTables.{IsCatalog};
+    ghost use Rattle.table_versions.specs.StoredTables.{TableAt};
 
     ghost Value = { List (List ℕ × TableAt) };
 

@@ -7,11 +7,11 @@ ghost use Rattle.arrays.specs.Batch.{rows_of};
 ghost use Rattle.arrays.specs.Column.{IsColumn, values_of};
 ghost use Rattle.table_versions.specs.Table.{is_long_text, has_bad_null};
 ghost use Rattle.table_versions.specs.Columns.{has_bad_column, is_long_column};
-ghost use Rattle.table_versions.specs.Kept.{Stands};
+ghost use Rattle.table_versions.specs.KeptTables.{Stands};
 
 use crate::limits::MAX_TEXT_BYTES;
 use arrays::{Batch, Cells, Column};
-use arrow_schema::Field;
+use arrow_types::Field;
 use batch_stats::MeasuredBatch;
 use scan_base::ValueRef;
 

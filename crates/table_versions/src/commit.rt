@@ -6,26 +6,26 @@ ghost use Rattle.std.specs.List.{flat_map};
 ghost use Rattle.std.specs.Option.{option_copied};
 ghost use Rattle.scan_base.specs.Reading.{GivesUnlessMemory, RefusesFirst, first_fault};
 ghost use Rattle.arrays.specs.Batch.{BatchAt, rows_of};
-ghost use Rattle.arrays.specs.Typed.{AreOfTypes};
-ghost use Rattle.table_versions.specs.Kept.{Stands};
+ghost use Rattle.arrays.specs.TypedLayouts.{AreOfTypes};
+ghost use Rattle.table_versions.specs.KeptTables.{Stands};
 ghost use Rattle.scan_base.specs.Limits.{most_name_bytes, most_rows};
 ghost use Rattle.table_versions.specs.Database.{table_after, columns_of, differs, faults_at};
-ghost use Rattle.table_versions.specs.Database.{put_faults, after};
-ghost use Rattle.table_versions.specs.Stored.{tables_of, put_of, plain, kept};
-ghost use Rattle.table_versions.specs.Stored.{stored_after, catalog_after};
-ghost use Rattle.table_versions.specs.Kept.{IsStorable, AreSound};
+ghost use Rattle.table_versions.specs.Database.{after};
+ghost use Rattle.table_versions.specs.StoredTables.{tables_of, put_of, plain, kept};
+ghost use Rattle.table_versions.specs.StoredTables.{stored_after, catalog_after};
+ghost use Rattle.table_versions.specs.KeptTables.{IsStorable, AreSound};
 ghost use Rattle.table_versions.specs.Valid.{IsPut};
 
 use crate::catalog::CatalogVersion;
 use crate::cells::{has_bad_null, has_long_row};
 use crate::fields::{has_repeat, same_fields};
-use crate::growing::GrowingTable;
-use crate::limits::{MAX_COMMITS, MAX_NAME_BYTES, MAX_ROWS, MAX_TABLES};
+use crate::growing_table::GrowingTable;
+use crate::limits::{MAX_COMMITS, MAX_ROWS, MAX_TABLES};
 use crate::put::Put;
 use crate::snapshot::Snapshot;
 use crate::table::TableVersion;
 use arrays::laws::values_are_of_their_type;
-use arrow_schema::Schema;
+use arrow_types::{MAX_NAME_BYTES, Schema};
 use batch_stats::MeasuredBatch;
 use scan_base::{Fault, IfExists, Text};
 use std::alloc::{AllocError, Global};
@@ -105,18 +105,6 @@ fn refusal_at(old: Option<&TableVersion>, tables: usize, number: u64, put: &Put)
         return Some(Fault::LimitReached);
     }
     None
-}
-
-/// Why a put is refused, if it is, where the snapshot's number counts the puts that were accepted
-/// before: the first fault of [`apply`]. It takes no memory.
-pub fn refusal(snapshot: &Snapshot, put: &Put) -> Option<Fault>
-    ensures { result
-        ≡ first_fault (put_faults (tables_of snapshot.now.catalog) snapshot.now.number
-        (put_of put.now)) }
-{
-    let catalog = snapshot.catalog();
-    let old = catalog.get(&put.table);
-    refusal_at(old, catalog.len(), snapshot.number(), put)
 }
 
 // The old table with the batches after its own.

@@ -4,9 +4,9 @@ ghost use Rattle.std.specs.Prelude.{◌≡◌, length};
 ghost use Rattle.std.specs.List.{list_any};
 ghost use Rattle.scan_base.specs.Lists.{repeats};
 ghost use Rattle.table_versions.specs.Table.{same_type, same_field, same_fields, same_name};
-ghost use Rattle.arrow_schema.specs.declared.data_type.DataType.TheVariants.{Integer};
+ghost use Rattle.arrow_types.specs.declared.data_type.DataType.TheVariants.{Integer};
 
-use arrow_schema::{DataType, Field, IntegerType};
+use arrow_types::{DataType, Field, IntegerType};
 
 // Whether two columns have values of one type. A dictionary's id and index type are not compared.
 fn same_type(old: DataType, new: DataType) -> bool

@@ -1,8 +1,5 @@
 //! The limits of tables and of their versions.
 
-/// The bytes of a table's name are at least 1 and at most these.
-pub const MAX_NAME_BYTES: usize = 64;
-
 /// The most bytes of a text value.
 pub const MAX_TEXT_BYTES: usize = 65_536;
 

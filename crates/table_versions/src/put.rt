@@ -1,12 +1,12 @@
 //! What a client puts: batches for a table.
 
 ghost use Rattle.std.specs.Prelude.{◌≡◌, ◌^◌, ◌-◌, All, length, min};
-ghost use Rattle.arrow_schema.specs.Schema.{IsSchema};
+ghost use Rattle.arrow_types.specs.Schema.{IsSchema};
 ghost use Rattle.arrays.specs.Batch.{BatchAt};
-ghost use Rattle.arrays.specs.Typed.{AreOfTypes};
-ghost use Rattle.table_versions.specs.Stored.{put_of};
+ghost use Rattle.arrays.specs.TypedLayouts.{AreOfTypes};
+ghost use Rattle.table_versions.specs.StoredTables.{put_of};
 
-use arrow_schema::Schema;
+use arrow_types::Schema;
 use batch_stats::MeasuredBatch;
 use scan_base::{IfExists, IfNotExist, Text};
 use std::marker::Model;
@@ -24,8 +24,8 @@ pub struct Put {
 }
 
 impl Model for Put {
-    ghost use Rattle.table_versions.specs.Stored.{PutAt};
-    ghost use Rattle.table_versions.specs.Kept.{IsStorable};
+    ghost use Rattle.table_versions.specs.StoredTables.{PutAt};
+    ghost use Rattle.table_versions.specs.KeptTables.{IsStorable};
 
     ghost Value = { PutAt };
 

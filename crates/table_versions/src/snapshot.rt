@@ -17,7 +17,7 @@ pub struct Snapshot {
 
 impl Model for Snapshot {
     ghost use Rattle.std.specs.Arc.{arc_value};
-    ghost use Rattle.table_versions.specs.Stored.{VersionAt};
+    ghost use Rattle.table_versions.specs.StoredTables.{VersionAt};
 
     ghost Value = { VersionAt };
 

@@ -3,23 +3,23 @@
 ghost use Rattle.std.specs.Prelude.{◌≡◌, ◌<◌, ◌≤◌, ◌*◌, ◌/◌, Some, length, option_map, slice_get};
 ghost use Rattle.std.specs.Prelude.{IfOk, IfSome};
 ghost use Rattle.std.specs.Arc.{arc_value};
-ghost use Rattle.arrow_schema.specs.Schema.{IsSchema};
+ghost use Rattle.arrow_types.specs.Schema.{IsSchema};
 ghost use Rattle.arrays.specs.Batch.{BatchAt, rows_of};
-ghost use Rattle.arrays.specs.Typed.{AreOfTypes};
+ghost use Rattle.arrays.specs.TypedLayouts.{AreOfTypes};
 ghost use Rattle.batch_stats.specs.Beginnings.{AreBeginnings};
 ghost use Rattle.batch_stats.specs.Columns.{stats_in};
 ghost use Rattle.batch_stats.specs.Sides.{side_at};
 ghost use Rattle.scan_base.specs.Limits.{most_columns, most_rows};
-ghost use Rattle.table_versions.specs.Kept.{AreSound, IsKept};
+ghost use Rattle.table_versions.specs.KeptTables.{AreSound, IsKept};
 ghost use Rattle.table_versions.specs.Standing.{StandsIn};
 ghost use Rattle.table_versions.specs.StatsPages.{AreOfBatch, IsPageFrom};
-ghost use Rattle.table_versions.specs.Stored.{table_of};
+ghost use Rattle.table_versions.specs.StoredTables.{table_of};
 
-use crate::growing::GrowingTable;
+use crate::growing_table::GrowingTable;
 use crate::placed_batch::PlacedBatch;
 use crate::stats_page::{PAGE_BATCHES, StatsPage};
 use arrays::Batch;
-use arrow_schema::Schema;
+use arrow_types::Schema;
 use batch_stats::{Beginnings, MeasuredBatch, OwnedStats, Side};
 use shared_pages::Pages;
 use std::alloc::{AllocError, Global};
@@ -57,7 +57,7 @@ pub struct BatchPlace {
 
 impl Model for TableVersion {
     ghost use Rattle.std.specs.Arc.{arc_value};
-    ghost use Rattle.table_versions.specs.Stored.{TableAt};
+    ghost use Rattle.table_versions.specs.StoredTables.{TableAt};
     ghost use Rattle.table_versions.specs.Batches.{placed_table};
     ghost use Rattle.table_versions.specs.StatsPages.{AreStored};
 

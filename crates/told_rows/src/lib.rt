@@ -2,7 +2,7 @@
 #![tactic(auto)]
 
 use arrays::{Batch, Cells};
-use arrow_schema::Schema;
+use arrow_types::Schema;
 use scan_base::ValueRef;
 use std::alloc::AllocError;
 

@@ -7,7 +7,7 @@ use Rattle.scan_base.specs.Predicate.{Pred, conjunction, disjunction, negation, 
 use Rattle.scan_base.specs.Predicate.{membership, null_test, constant}
 use Rattle.typed_plan.specs.declared.class.Class.{Class}
 use Rattle.typed_plan.specs.Faults.{◌then◌, fault_in, operand_class, compare_fault, items_fault, predicate_fault}
-use Rattle.typed_plan.specs.Numbered.{operand_map, predicate_map}
+use Rattle.typed_plan.specs.NumberedPredicates.{operand_map, predicate_map}
 use Rattle.typed_plan.proofs.TypedNames.{then_none}
 
 -- what one says of a class, the other says too

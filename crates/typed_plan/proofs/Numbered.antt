@@ -8,7 +8,7 @@ use Rattle.scan_base.specs.Comparison.{compared, nullness}
 use Rattle.scan_base.specs.Predicate.{Pred, conjunction, disjunction, negation, truth_test, comparing, between}
 use Rattle.scan_base.specs.Predicate.{membership, null_test, constant, truth_of, operand_value, any_equal}
 use Rattle.scan_base.specs.Truth.{truth_or, truth_not, truth_is, negated_if}
-use Rattle.typed_plan.specs.Numbered.{operand_map, predicate_map}
+use Rattle.typed_plan.specs.NumberedPredicates.{operand_map, predicate_map}
 
 -- an operand with other names of its columns has the value of what these stand for
 operand_value-map : {C D : Type 0} (cell : D → Value) (f : C → D) (o : Operand C) →

@@ -9,10 +9,10 @@ use Rattle.sql_query.specs.Sentence.{Sentence, is_grouped}
 use Rattle.table_versions.specs.Table.{Row}
 use Rattle.table_versions.specs.Database.{Database}
 use Rattle.typed_plan.specs.Scope.{Scope}
-use Rattle.typed_plan.specs.Joined.{rows_after, extensions, place_columns, place_rows, rows_between, joined, kept}
-use Rattle.typed_plan.specs.Joined.{passes, scope_of}
-use Rattle.typed_plan.specs.Grouped.{groups_of}
-use Rattle.typed_plan.specs.Meaning.{RangesJoin, meaning, selected, summed}
+use Rattle.typed_plan.specs.JoinedRows.{rows_after, extensions, place_columns, place_rows, rows_between, from_rows, kept_rows}
+use Rattle.typed_plan.specs.JoinedRows.{meets_where, scope_of}
+use Rattle.typed_plan.specs.GroupedRows.{groups_of}
+use Rattle.typed_plan.specs.Meaning.{RangesJoin, meaning, selected, group_values}
 
 rows_after-append : (database : Database) (scope : Scope) (joins : List Join) (xs ys : List Row) →
     rows_after database scope joins (xs ++ ys)
@@ -34,30 +34,30 @@ rows_between-append a b c rows h k =
     (drop-drop (b - a) a rows ∙ ap (λ n. drop n rows) starts))
 
 joined-append : (query : Sentence) (database : Database) (a b c : ℕ) → a ≤ b → b ≤ c →
-    joined query database a b ++ joined query database b c ≡ joined query database a c
+    from_rows query database a b ++ from_rows query database b c ≡ from_rows query database a c
 joined-append query database a b c h k =
     sym (rows_after-append database (place_columns database query.first) query.joins _ _)
     ∙ ap (rows_after database (place_columns database query.first) query.joins)
     (rows_between-append a b c (place_rows database query.first) h k)
 
 kept-append : (query : Sentence) (database : Database) (a b c : ℕ) → a ≤ b → b ≤ c →
-    kept query database a b ++ kept query database b c ≡ kept query database a c
+    kept_rows query database a b ++ kept_rows query database b c ≡ kept_rows query database a c
 kept-append query database a b c h k =
-    let test = passes (scope_of query database) query.filter in
-    sym (filter-append test (joined query database a b) (joined query database b c))
+    let test = meets_where (scope_of query database) query.filter in
+    sym (filter-append test (from_rows query database a b) (from_rows query database b c))
     ∙ ap (filter test) (joined-append query database a b c h k)
 
 pub meaning-plain : (query : Sentence) (database : Database) (a b : ℕ) → is_grouped query ≡ false →
-    meaning query database a b ≡ map (selected (scope_of query database) query.select) (kept query database a b)
+    meaning query database a b ≡ map (selected (scope_of query database) query.select) (kept_rows query database a b)
 meaning-plain query database a b plain =
-    ap (λ grouped. cond grouped (map (summed (scope_of query database) query.select)
-    (groups_of (scope_of query database) query.group_by (kept query database a b)))
-    (map (selected (scope_of query database) query.select) (kept query database a b))) plain
+    ap (λ grouped. cond grouped (map (group_values (scope_of query database) query.select)
+    (groups_of (scope_of query database) query.group_by (kept_rows query database a b)))
+    (map (selected (scope_of query database) query.select) (kept_rows query database a b))) plain
 
 pub ranges_join : RangesJoin
 ranges_join query database a b c plain h k =
     let pick = selected (scope_of query database) query.select in
     ap (λ xs. xs ++ meaning query database b c) (meaning-plain query database a b plain)
-    ∙ ap (λ xs. map pick (kept query database a b) ++ xs) (meaning-plain query database b c plain)
-    ∙ sym (map-append pick (kept query database a b) (kept query database b c))
+    ∙ ap (λ xs. map pick (kept_rows query database a b) ++ xs) (meaning-plain query database b c plain)
+    ∙ sym (map-append pick (kept_rows query database a b) (kept_rows query database b c))
     ∙ ap (map pick) (kept-append query database a b c h k) ∙ sym (meaning-plain query database a c plain)

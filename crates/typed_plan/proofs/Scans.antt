@@ -1,8 +1,8 @@
 -- A tree reads a table or more.
 use Rattle.std.proofs.Common.{◌≡◌, ◌<◌, List, length, map, ap, arith}
 use Rattle.std.proofs.lemmas.List.{length-map, length-append}
-use Rattle.table_versions.specs.Stored.{TableAt}
-use Rattle.typed_plan.specs.Held.{tree_schemas}
+use Rattle.table_versions.specs.StoredTables.{TableAt}
+use Rattle.typed_plan.specs.HeldTables.{tree_schemas}
 use Rattle.typed_plan.specs.Plan.{Tree, scan, filtered, joined}
 
 pub some_schema : (tree : Tree) → 0 < length (tree_schemas tree)

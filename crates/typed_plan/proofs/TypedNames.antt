@@ -4,7 +4,7 @@ use Rattle.std.proofs.Common.{Result, Ok, Err, refl}
 use Rattle.std.specs.List.{list_all}
 use Rattle.std.proofs.lemmas.Bool.{lt-ltb, and_from}
 use Rattle.std.proofs.lemmas.Option.{slice_get_within}
-use Rattle.arrow_schema.specs.declared.data_type.DataType.{DataType}
+use Rattle.arrow_types.specs.declared.data_type.DataType.{DataType}
 use Rattle.scan_base.specs.declared.fault.Fault.{Fault}
 use Rattle.scan_base.specs.declared.predicate.Operand.{Operand}
 use Rattle.scan_base.specs.declared.predicate.Operand.TheVariants.{Column, Literal, Date}
@@ -12,7 +12,7 @@ use Rattle.scan_base.specs.Predicate.{conjunction, disjunction, negation, truth_
 use Rattle.scan_base.specs.Predicate.{null_test, constant, operand_names, names_only}
 use Rattle.typed_plan.specs.declared.class.Class.{Class}
 use Rattle.typed_plan.specs.Faults.{◌then◌, fault_in, operand_class, compare_fault, items_fault, predicate_fault}
-use Rattle.typed_plan.specs.Typed.{class_if_there, class_of_number, TypedPredicatesNameColumns}
+use Rattle.typed_plan.specs.TypedPlans.{class_if_there, class_of_number, TypedPredicatesNameColumns}
 
 pub then_none : (a b : Option Fault) → (a then b) ≡ None → (a ≡ None) × (b ≡ None)
 then_none None b e = (refl, e)

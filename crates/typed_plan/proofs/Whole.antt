@@ -3,7 +3,7 @@ use Rattle.std.specs.Prelude.{List, length}
 use Rattle.sql_query.specs.Sentence.{Sentence}
 use Rattle.table_versions.specs.Table.{Row}
 use Rattle.table_versions.specs.Database.{Database}
-use Rattle.typed_plan.specs.Joined.{place_rows}
+use Rattle.typed_plan.specs.JoinedRows.{place_rows}
 use Rattle.typed_plan.specs.Meaning.{meaning}
 
 -- the rows of a query over its whole first place

@@ -1,11 +1,11 @@
 pub mod Class
 pub mod Scope
-pub mod Joined
-pub mod Grouped
+pub mod JoinedRows
+pub mod GroupedRows
 pub mod Meaning
 pub mod Faults
-pub mod Numbered
+pub mod NumberedPredicates
 pub mod Plan
 pub mod View
-pub mod Held
-pub mod Typed
+pub mod HeldTables
+pub mod TypedPlans

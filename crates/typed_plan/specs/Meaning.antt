@@ -10,13 +10,13 @@ use Rattle.sql_query.specs.declared.query.Select.TheVariants as select
 use Rattle.sql_query.specs.Sentence.{Sentence, is_grouped}
 use Rattle.table_versions.specs.Table.{Row}
 use Rattle.table_versions.specs.Database.{Database}
-use Rattle.typed_plan.specs.Scope.{Scope, cell_of}
-use Rattle.typed_plan.specs.Joined.{scope_of, kept}
-use Rattle.typed_plan.specs.Grouped.{Group, groups_of, count_of, sum_of}
+use Rattle.typed_plan.specs.Scope.{Scope, named_cell}
+use Rattle.typed_plan.specs.JoinedRows.{scope_of, kept_rows}
+use Rattle.typed_plan.specs.GroupedRows.{Group, groups_of, count_of, sum_of}
 
 -- what an item gives of a row on its own; an aggregate makes groups
 abbrev pub value_in_row : Scope → Row → Expression → Value
-value_in_row scope row (Column name) = cell_of scope row name
+value_in_row scope row (Column name) = named_cell scope row name
 value_in_row scope row _ = Null
 
 -- the selected values of a row
@@ -27,15 +27,15 @@ selected scope (select.List items) row = map (λ item. value_in_row scope row it
 -- what an item gives of a group, whose rows all have the values of the GROUP BY columns
 abbrev pub value_in_group : Scope → List Row → Expression → Value
 value_in_group scope [] (Column name) = Null
-value_in_group scope (row ∷ rows) (Column name) = cell_of scope row name
+value_in_group scope (row ∷ rows) (Column name) = named_cell scope row name
 value_in_group scope rows CountRows = Int (pos (length rows))
-value_in_group scope rows (Count name) = count_of (map (λ row. cell_of scope row name) rows)
-value_in_group scope rows (Sum name) = sum_of (map (λ row. cell_of scope row name) rows)
+value_in_group scope rows (Count name) = count_of (map (λ row. named_cell scope row name) rows)
+value_in_group scope rows (Sum name) = sum_of (map (λ row. named_cell scope row name) rows)
 
 -- the selected values of a group
-abbrev pub summed : Scope → Select → Group → Row
-summed scope select.All group = []
-summed scope (select.List items) group =
+abbrev pub group_values : Scope → Select → Group → Row
+group_values scope select.All group = []
+group_values scope (select.List items) group =
     map (λ item. value_in_group scope group.rows item.expression) items
 
 -- the rows of a query over the rows a up to, not with, b of its first place
@@ -43,8 +43,9 @@ abbrev pub meaning : Sentence → Database → ℕ → ℕ → List Row
 meaning query database a b =
     let scope = scope_of query database in
     if is_grouped query
-    then map (summed scope query.select) (groups_of scope query.group_by (kept query database a b))
-    else map (selected scope query.select) (kept query database a b)
+    then map (group_values scope query.select)
+    (groups_of scope query.group_by (kept_rows query database a b))
+    else map (selected scope query.select) (kept_rows query database a b)
 
 -- Two neighboring ranges of a query that is not grouped give the rows of the range that they make
 -- up. So its endpoints may be fetched one by one.

@@ -1,7 +1,7 @@
 -- Plans as plain data, and the rows that they give.
 use Rattle.std.specs.Prelude.{ℕ, Bool, List, [], ◌∷◌, ◌++◌, length, map, pos}
 use Rattle.std.specs.List.{list_all, filter, flat_map, fold}
-use Rattle.arrow_schema.specs.declared.schema.Schema.{Schema}
+use Rattle.arrow_types.specs.declared.schema.Schema.{Schema}
 use Rattle.scan_base.specs.declared.comparison.Comparison.TheVariants.{Equal}
 use Rattle.scan_base.specs.declared.value.Value.{Value}
 use Rattle.scan_base.specs.declared.value.Value.TheVariants.{Int}
@@ -17,8 +17,8 @@ use Rattle.typed_plan.specs.declared.plan.Columns.TheVariants.{All, These}
 use Rattle.typed_plan.specs.declared.plan.JoinKey.{JoinKey}
 use Rattle.typed_plan.specs.declared.plan.Output.{Output}
 use Rattle.typed_plan.specs.declared.plan.Output.TheVariants.{Project, Groups}
-use Rattle.typed_plan.specs.Grouped.{Group, with_row, count_of, sum_of}
-use Rattle.typed_plan.specs.Joined.{rows_in, rows_between}
+use Rattle.typed_plan.specs.GroupedRows.{Group, with_row, count_of, sum_of}
+use Rattle.typed_plan.specs.JoinedRows.{rows_in, rows_between}
 
 -- a plan, without where its parts lie in memory
 pub data Tree : Type 0 where

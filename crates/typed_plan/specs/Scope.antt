@@ -3,7 +3,7 @@ use Rattle.std.specs.Prelude.{ℕ, ◌+◌, Bool, true, ◌&&◌, if◌then◌el
 use Rattle.std.specs.Prelude.{Some, None, Result}
 use Rattle.std.specs.Prelude.{Ok, Err}
 use Rattle.std.specs.Str.{bytes_eq}
-use Rattle.arrow_schema.specs.declared.schema.Field.{Field}
+use Rattle.arrow_types.specs.declared.schema.Field.{Field}
 use Rattle.scan_base.specs.declared.fault.Fault.{Fault}
 use Rattle.scan_base.specs.declared.fault.Fault.TheVariants.{UnknownName}
 use Rattle.scan_base.specs.declared.value.Value.{Value}
@@ -34,11 +34,11 @@ abbrev pub stands_for : ColumnName → ScopeColumn → Bool
 stands_for name column = fits_place name.place column.place && bytes_eq name.name column.field.name
 
 -- the numbers of the columns that a name stands for, where the first column has this number
-abbrev pub numbers_of : ℕ → ColumnName → Scope → List ℕ
-numbers_of number name [] = []
-numbers_of number name (column ∷ columns) =
-    if stands_for name column then number ∷ numbers_of (number + 1) name columns
-    else numbers_of (number + 1) name columns
+abbrev pub named_numbers : ℕ → ColumnName → Scope → List ℕ
+named_numbers number name [] = []
+named_numbers number name (column ∷ columns) =
+    if stands_for name column then number ∷ named_numbers (number + 1) name columns
+    else named_numbers (number + 1) name columns
 
 -- there is one, and only one
 abbrev pub the_only : List ℕ → Result ℕ Fault
@@ -48,7 +48,7 @@ the_only _ = Err UnknownName
 -- the number of the column that a name means, counted from 0; one that means none, or several, is a
 -- fault
 abbrev pub column_of : Scope → ColumnName → Result ℕ Fault
-column_of scope name = the_only (numbers_of 0 name scope)
+column_of scope name = the_only (named_numbers 0 name scope)
 
 -- the number of the column, where there is no fault
 abbrev pub number_in : Result ℕ Fault → ℕ
@@ -61,5 +61,5 @@ numbered scope name = number_in (column_of scope name)
 
 -- a row's value in the column that a name means; a query with a name that means none is refused
 -- before
-abbrev pub cell_of : Scope → Row → ColumnName → Value
-cell_of scope row name = cell_in row (numbered scope name)
+abbrev pub named_cell : Scope → Row → ColumnName → Value
+named_cell scope row name = cell_in row (numbered scope name)

@@ -1,10 +1,10 @@
 -- The plan that a tree of boxes stands for.
 use Rattle.std.specs.Prelude.{List}
-use Rattle.arrow_schema.specs.declared.schema.Schema.{Schema}
+use Rattle.arrow_types.specs.declared.schema.Schema.{Schema}
 use Rattle.typed_plan.specs.declared.plan.Plan.{Plan, Scan, Filter', Join'}
 use Rattle.typed_plan.specs.declared.plan.Output.{Output}
 use Rattle.scan_base.specs.View.{pred_of}
-use Rattle.table_versions.specs.Stored.{TableAt}
+use Rattle.table_versions.specs.StoredTables.{TableAt}
 use Rattle.typed_plan.specs.Plan.{Tree, scan, filtered, joined, PlanAt}
 
 -- a bound query: the tables of its places in order, a tree of boxes, what the result takes of its

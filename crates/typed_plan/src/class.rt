@@ -3,7 +3,7 @@
 ghost use Rattle.std.specs.Prelude.{◌≡◌};
 ghost use Rattle.typed_plan.specs.Class.{type_class, value_class};
 
-use arrow_schema::DataType;
+use arrow_types::DataType;
 use scan_base::Value;
 
 /// What a value is a value of. Only values of one class are compared.

@@ -1,7 +1,7 @@
 //! What holds of every query and plan. Each law is a function whose contract says it.
 
 ghost use Rattle.typed_plan.specs.Meaning.{RangesJoin};
-ghost use Rattle.typed_plan.specs.Typed.{TypedPredicatesNameColumns};
+ghost use Rattle.typed_plan.specs.TypedPlans.{TypedPredicatesNameColumns};
 
 /// Two neighboring ranges of a query that is not grouped give the rows of the range that they make
 /// up.

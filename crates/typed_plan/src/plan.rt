@@ -1,12 +1,12 @@
 //! Plans: what gives the rows of a bound query.
 
 ghost use Rattle.std.specs.Prelude.{◌≡◌, ◌<◌, length, map};
-ghost use Rattle.table_versions.specs.Stored.{TableAt};
-ghost use Rattle.typed_plan.specs.Held.{tree_schemas};
-ghost use Rattle.typed_plan.specs.Typed.{IsTyped};
+ghost use Rattle.table_versions.specs.StoredTables.{TableAt};
+ghost use Rattle.typed_plan.specs.HeldTables.{tree_schemas};
+ghost use Rattle.typed_plan.specs.TypedPlans.{IsTyped};
 ghost use Rattle.typed_plan.specs.View.{tree_of, plan_of};
 
-use arrow_schema::Schema;
+use arrow_types::Schema;
 use scan_base::{Items, Predicate, Text};
 use std::marker::Model;
 use table_versions::TableVersion;
@@ -112,9 +112,9 @@ impl Model for TypedPlan {
     ghost use Rattle.std.specs.Coded.{codes};
     ghost use Rattle.typed_plan.specs.contracts.plan.Plan as tree;
     ghost use Rattle.std.specs.Prelude.{◌≡◌, map};
-    ghost use Rattle.table_versions.specs.Stored.{TableAt};
-    ghost use Rattle.typed_plan.specs.Held.{tree_schemas};
-    ghost use Rattle.typed_plan.specs.Typed.{IsTyped};
+    ghost use Rattle.table_versions.specs.StoredTables.{TableAt};
+    ghost use Rattle.typed_plan.specs.HeldTables.{tree_schemas};
+    ghost use Rattle.typed_plan.specs.TypedPlans.{IsTyped};
     ghost use Rattle.typed_plan.specs.View.{BoundAt, tree_of, plan_of};
 
     ghost Value = { BoundAt };

@@ -6,10 +6,10 @@ use Rattle.table_versions.specs.Database.{Put}
 use Rattle.version_log.specs.Expiry.{IsExpired}
 use Rattle.version_log.specs.Log.{Entry, Log, added, expired, Begins}
 use Rattle.version_cell.specs.Expiries.{ExpiresBehind}
-use Rattle.version_cell.specs.Placed.{Placed}
+use Rattle.version_cell.specs.PlacedEntries.{Placed}
 use Rattle.version_cell.specs.Puts.{IsAnswered, PutsBehind, after_log}
 use Rattle.version_cell.specs.Seats.{Seat, MakesNone}
-use Rattle.version_cell.specs.Signed.{Signed, log_of}
+use Rattle.version_cell.specs.SignedEntries.{SignedEntry, log_of}
 use Rattle.version_cell.proofs.Logs.{log_of-length}
 
 first_so : {X Y Z : Type 0} (x : X) (y : Y) (due : Result Z Fault) → RefusesFirst (Ok x) due → RefusesFirst (Ok y) due
@@ -21,11 +21,11 @@ refused_first_so X Y fault (Ok z) first = tt
 refused_first_so X Y fault (Err cause) first = cc first
 
 -- a log has the same places without the seats of its entries
-at_end : (made more : List Placed) (entries : List Signed) (entry : Entry) → more ≡ made ++ (length entries, entry) ∷ [] → more ≡ made ++ (length (log_of entries), entry) ∷ []
+at_end : (made more : List Placed) (entries : List SignedEntry) (entry : Entry) → more ≡ made ++ (length entries, entry) ∷ [] → more ≡ made ++ (length (log_of entries), entry) ∷ []
 at_end made more entries entry is = is ∙ ap (λ (place : ℕ). made ++ (place, entry) ∷ []) (sym (log_of-length entries))
 
 -- a put that was accepted: the seat has then seen the log after it, and made its entry at the end of the log that it met
-pub accepted_behind : {X Y : Type 0} (x : X) (y : Y) (old new : Seat) (put : Put) (entries : List Signed) (next : Log) → Begins old.log (log_of entries)
+pub accepted_behind : {X Y : Type 0} (x : X) (y : Y) (old new : Seat) (put : Put) (entries : List SignedEntry) (next : Log) → Begins old.log (log_of entries)
     → IsAnswered (Ok x) (log_of entries) put next → RefusesFirst (Ok x) (after_log (log_of entries) put) → new.log ≡ next
     → new.made ≡ old.made ++ (length entries, added put) ∷ [] → PutsBehind (Ok y) old put new
 accepted_behind {X} {Y} x y old new put entries next met answered first same made = record {
@@ -48,21 +48,11 @@ refused_behind X Y fault old new put log next met answered first same none = rec
 }
 
 -- an expiry that was done
-pub expired_behind : (floor : ℕ) (old new : Seat) (version : ℕ) (entries : List Signed) (next : Log) → Begins old.log (log_of entries)
+pub expired_behind : (floor : ℕ) (old new : Seat) (version : ℕ) (entries : List SignedEntry) (next : Log) → Begins old.log (log_of entries)
     → IsExpired (Ok floor) (log_of entries) version next → new.log ≡ next → new.made ≡ old.made ++ (length entries, expired version) ∷ [] → ExpiresBehind (Ok floor) old version new
 expired_behind floor old new version entries next met answered same made = record {
   log = log_of entries;
   met = met;
   answered = subst (λ (l : Log). IsExpired (Ok floor) (log_of entries) version l) (sym same) answered;
   counts = at_end old.made new.made entries (expired version) made;
-}
-
--- an expiry that was refused
-pub unexpired_behind : (fault : Fault) (old new : Seat) (version : ℕ) (log next : Log) → Begins old.log log → IsExpired (Err fault) log version next → new.log ≡ next
-    → MakesNone old new → ExpiresBehind (Err fault) old version new
-unexpired_behind fault old new version log next met answered same none = record {
-  log = log;
-  met = met;
-  answered = subst (λ (l : Log). IsExpired (Err fault) log version l) (sym same) answered;
-  counts = none;
 }

@@ -5,13 +5,13 @@ use Rattle.std.proofs.lemmas.List.{get_or-set_other, length-set}
 use Rattle.std.proofs.lemmas.Grind.{get_or-set_at}
 use Rattle.version_log.specs.Log.{Entry}
 use Rattle.version_cell.specs.Counts.{Counted}
-use Rattle.version_cell.specs.Placed.{Placed}
+use Rattle.version_cell.specs.PlacedEntries.{Placed}
 use Rattle.version_cell.specs.Seats.{Seat, IsNumbered}
-use Rattle.version_cell.specs.Signed.{Signed, signed, log_of, own, own_of}
+use Rattle.version_cell.specs.SignedEntries.{SignedEntry, signed, log_of, own, own_of}
 use Rattle.version_cell.proofs.Parts.{own-append, own_more}
 
 -- a log without entries has none with their seats
-pub none_signed : (entries : List Signed) → log_of entries ≡ [] → entries ≡ []
+pub none_signed : (entries : List SignedEntry) → log_of entries ≡ [] → entries ≡ []
 none_signed [] none = refl
 none_signed (s ∷ entries) none = absurd (omega (arith, ap length none))
 
@@ -19,7 +19,7 @@ own_of_another : (seat by place : ℕ) (entry : Entry) (b : Bool) → (by == sea
 own_of_another seat by place entry true is apart = absurd (apart (grind (arith, nat_tests)))
 own_of_another seat by place entry false is apart = rw is refl
 
-counted_at : (counts : List ℕ) (log : List Signed) (by count seat : ℕ) (entry : Entry) (b : Bool) → (seat == by) ≡ b → Counted counts log → by < length counts
+counted_at : (counts : List ℕ) (log : List SignedEntry) (by count seat : ℕ) (entry : Entry) (b : Bool) → (seat == by) ≡ b → Counted counts log → by < length counts
     → count ≡ length (own by log) + 1 → seat < length counts → slice_index_or (slice_set counts by count) seat 0 ≡ length (own seat (log ++ signed by entry ∷ []))
 counted_at counts log by count seat entry true is counted few same within =
     let here : seat ≡ by = grind (arith, nat_tests) in
@@ -34,7 +34,7 @@ counted_at counts log by count seat entry false is counted few same within =
     get_or-set_other counts by seat count 0 apart ∙ (counted seat within ∙ ap length (sym more))
 
 -- what is counted of each seat, after an entry more
-pub counted_more : (counts : List ℕ) (log after : List Signed) (by count : ℕ) (entry : Entry) (made more : List Placed) → Counted counts log → by < length counts
+pub counted_more : (counts : List ℕ) (log after : List SignedEntry) (by count : ℕ) (entry : Entry) (made more : List Placed) → Counted counts log → by < length counts
     → length made ≡ length (own by log) → more ≡ made ++ (length log, entry) ∷ [] → count ≡ length more → after ≡ log ++ signed by entry ∷ [] → Counted (slice_set counts by count) after
 counted_more counts log after by count entry made more counted few same last is on seat within =
     let end : Placed = (length log, entry) in

@@ -4,7 +4,7 @@ use Rattle.version_log.specs.Log.{Entry, Log, added, expired, puts_of, puts_in, 
 use Rattle.version_log.proofs.Logs.{puts_of-append, is_log-added, is_log-expired}
 use Rattle.version_cell.specs.Puts.{after_log}
 use Rattle.version_cell.specs.Rules.{read_or, Accepts}
-use Rattle.version_cell.specs.Signed.{Signed, log_of}
+use Rattle.version_cell.specs.SignedEntries.{SignedEntry, log_of}
 use Rattle.version_cell.proofs.Accepting.{accepted_is}
 use Rattle.version_cell.proofs.Logs.{log_of-length, log_of-more}
 
@@ -14,11 +14,11 @@ few_puts_in (added put ∷ log) = omega (arith, few_puts_in log)
 few_puts_in (expired version ∷ log) = omega (arith, few_puts_in log)
 
 -- a log has no more puts than entries
-pub few_puts : (entries : List Signed) → puts_in (log_of entries) ≤ length entries
+pub few_puts : (entries : List SignedEntry) → puts_in (log_of entries) ≤ length entries
 few_puts entries = omega (arith, few_puts_in (log_of entries), log_of-length entries)
 
 -- the puts of a log with one entry more
-pub puts_in_more : (entries : List Signed) (s : Signed) → puts_in (log_of (entries ++ s ∷ [])) ≡ puts_in (log_of entries) + puts_in (s.entry ∷ [])
+pub puts_in_more : (entries : List SignedEntry) (s : SignedEntry) → puts_in (log_of (entries ++ s ∷ [])) ≡ puts_in (log_of entries) + puts_in (s.entry ∷ [])
 puts_in_more entries s =
     let log = log_of entries in
     ap puts_in (log_of-more entries s) ∙ (ap length (puts_of-append log (s.entry ∷ [])) ∙ length-append (puts_of log) (puts_of (s.entry ∷ [])))
@@ -31,7 +31,7 @@ is_log_behind log (added put) is accepts =
 is_log_behind log (expired version) is accepts = is_log-expired log version is
 
 -- what is read of a value that is there, and is such a log
-pub read_is_log : {X : Type 0} (seen_of : X → List Signed) (P : X → Type 0) (found : Option X) → IsSome found → IfSome found (λ x. P x × IsLog (log_of (seen_of x)))
+pub read_is_log : {X : Type 0} (seen_of : X → List SignedEntry) (P : X → Type 0) (found : Option X) → IsSome found → IfSome found (λ x. P x × IsLog (log_of (seen_of x)))
     → IsLog (log_of (read_or [] seen_of found))
 read_is_log seen_of P (Some x) some both = both.1
 read_is_log seen_of P None some both = let no : false ≡ true = some in cc

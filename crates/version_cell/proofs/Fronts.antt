@@ -2,22 +2,13 @@
 use Rattle.std.proofs.lemmas.Bool.Decides.{nat_tests}
 use Rattle.std.specs.Prelude.{MatchBool}
 use lib.Dec.{leb}
-use Rattle.std.proofs.Common.{Bool, true, false, ◌≡◌, ℕ, ◌≤◌, List, [], ◌∷◌, ◌++◌, length, refl, ap, sym, ◌∙◌, arith, append_assoc, append-nil, length-append, Result, Ok, Err}
+use Rattle.std.proofs.Common.{Bool, true, false, ◌≡◌, ℕ, ◌≤◌, List, [], ◌∷◌, ◌++◌, length, refl, ap, sym, ◌∙◌, arith, append_assoc, append-nil, Result, Ok, Err}
 use mathlib.Core.List.{IsPrefix}
 use Rattle.scan_base.specs.declared.fault.Fault.{Fault}
 use Rattle.table_versions.specs.Database.{Put}
-use Rattle.version_log.specs.Log.{Log, added, expired, Begins}
-use Rattle.version_log.specs.Expiry.{IsExpired}
+use Rattle.version_log.specs.Log.{Log, added, Begins}
 use Rattle.version_cell.specs.Puts.{IsAnswered}
-use Rattle.version_cell.specs.Signed.{Signed, GoesOn}
-
--- each list begins with itself
-pub prefix_self : {A : Type 0} (xs : List A) → IsPrefix xs xs
-prefix_self [] = ([], refl)
-prefix_self (x ∷ xs) = (let r = prefix_self xs in r.0, ap (λ ys. x ∷ ys) (prefix_self xs).1)
-
-pub prefix_trans : {A : Type 0} (xs ys zs : List A) → IsPrefix xs ys → IsPrefix ys zs → IsPrefix xs zs
-prefix_trans xs ys zs p q = (p.0 ++ q.0, sym (append_assoc xs p.0 q.0) ∙ (ap (λ w. w ++ q.0) p.1 ∙ q.1))
+use Rattle.version_cell.specs.SignedEntries.{SignedEntry, GoesOn}
 
 -- of two beginnings of one list the shorter begins the longer
 pub prefix_shorter : {A : Type 0} (xs ys zs : List A) → IsPrefix xs zs → IsPrefix ys zs → length xs ≤ length ys → IsPrefix xs ys
@@ -37,11 +28,8 @@ prefix_whole (x ∷ xs) [] p le = absurd (cc (p.1))
 prefix_whole (x ∷ xs) (y ∷ ys) p le =
     let rest = prefix_whole xs ys (p.0, cc (p.1)) (omega arith) in cc (p.1, rest)
 
-pub prefix_length : {A : Type 0} (xs ys : List A) → IsPrefix xs ys → length xs ≤ length ys
-prefix_length xs ys p = omega (arith, sym (ap length p.1) ∙ length-append xs p.0)
-
 -- of two beginnings of one log, the one that is found no longer begins the other
-pub either_begins : (b : Bool) (xs ys zs : List Signed) (m n : ℕ) → m ≡ length xs → n ≡ length ys → IsPrefix xs zs → IsPrefix ys zs → leb m n ≡ b
+pub either_begins : (b : Bool) (xs ys zs : List SignedEntry) (m n : ℕ) → m ≡ length xs → n ≡ length ys → IsPrefix xs zs → IsPrefix ys zs → leb m n ≡ b
     → MatchBool b (GoesOn xs ys) (GoesOn ys xs)
 either_begins true xs ys zs m n e f p q is = let front = prefix_shorter xs ys zs p q (grind (arith, nat_tests)) in (front.0, sym front.1)
 either_begins false xs ys zs m n e f p q is = let front = prefix_shorter ys xs zs q p (grind (arith, nat_tests)) in (front.0, sym front.1)
@@ -50,11 +38,6 @@ either_begins false xs ys zs m n e f p q is = let front = prefix_shorter ys xs z
 pub goes_on : {X : Type 0} (result : Result X Fault) (log : Log) (put : Put) (next : Log) → IsAnswered result log put next → Begins log next
 goes_on (Ok receipt) log put next answered = (added put ∷ [], answered.0)
 goes_on (Err fault) log put next answered = ([], answered.0 ∙ sym (append-nil log))
-
--- and so does the log after an expiry
-pub goes_on_so : (result : Result ℕ Fault) (log : Log) (version : ℕ) (next : Log) → IsExpired result log version next → Begins log next
-goes_on_so (Ok floor) log version next answered = (expired version ∷ [], answered.1)
-goes_on_so (Err fault) log version next answered = ([], answered.0 ∙ sym (append-nil log))
 
 -- so it goes on from all that was seen before
 pub begun_behind : {X : Type 0} (result : Result X Fault) (seen log : Log) (put : Put) (next new : Log) → Begins seen log → IsAnswered result log put next → new ≡ next → Begins seen new

@@ -1,7 +1,7 @@
 -- Lists that were made by one and by another.
 use Rattle.std.proofs.Common.{◌≡◌, inl, inr, ◌+◌, ◌≤◌, List, [], ◌∷◌, ◌++◌, length, map, refl, ap, ◌∙◌, arith}
 use Rattle.version_cell.specs.Merges.{Merges, MergesAll}
-use Rattle.version_cell.specs.Signed.{IsAmong}
+use Rattle.version_cell.specs.SignedEntries.{IsAmong}
 
 -- one made nothing
 pub merges_none : {X : Type 0} (log : List X) → Merges [] log log

@@ -1,6 +1,6 @@
 -- Numbers whose powers of two add up to those of the first numbers, and that are no more than these, are all different.
 use Rattle.std.proofs.Common.{◌≡◌, ◌≢◌, ℕ, zero, suc, ◌+◌, ◌-◌, ◌*◌, ◌^◌, ◌≤◌, List, [], ◌∷◌, length, refl, arith, pow-suc}
-use Rattle.version_cell.specs.Signed.{powers}
+use Rattle.version_cell.specs.SignedEntries.{powers}
 
 -- a number is none of these
 abbrev pub IsNone : ℕ → List ℕ → Type 0

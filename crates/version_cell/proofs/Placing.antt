@@ -1,9 +1,6 @@
 -- Lists whose items have places.
 use Rattle.std.proofs.Common.{◌≡◌, ℕ, ◌+◌, ◌<◌, List, [], ◌∷◌, ◌++◌, length, refl, ap, ◌∙◌, arith}
 use Rattle.std.specs.List.{enumerate_from}
-use Rattle.std.proofs.lemmas.List.FromFn.{length-enumerate_from}
-use Rattle.version_log.specs.Log.{Log}
-use Rattle.version_cell.specs.Placed.{placed}
 
 pub numbered-append : {X : Type 0} (place : ℕ) (xs more : List X)
     → enumerate_from place (xs ++ more) ≡ enumerate_from place xs ++ enumerate_from (place + length xs) more
@@ -11,6 +8,3 @@ numbered-append place [] more = let at : place ≡ place + 0 = omega arith in ap
 numbered-append place (x ∷ xs) more =
     let at : place + 1 + length xs ≡ place + length (x ∷ xs) = omega arith in
     ap (λ all. (place, x) ∷ all) (numbered-append (place + 1) xs more ∙ ap (λ n. enumerate_from (place + 1) xs ++ enumerate_from n more) at)
-
-pub placed-length : (place : ℕ) (log : Log) → length (placed place log) ≡ length log
-placed-length place log = length-enumerate_from place log

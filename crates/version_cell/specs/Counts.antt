@@ -1,10 +1,10 @@
 -- Inside: what is counted of each seat.
 use Rattle.std.specs.Prelude.{◌≡◌, ◌<◌, ◌+◌, ℕ, List, length, slice_index_or, Bool, Option, Some}
 use Rattle.std.specs.Prelude.{None, if◌then◌else◌}
-use Rattle.version_cell.specs.Signed.{Signed, own}
+use Rattle.version_cell.specs.SignedEntries.{SignedEntry, own}
 
 -- how many entries of a log each seat made, by the numbers of the seats
-abbrev pub Counted : List ℕ → List Signed → Type 0
+abbrev pub Counted : List ℕ → List SignedEntry → Type 0
 Counted counts entries =
     (seat : ℕ) → seat < length counts → slice_index_or counts seat 0 ≡ length (own seat entries)
 

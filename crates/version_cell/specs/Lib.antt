@@ -4,9 +4,9 @@ pub mod Expiries
 pub mod Rules
 pub mod Blanks
 pub mod Merges
-pub mod Placed
-pub mod Signed
+pub mod PlacedEntries
+pub mod SignedEntries
 pub mod Shares
 pub mod Rests
 pub mod Counts
-pub mod Made
+pub mod MadeEntries

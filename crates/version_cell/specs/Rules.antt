@@ -4,11 +4,11 @@ use Rattle.std.specs.Prelude.{Option, Some, None}
 use Rattle.version_log.specs.Log.{Entry, Log, added, expired, puts_in}
 use Rattle.logbook.specs.Pages.{Cell, Step, View, Book, Named}
 use Rattle.version_cell.specs.Puts.{after_log}
-use Rattle.version_cell.specs.Signed.{Signed}
+use Rattle.version_cell.specs.SignedEntries.{SignedEntry}
 
 -- the first word is the length of the log. A book has two words, of which this one leaves the
 -- second at 0
-pub record IsKept (cells : List Cell) (log : List Signed) : Type 0 where
+pub record HoldsLog (cells : List Cell) (log : List SignedEntry) : Type 0 where
   pub words : cells ≡ (length log, true) ∷ (0, true) ∷ []
 
 -- the first word of a book
@@ -16,7 +16,7 @@ abbrev pub head_of : Book → Named
 head_of book = record { tracked = true; key = 0; book = book }
 
 -- the entry was added to all that had been seen; or the log was longer, and was seen
-abbrev pub Adds : Step Signed → View Signed ℕ → ℕ → View Signed ℕ → Type 0
+abbrev pub Adds : Step SignedEntry → View SignedEntry ℕ → ℕ → View SignedEntry ℕ → Type 0
 Adds step before found after =
     MatchBool (found == step.old) (after.0 ≡ before.0 ++ step.ask ∷ []) (length after.0 ≡ found)
 

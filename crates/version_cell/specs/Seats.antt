@@ -1,7 +1,7 @@
 -- What a contract sees of a seat, and what its calls do to it.
 use Rattle.std.specs.Prelude.{◌≡◌, ◌⊎◌, ℕ, ◌+◌, List, [], ◌∷◌}
 use Rattle.version_log.specs.Log.{Log}
-use Rattle.version_cell.specs.Placed.{Placed}
+use Rattle.version_cell.specs.PlacedEntries.{Placed}
 
 -- the number of the seat, the log that it has seen or was told of, the log that it entered last,
 -- how often it entered the cell, the entries that were made through it, in order, each with its
@@ -47,11 +47,12 @@ MakesNone old new = new.made ≡ old.made
 -- Seats that are done with: a log that goes on from all that they had seen, how many they are, how
 -- many entries were made through them, and which were made through each, with their places in the
 -- log, the last seat first.
-pub record GatheredAt : Type 0 where
+pub record GatheredSeatsAt : Type 0 where
   pub log : Log
   pub seats : ℕ
   pub made : ℕ
   pub each : List (List Placed)
 
-abbrev pub gathered_at : Log → ℕ → ℕ → List (List Placed) → GatheredAt
-gathered_at log seats made each = record { log = log; seats = seats; made = made; each = each }
+abbrev pub gathered_seats_at : Log → ℕ → ℕ → List (List Placed) → GatheredSeatsAt
+gathered_seats_at log seats made each =
+    record { log = log; seats = seats; made = made; each = each }

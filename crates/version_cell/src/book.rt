@@ -3,9 +3,9 @@ ghost use Rattle.std.specs.Prelude.{◌≡◌, ◌+◌, ◌<◌, ◌≤◌, ◌^
 ghost use Rattle.std.specs.Prelude.{IfSome};
 ghost use Rattle.version_log.specs.Log.{puts_in};
 ghost use Rattle.version_cell.specs.Rules.{head_of};
-ghost use Rattle.version_cell.specs.Signed.{log_of, GoesOn};
+ghost use Rattle.version_cell.specs.SignedEntries.{log_of, GoesOn};
 
-use crate::signed::Signed;
+use crate::signed_entries::SignedEntry;
 use logbook::{Gain, Offer, Plain, Play, Rule, Seen, Start, Word};
 use std::marker::{Brand, Model};
 use std::sync::ledger::Ledger;
@@ -16,12 +16,12 @@ const MOST_ENTRIES: u64 = 4_611_686_018_427_387_904;
 /// The rule of the book: its first word is the length of the log.
 pub struct Law;
 
-impl Rule<Signed, u64> for Law {
+impl Rule<SignedEntry, u64> for Law {
     ghost use Rattle.std.specs.Prelude.{[]};
     ghost use base.Fml.{ftrue};
-    ghost use Rattle.version_cell.specs.Rules.{IsKept};
+    ghost use Rattle.version_cell.specs.Rules.{HoldsLog};
 
-    ghost holds = { λ cells log. IsKept cells log };
+    ghost holds = { λ cells log. HoldsLog cells log };
 
     ghost first = { [] };
 
@@ -37,7 +37,7 @@ impl Rule<Signed, u64> for Law {
 /// Callers trade nothing.
 pub struct Nothing;
 
-impl Gain<Signed, u64> for Nothing {
+impl Gain<SignedEntry, u64> for Nothing {
     ghost use base.Fml.{ftrue};
 
     ghost after = { λ names about answer. ftrue };
@@ -46,13 +46,13 @@ impl Gain<Signed, u64> for Nothing {
 /// A step that adds an entry.
 pub struct Add;
 
-impl Play<Signed, u64> for Add {
+impl Play<SignedEntry, u64> for Add {
     ghost use Rattle.version_cell.specs.Rules.{Adds};
 
     ghost then = { Adds };
 }
 
-impl Plain<Signed, Signed, u64> for Add {
+impl Plain<SignedEntry, SignedEntry, u64> for Add {
     ghost use Rattle.std.specs.Prelude.{None};
 
     ghost ask = { λ entry. entry };
@@ -84,12 +84,12 @@ impl CellName for Brand {
 
 /// A book with an empty log, which has no name yet. Contracts see it as that book.
 #[derive(Drop)]
-pub struct Opened {
-    head: Word<Signed, u64, Law>,
-    seen: Seen<Signed, u64, Law>,
+pub struct UnnamedBook {
+    head: Word<SignedEntry, u64, Law>,
+    seen: Seen<SignedEntry, u64, Law>,
 }
 
-impl Model for Opened {
+impl Model for UnnamedBook {
     ghost use Rattle.std.specs.Prelude.{◌≡◌, []};
     ghost use Rattle.logbook.specs.Pages.{Book};
     ghost use Rattle.version_cell.specs.Rules.{head_of};
@@ -101,11 +101,11 @@ impl Model for Opened {
     ghost invariant = { λ o. (o.seen.log ≡ []) × (o.head ≡ head_of o.seen.book) };
 }
 
-impl Opened {
+impl UnnamedBook {
     /// Opens a book. It takes no memory.
-    pub fn new() -> Opened {
+    pub fn new() -> UnnamedBook {
         let (seen, mut first, _second) = Seen::open(Start::alone(), 0, 0);
-        Opened {
+        UnnamedBook {
             head: Word::tracked(0, &mut first),
             seen,
         }
@@ -116,7 +116,7 @@ impl Opened {
         ensures book { (result.0 ≡ head_of self) × (result.1.seen.book ≡ self) }
         ensures log { result.1.seen.log ≡ [] }
     {
-        let Opened { head, seen } = self;
+        let UnnamedBook { head, seen } = self;
         let history = History {
             entries: 0,
             puts: 0,
@@ -127,14 +127,14 @@ impl Opened {
 }
 
 /// The word that is the length of the log.
-pub type Head = Word<Signed, u64, Law>;
+pub type Head = Word<SignedEntry, u64, Law>;
 
 /// A beginning of the log that was reached.
 #[derive(Drop)]
 pub struct History {
     entries: u64,
     puts: u64,
-    pub seen: Seen<Signed, u64, Law>,
+    pub seen: Seen<SignedEntry, u64, Law>,
     pub ghost counted: { entries ≡ length seen.log },
     pub ghost numbered: { puts ≡ puts_in (log_of seen.log) },
 }
@@ -200,7 +200,7 @@ impl History {
 
     // How many puts it has with an entry added.
     #[tactic(auto, using(crate::proofs::Entries::puts_in_more, crate::proofs::Entries::few_puts))]
-    fn puts_with(&self, entry: &Signed) -> u64
+    fn puts_with(&self, entry: &SignedEntry) -> u64
         requires { length self.now.seen.log < 2 ^ 62 }
         ensures { result ≡ puts_in (log_of (self.now.seen.log ++ entry.now ∷ [])) }
     {
@@ -212,14 +212,18 @@ impl History {
     }
 
     /// The history with an entry added. None where the log is longer than this.
-    pub fn with(&self, head: &Head, entry: &Signed) -> Option<History>
+    pub fn with(&self, head: &Head, entry: &SignedEntry) -> Option<History>
         requires head { head.now ≡ head_of self.now.seen.book }
         requires room { length self.now.seen.log < 2 ^ 62 }
         ensures { IfSome result (λ h. (h.seen.book ≡ self.now.seen.book)
             × (h.seen.log ≡ self.now.seen.log ++ entry.now ∷ [])) }
     {
         let mut seen = self.seen.again();
-        let mut offer: Offer<Signed, u64, Law, Nothing> = seen.plain::<Nothing, Signed, Add>(entry);
+        let mut offer: Offer<SignedEntry, u64, Law, Nothing> = seen.plain::<
+            Nothing,
+            SignedEntry,
+            Add,
+        >(entry);
         let mut pen = seen.no_pen();
         let entries = self.entries;
         let found = head.compare_exchange::<Add, Nothing>(

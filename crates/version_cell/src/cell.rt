@@ -7,18 +7,17 @@ ghost use Rattle.version_cell.specs.Blanks.{IsNamed, most_seats};
 ghost use Rattle.version_cell.specs.Counts.{Counted};
 ghost use Rattle.version_cell.specs.Seats.{seat, IsNumbered};
 ghost use Rattle.version_cell.specs.Shares.{cutter_at};
-ghost use Rattle.version_cell.specs.Signed.{log_of};
+ghost use Rattle.version_cell.specs.SignedEntries.{log_of};
 ghost use Rattle.version_log.specs.Versions.{IsIndexOf};
 
-use crate::book::{CellName, History, Opened};
+use crate::book::{CellName, History, UnnamedBook};
+use crate::cell_rule::{Publish, Store};
 use crate::maker::Maker;
 use crate::publisher::{CellWriter, Publisher};
 use crate::putter::Putter;
 use crate::scanner::Scanner;
-use crate::shown::{Publishes, Store};
 use crate::tally::{Cutter, Ledgers};
-use hash_seed::HashSeed;
-use scan_base::Fault;
+use scan_base::{Fault, HashSeed};
 use std::alloc::{AllocError, Global};
 use std::marker::Model;
 use std::sync::{Arc, Wait};
@@ -29,7 +28,7 @@ use version_log::VersionIndex;
 /// have.
 #[derive(Drop)]
 pub struct Blank {
-    opened: Opened,
+    opened: UnnamedBook,
     ledgers: Ledgers,
     seats: usize,
     index: Arc<VersionIndex>,
@@ -63,7 +62,12 @@ impl Model for Blank {
 /// # Errors
 ///
 /// F21 (`Fault::OutOfMemory`) where memory is refused.
-pub fn open(alloc: Global, seed: HashSeed, seats: usize, opened: Opened) -> Result<Blank, Fault>
+pub fn open(
+    alloc: Global,
+    seed: HashSeed,
+    seats: usize,
+    opened: UnnamedBook,
+) -> Result<Blank, Fault>
     requires { (0 < seats) × (seats ≤ most_seats) }
     ensures ok { IfOk result (λ blank. (blank.seats ≡ seats) × (blank.book ≡ opened)) }
     ensures err { IfErr result (λ fault. fault ≡ OutOfMemory) }
@@ -162,7 +166,7 @@ fn with_room<C: CellName, R: Wait>(rt: &R, writer: CellWriter<C>) -> Option<Cell
         drop(writer.take(rt));
         return None;
     }
-    let (writer, done) = writer.publish_as::<Publishes, R>(rt);
+    let (writer, done) = writer.publish_as::<Publish, R>(rt);
     if done.is_err() {
         drop(writer.take(rt));
         return None;

@@ -3,11 +3,11 @@
 ghost use Rattle.std.specs.Prelude.{◌≡◌, ◌≤◌, ◌+◌, ◌^◌, ◌++◌, ◌∷◌, [], length};
 ghost use Rattle.version_cell.specs.Rests.{rest_at};
 ghost use Rattle.version_cell.specs.Shares.{shares_at};
-ghost use Rattle.version_cell.specs.Signed.{own, signed, maker_at, GoesOn, Learns};
+ghost use Rattle.version_cell.specs.SignedEntries.{own, signed, maker_at, GoesOn, Learns};
 
 use crate::book::{CellName, History};
-use crate::made::Made;
-use crate::rest::Rest;
+use crate::made_entries::MadeEntries;
+use crate::seat_rest::Rest;
 use crate::tally::{Shares, Tally};
 use crate::times::Times;
 use std::marker::Model;
@@ -21,7 +21,7 @@ use version_log::Entry;
 pub(crate) struct Maker<C: CellName> {
     pub(crate) seat: u64,
     pub(crate) history: History,
-    pub(crate) made: snapshot::Snapshot<Made>,
+    pub(crate) made: snapshot::Snapshot<MadeEntries>,
     // How many these are.
     pub(crate) count: u64,
     // How often it asked, for others to see.
@@ -33,7 +33,7 @@ pub(crate) struct Maker<C: CellName> {
 impl<C: CellName> Model for Maker<C> {
     ghost use Rattle.std.specs.Prelude.{◌≡◌, ◌^◌, length};
     ghost use Rattle.version_cell.specs.Shares.{shares_at};
-    ghost use Rattle.version_cell.specs.Signed.{IsAmong, MakerAt, maker_at, own};
+    ghost use Rattle.version_cell.specs.SignedEntries.{IsAmong, MakerAt, maker_at, own};
 
     ghost Value = { MakerAt };
 
@@ -56,7 +56,7 @@ impl<C: CellName> Maker<C> {
         Maker {
             seat,
             history,
-            made: Made::none(),
+            made: MadeEntries::none(),
             count: 0,
             asked: Times::none(),
             shares,
@@ -137,8 +137,8 @@ impl<C: CellName> Maker<C> {
     {
         let place = self.history.len();
         self.history = told.again();
-        let before = mem::replace(&mut self.made, Made::none());
-        self.made = Made::with(before, place, entry);
+        let before = mem::replace(&mut self.made, MadeEntries::none());
+        self.made = MadeEntries::with(before, place, entry);
         self.count += 1;
         tally.count(&mut self.shares);
     }

@@ -7,17 +7,17 @@ ghost use Rattle.scan_base.specs.Reading.{RefusesFirst};
 ghost use Rattle.scan_base.specs.declared.fault.Fault.TheVariants.{OutOfMemory};
 ghost use Rattle.version_log.specs.Expiry.{IsExpired};
 ghost use Rattle.version_log.specs.Log.{added, expired, puts_in, IsLog};
-ghost use Rattle.table_versions.specs.Stored.{put_of};
+ghost use Rattle.table_versions.specs.StoredTables.{put_of};
 ghost use Rattle.table_versions.specs.Valid.{IsPut};
 ghost use Rattle.version_cell.specs.Puts.{after_log, IsAnswered};
 ghost use Rattle.version_cell.specs.Rules.{head_of, Accepts};
-ghost use Rattle.version_cell.specs.Signed.{log_of, signed};
+ghost use Rattle.version_cell.specs.SignedEntries.{log_of, signed};
 ghost use Rattle.version_log.specs.Versions.{IsIndexOf};
 
 use crate::book::{CellName, Head, History};
-use crate::shown::{Entered, Publishes, Shown, Store};
-use crate::signed::Signed;
-use crate::told::Told;
+use crate::cell_rule::{CellRule, LastEnter, Publish, Store};
+use crate::signed_entries::SignedEntry;
+use crate::told_log::Told;
 use left_right::writer::Writer;
 use scan_base::Fault;
 use std::alloc::Global;
@@ -27,7 +27,7 @@ use std::{snapshot, thread};
 use table_versions::Put;
 use version_log::{Entry, VersionIndex};
 
-pub(crate) type CellWriter<C> = Writer<Store, Store, Entered, Shown<C>>;
+pub(crate) type CellWriter<C> = Writer<Store, Store, LastEnter, CellRule<C>>;
 
 /// A put that was accepted: its number, and the put as contracts see it.
 #[derive(Drop)]
@@ -50,9 +50,9 @@ impl<C: CellName, R: Wait + Drop> Model for Publisher<C, R> {
     ghost use Rattle.std.specs.Prelude.{◌≡◌, List, [], IsSome, IfSome};
     ghost use Rattle.version_log.specs.Log.{IsLog};
     ghost use Rattle.version_cell.specs.Rules.{head_of, read_or};
-    ghost use Rattle.version_cell.specs.Signed.{Signed, log_of};
+    ghost use Rattle.version_cell.specs.SignedEntries.{SignedEntry, log_of};
 
-    ghost Value = { List Signed };
+    ghost Value = { List SignedEntry };
 
     ghost view = { λ p. read_or [] (λ writer. writer.desk.shown.value.history.seen.log) p.writer };
 
@@ -100,7 +100,7 @@ impl<C: CellName, R: Wait + Drop> Publisher<C, R> {
 
     // Adds an entry to the book and shows the versions after it. From here on nothing can refuse
     // the entry.
-    fn commit(&mut self, index: Arc<VersionIndex>, entry: &Signed)
+    fn commit(&mut self, index: Arc<VersionIndex>, entry: &SignedEntry)
         requires kept { IsIndexOf (arc_value index) (log_of self.old ++ entry.now.entry ∷ []) }
         requires accepted { Accepts (log_of self.old) entry.now.entry }
         requires room { length self.old < 2 ^ 62 }
@@ -117,7 +117,7 @@ impl<C: CellName, R: Wait + Drop> Publisher<C, R> {
 
     // The history with the entry added. It asks again where the book were longer than what is
     // shown, which it never is.
-    fn record(&self, entry: &Signed) -> History
+    fn record(&self, entry: &SignedEntry) -> History
         requires room { length self.now < 2 ^ 62 }
         ensures book { result.seen.book ≡ C.book }
         ensures log { result.seen.log ≡ self.now ++ entry.now ∷ [] }
@@ -163,7 +163,7 @@ impl<C: CellName, R: Wait + Drop> Publisher<C, R> {
         ensures few { IfOk result (λ _. length self.new ≤ 2 ^ 62) }
     {
         let made_by = snapshot::Snapshot::of(&put);
-        let entry = Signed::new(seat, Entry::put(snapshot::Snapshot::of(&put)));
+        let entry = SignedEntry::new(seat, Entry::put(snapshot::Snapshot::of(&put)));
         let index = self.prepare(alloc, put)?;
         self.commit(index, &entry);
         Ok(Receipt {
@@ -183,7 +183,7 @@ impl<C: CellName, R: Wait + Drop> Publisher<C, R> {
         ensures few { IfOk result (λ _. length self.new ≤ 2 ^ 62) }
     {
         let index = self.store().without(alloc, version)?;
-        self.commit(index, &Signed::new(seat, Entry::mark(version)));
+        self.commit(index, &SignedEntry::new(seat, Entry::mark(version)));
         Ok(self.store().floor())
     }
 }
@@ -205,7 +205,7 @@ fn publish<C: CellName, R: Wait>(
     rt: &R,
     writer: CellWriter<C>,
     store: Store,
-    entry: &Signed,
+    entry: &SignedEntry,
 ) -> CellWriter<C>
     requires { store.history.seen.book ≡ C.book }
     ensures { result.desk.shown.value.history.seen ≡ store.history.seen }
@@ -246,7 +246,7 @@ fn show<C: CellName, R: Wait>(rt: &R, writer: CellWriter<C>) -> CellWriter<C>
 {
     let mut writer = writer;
     for _ in rt.forever() {
-        let (next, done) = writer.publish_as::<Publishes, R>(rt);
+        let (next, done) = writer.publish_as::<Publish, R>(rt);
         writer = next;
         if done.is_ok() {
             return writer;

@@ -4,16 +4,16 @@ ghost use Rattle.std.specs.Prelude.{◌≡◌, [], IfOk};
 ghost use Rattle.scan_base.specs.Reading.{RefusesFirst};
 ghost use Rattle.version_log.specs.Expiry.{IsExpired};
 ghost use Rattle.version_log.specs.Log.{puts_in, IsLog};
-ghost use Rattle.table_versions.specs.Stored.{put_of};
+ghost use Rattle.table_versions.specs.StoredTables.{put_of};
 ghost use Rattle.table_versions.specs.Valid.{IsPut};
 ghost use Rattle.version_cell.specs.Counts.{Counted};
 ghost use Rattle.version_cell.specs.Puts.{after_log, IsAnswered};
-ghost use Rattle.version_cell.specs.Signed.{log_of};
+ghost use Rattle.version_cell.specs.SignedEntries.{log_of};
 
 use crate::book::CellName;
 use crate::publisher::{Publisher, Receipt};
 use crate::tally::Tally;
-use crate::told::Told;
+use crate::told_log::Told;
 use scan_base::Fault;
 use std::alloc::Global;
 use std::marker::Model;
@@ -38,7 +38,7 @@ impl<C: CellName, R: Wait + Drop> Model for Putter<C, R> {
     ghost use Rattle.std.specs.Prelude.{◌≡◌, []};
     ghost use Rattle.version_log.specs.Log.{Log};
     ghost use Rattle.version_cell.specs.Counts.{Counted};
-    ghost use Rattle.version_cell.specs.Signed.{log_of};
+    ghost use Rattle.version_cell.specs.SignedEntries.{log_of};
 
     ghost Value = { Log };
 

@@ -4,21 +4,21 @@ ghost use Rattle.std.specs.Prelude.{◌≡◌, ◌+◌, ◌⊎◌, ◌≤◌, �
 ghost use Rattle.scan_base.specs.declared.fault.Fault.TheVariants.{OutOfMemory, VersionExpired};
 ghost use Rattle.scan_base.specs.declared.fault.Fault.TheVariants.{VersionUnknown};
 ghost use Rattle.version_log.specs.Log.{puts_in, floor_of, database_of, version, Begins};
-ghost use Rattle.table_versions.specs.Stored.{tables_of};
+ghost use Rattle.table_versions.specs.StoredTables.{tables_of};
 ghost use Rattle.version_cell.specs.Seats.{seat, AsksNone, EntersOnce, MakesNone, MayEnter};
-ghost use Rattle.version_cell.specs.Signed.{log_of, maker_at};
+ghost use Rattle.version_cell.specs.SignedEntries.{log_of, maker_at};
 
 use crate::book::CellName;
+use crate::cell_rule::{CellRule, Enter, LastEnter, Store};
 use crate::maker::Maker;
 use crate::publisher::CellWriter;
-use crate::shown::{Entered, Enters, Shown, Store};
-use crate::told::Told;
+use crate::told_log::Told;
 use left_right::reader::Reader;
 use scan_base::Fault;
 use std::marker::Model;
 use table_versions::Snapshot;
 
-type CellReader<C> = Reader<Store, Entered, Shown<C>>;
+type CellReader<C> = Reader<Store, LastEnter, CellRule<C>>;
 
 /// A seat of a cell. Contracts see it as its number, the log that it has seen or was told of, the
 /// log that it entered last, the number of its enters, the entries that were made through it, and
@@ -33,7 +33,7 @@ impl<C: CellName> Model for Scanner<C> {
     ghost use Rattle.std.specs.Prelude.{[], IsSome};
     ghost use Rattle.version_cell.specs.Rules.{read_or};
     ghost use Rattle.version_cell.specs.Seats.{Seat};
-    ghost use Rattle.version_cell.specs.Signed.{log_of};
+    ghost use Rattle.version_cell.specs.SignedEntries.{log_of};
 
     ghost Value = { Seat };
 
@@ -73,7 +73,7 @@ impl<C: CellName> Scanner<C> {
         ensures err { IfErr result (λ fault. (fault ≡ OutOfMemory) × MayEnter self.old self.new) }
     {
         let reader = self.reader.take().unwrap();
-        match reader.enter_as::<Enters<C>>() {
+        match reader.enter_as::<Enter<C>>() {
             Err(reader) => {
                 self.reader = Some(reader);
                 Err(Fault::OutOfMemory)

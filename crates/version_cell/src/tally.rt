@@ -10,22 +10,22 @@ use std::marker::{Model, PhantomData};
 use std::sync::ledger::{Blank, Book, Ledger, Share};
 
 /// The ledger in which a cell's asks are counted.
-pub struct Asking<C> {
+pub struct AskLedger<C> {
     of: PhantomData<C>,
 }
 
-impl<C: CellName> Ledger for Asking<C> {
+impl<C: CellName> Ledger for AskLedger<C> {
     ghost name = { C.asks };
 
     ghost parts = { C.parts };
 }
 
 /// The ledger of the numbers of a cell's seats: the share of a seat has 2 to its number.
-pub struct Numbering<C> {
+pub struct SeatLedger<C> {
     of: PhantomData<C>,
 }
 
-impl<C: CellName> Ledger for Numbering<C> {
+impl<C: CellName> Ledger for SeatLedger<C> {
     ghost name = { C.numbers };
 
     ghost parts = { C.parts };
@@ -35,8 +35,8 @@ impl<C: CellName> Ledger for Numbering<C> {
 #[derive(Drop)]
 pub(crate) struct Shares<C: CellName> {
     entries: Share<C>,
-    asks: Share<Asking<C>>,
-    numbers: Share<Numbering<C>>,
+    asks: Share<AskLedger<C>>,
+    numbers: Share<SeatLedger<C>>,
 }
 
 impl<C: CellName> Model for Shares<C> {
@@ -109,8 +109,8 @@ impl Ledgers {
 #[derive(Drop)]
 pub(crate) struct Cutter<C: CellName> {
     entries: Book<C>,
-    asks: Book<Asking<C>>,
-    numbers: Book<Numbering<C>>,
+    asks: Book<AskLedger<C>>,
+    numbers: Book<SeatLedger<C>>,
     rest: Shares<C>,
     next: u64,
 }
@@ -140,8 +140,8 @@ impl<C: CellName> Cutter<C> {
             numbers,
         } = ledgers;
         let (entries, of_entries) = entries.open::<C>();
-        let (asks, of_asks) = asks.open::<Asking<C>>();
-        let (numbers, of_numbers) = numbers.open::<Numbering<C>>();
+        let (asks, of_asks) = asks.open::<AskLedger<C>>();
+        let (numbers, of_numbers) = numbers.open::<SeatLedger<C>>();
         Cutter {
             entries,
             asks,
@@ -204,8 +204,8 @@ fn power_of(number: u64) -> u64
 #[derive(Drop)]
 pub(crate) struct Tally<C: CellName> {
     entries: Book<C>,
-    asks: Book<Asking<C>>,
-    numbers: Book<Numbering<C>>,
+    asks: Book<AskLedger<C>>,
+    numbers: Book<SeatLedger<C>>,
     none: Shares<C>,
 }
 

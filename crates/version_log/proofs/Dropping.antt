@@ -1,20 +1,16 @@
 -- Versions in a row, of which the first are dropped, or which are one more.
 use Rattle.std.proofs.Common.{◌≡◌, ℕ, zero, suc, ◌+◌, ◌-◌, ◌<◌, ◌≤◌, List, [], ◌∷◌, ◌++◌, length, drop, refl, sym, ap, ◌∙◌, arith, slice_get, length-append}
-use Rattle.std.proofs.lemmas.List.{length-drop, drop-append-le}
+use Rattle.std.proofs.lemmas.List.{length-drop}
 use Rattle.std.proofs.Math.Seq.{drop-append-add}
 use Rattle.scan_base.specs.Limits.{most_commits}
 use Rattle.shared_pages.proofs.Lists.{slice_get-append_right}
-use Rattle.table_versions.specs.Stored.{CatalogAt, VersionAt}
+use Rattle.table_versions.specs.StoredTables.{CatalogAt, VersionAt}
 use Rattle.version_log.specs.Index.{index_at, IsNewest}
 
 pub slice_get-drop : {X : Type 0} (k i : ℕ) (xs : List X) → slice_get (drop k xs) i ≡ slice_get xs (k + i)
 slice_get-drop zero i xs = let e : 0 + i ≡ i = omega arith in rw e refl
 slice_get-drop (suc k) i [] = refl
 slice_get-drop (suc k) i (x ∷ xs) = let e : suc k + i ≡ suc (k + i) = omega arith in rw e (slice_get-drop k i xs)
-
--- the rest of two lists from a place in the first, and from one in the second
-pub rest_of_first : {X : Type 0} (place : ℕ) (xs ys rest : List X) → place < length xs → rest ≡ drop place xs → rest ++ ys ≡ drop place (xs ++ ys)
-rest_of_first place xs ys rest small is = ap (λ l. l ++ ys) is ∙ sym (drop-append-le place xs ys (omega (arith, small)))
 
 pub rest_of_second : {X : Type 0} (place n : ℕ) (xs ys : List X) → place ≡ length xs + n → drop n ys ≡ drop place (xs ++ ys)
 rest_of_second place n xs ys is = rw is (sym (drop-append-add xs ys n))

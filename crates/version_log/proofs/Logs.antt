@@ -1,5 +1,5 @@
 -- What is said of a log is said of its puts.
-use Rattle.std.proofs.Common.{◌≡◌, ℕ, ◌≤◌, max, List, [], ◌∷◌, ◌++◌, map, Ok, refl, sym, subst, ap, ◌∙◌, arith, append-nil}
+use Rattle.std.proofs.Common.{◌≡◌, ℕ, max, List, [], ◌∷◌, ◌++◌, Ok, refl, sym, subst, ap, ◌∙◌, arith, append-nil}
 use Rattle.table_versions.specs.Database.{Database, Put, after, AreAccepted}
 use Rattle.version_log.specs.Log.{Log, added, expired, puts_of, puts_in, floor_of, database_of, IsLog, Begins}
 use Rattle.table_versions.proofs.Databases.{longer_log}
@@ -17,11 +17,6 @@ puts_of-added log put = puts_of-append log (added put ∷ [])
 pub puts_of-expired : (log : Log) (version : ℕ) → puts_of (log ++ expired version ∷ []) ≡ puts_of log
 puts_of-expired log version = puts_of-append log (expired version ∷ []) ∙ append-nil (puts_of log)
 
--- puts alone
-pub puts_of-map : (puts : List Put) → puts_of (map added puts) ≡ puts
-puts_of-map [] = refl
-puts_of-map (put ∷ puts) = ap (λ more. put ∷ more) (puts_of-map puts)
-
 -- the puts of a log go on where the log goes on
 pub begun_puts : (log more : Log) (begun : Begins log more) → puts_of more ≡ puts_of log ++ puts_of begun.0
 begun_puts log more begun = ap puts_of begun.1 ∙ puts_of-append log begun.0
@@ -38,10 +33,6 @@ floor_of-added log put = omega (arith, floor_of-append log (added put ∷ []))
 -- a mark lifts it to its number, or leaves it
 pub floor_of-expired : (log : Log) (version : ℕ) → floor_of (log ++ expired version ∷ []) ≡ max (floor_of log) version
 floor_of-expired log version = omega (arith, floor_of-append log (expired version ∷ []))
-
--- a floor is never lowered
-pub begun_floor : (log more : Log) → Begins log more → floor_of log ≤ floor_of more
-begun_floor log more begun = omega (arith, floor_of-append log begun.0, ap floor_of begun.1)
 
 -- an accepted put at the end of a log
 pub is_log-added : (log : Log) (put : Put) (database : Database) → IsLog log → after (database_of log) (puts_in log) put ≡ Ok database

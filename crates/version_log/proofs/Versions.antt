@@ -9,7 +9,7 @@ use Rattle.scan_base.specs.Limits.{most_commits}
 use Rattle.table_versions.specs.Database.{Database, Put, after, accepted, after_all}
 use Rattle.table_versions.specs.Database as puts
 use Rattle.version_log.specs.Log.{Log, added, expired, puts_of, puts_in, floor_of, database_of, version}
-use Rattle.table_versions.specs.Stored.{CatalogAt, VersionAt, tables_of}
+use Rattle.table_versions.specs.StoredTables.{CatalogAt, VersionAt, tables_of}
 use Rattle.table_versions.proofs.Databases.{logs_grow}
 use Rattle.version_log.proofs.Logs.{puts_of-added, puts_of-expired, floor_of-added, floor_of-expired}
 use Rattle.version_log.specs.Index.{IndexAt, index_at}
@@ -35,11 +35,11 @@ pub length-versions : (log : List Put) → length (versions_of log) ≡ suc (len
 unfolding versions_of
 length-versions log = length-from [] 0 log
 
-pub versions-at : (log : List Put) (k : ℕ) → k ≤ length log → slice_get (versions_of log) k ≡ Some (puts.version log k)
+pub versions-at : (log : List Put) (k : ℕ) → k ≤ length log → slice_get (versions_of log) k ≡ Some (puts.version_after log k)
 unfolding versions_of
 versions-at log k le = from-at [] 0 log k le
 
-pub versions-more : (log : List Put) (put : Put) → versions_of (log ++ put ∷ []) ≡ versions_of log ++ puts.database_of (log ++ put ∷ []) ∷ []
+pub versions-more : (log : List Put) (put : Put) → versions_of (log ++ put ∷ []) ≡ versions_of log ++ puts.database_after (log ++ put ∷ []) ∷ []
 unfolding versions_of
 versions-more log put = from-more [] 0 log put
 
@@ -80,7 +80,7 @@ module _ (index : IndexAt) (log : Log) (kept : IsIndexOf index log) where
   newest_tables number catalog last there at =
       let whole : take (length (puts_of log)) (puts_of log) ≡ puts_of log = grind (arith, common_steps) in
       let same = newest_number number last there in
-      version_at number catalog (omega (arith, same.0, same.1)) (omega (arith, same.0)) at ∙ ap (λ n. version log n) same.0 ∙ ap puts.database_of whole
+      version_at number catalog (omega (arith, same.0, same.1)) (omega (arith, same.0)) at ∙ ap (λ n. version log n) same.0 ∙ ap puts.database_after whole
 
   -- a number from the floor on, up to the newest, is one of the index
   pub is_there : (k : ℕ) → floor_of log ≤ k → k ≤ puts_in log → (index.floor ≤ k) × (k < index.floor + length index.versions)
@@ -100,11 +100,11 @@ module _ (index : IndexAt) (log : Log) (kept : IsIndexOf index log) where
       let old = puts_of log in
       let floor = floor_of log in
       let grown = logs_grow old put (tables_of catalog) accepts in
-      let new : puts.database_of (old ++ put ∷ []) ≡ tables_of catalog = ap puts.database_of (sym grown.0) ∙ grown.1 in
+      let new : puts.database_after (old ++ put ∷ []) ≡ tables_of catalog = ap puts.database_after (sym grown.0) ∙ grown.1 in
       let within : floor ≤ length (versions_of old) = omega (arith, there, length-versions old) in
       let tables : map tables_of (index.versions ++ catalog ∷ []) ≡ drop floor (versions_of (old ++ put ∷ [])) =
       map-append tables_of index.versions (catalog ∷ []) ∙ ap (λ l. l ++ tables_of catalog ∷ []) kept.tables ∙ ap (λ d. drop floor (versions_of old) ++ d ∷ []) (sym new)
-      ∙ sym (drop-append-le floor (versions_of old) (puts.database_of (old ++ put ∷ []) ∷ []) within) ∙ ap (drop floor) (sym (versions-more old put)) in
+      ∙ sym (drop-append-le floor (versions_of old) (puts.database_after (old ++ put ∷ []) ∷ []) within) ∙ ap (drop floor) (sym (versions-more old put)) in
       record {
         floor = kept.floor ∙ sym (floor_of-added log put);
         tables = tables ∙ ap (λ n. drop n (versions_of (old ++ put ∷ []))) (sym (floor_of-added log put)) ∙ ap (λ ps. drop (floor_of (log ++ added put ∷ [])) (versions_of ps)) (sym (puts_of-added log put));

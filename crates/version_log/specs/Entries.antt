@@ -3,7 +3,7 @@ use Rattle.std.specs.Prelude.{ℕ, ◌+◌, [], ◌∷◌, ◌++◌, Option, Som
 use Rattle.version_log.specs.declared.log_entries.Deed.{Deed}
 use Rattle.version_log.specs.declared.log_entries.Deed.TheVariants.{Added, Expired}
 use Rattle.version_log.specs.Log.{Entry, Log, added, expired}
-use Rattle.table_versions.specs.Stored.{put_of}
+use Rattle.table_versions.specs.StoredTables.{put_of}
 
 -- what was done, as the log has it
 abbrev pub entry_of : Deed → Entry

@@ -1,7 +1,7 @@
 -- What a contract sees of an index, and what an index keeps.
 use Rattle.std.specs.Prelude.{◌≡◌, ℕ, ◌≤◌, ◌+◌, ◌-◌, List, length, Some, slice_get}
 use Rattle.scan_base.specs.Limits.{most_commits}
-use Rattle.table_versions.specs.Stored.{CatalogAt, VersionAt}
+use Rattle.table_versions.specs.StoredTables.{CatalogAt, VersionAt}
 
 -- the number of the oldest version that is there, and the tables of all versions from it on
 pub record IndexAt : Type 0 where

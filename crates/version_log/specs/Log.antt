@@ -1,8 +1,7 @@
 -- The log: what was accepted, in order: puts, and expiries, each of which is a mark.
-use Rattle.std.specs.Prelude.{◌≡◌, ℕ, max, List, [], ◌∷◌, ◌++◌, length, All}
+use Rattle.std.specs.Prelude.{◌≡◌, ℕ, max, List, [], ◌∷◌, ◌++◌, length}
 use Rattle.table_versions.specs.Database.{Database, Put}
 use Rattle.table_versions.specs.Database as puts
-use Rattle.table_versions.specs.Valid.{IsPut}
 
 -- an entry of a log: a put, or the mark of an expiry of the versions below a number
 pub data Entry : Type 0 where
@@ -31,19 +30,15 @@ floor_of (expired version ∷ log) = max version (floor_of log)
 
 -- the newest database of a log
 abbrev pub database_of : Log → Database
-database_of log = puts.database_of (puts_of log)
+database_of log = puts.database_after (puts_of log)
 
 -- the database after the first n puts of a log
 abbrev pub version : Log → ℕ → Database
-version log n = puts.version (puts_of log) n
+version log n = puts.version_after (puts_of log) n
 
 -- each put of a log was accepted by the version before it
 abbrev pub IsLog : Log → Type 0
 IsLog log = puts.AreAccepted (puts_of log)
-
--- each put of a log comes with one column or more, and with rows of their types
-abbrev pub ArePuts : Log → Type 0
-ArePuts log = All IsPut (puts_of log)
 
 -- a log goes on from another
 abbrev pub Begins : Log → Log → Type 0

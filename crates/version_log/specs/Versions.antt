@@ -2,7 +2,7 @@
 use Rattle.std.specs.Prelude.{◌≡◌, ℕ, ◌+◌, List, [], ◌∷◌, drop, map}
 use Rattle.table_versions.specs.Database.{Database, Put, after, accepted}
 use Rattle.version_log.specs.Log.{Log, puts_of, floor_of}
-use Rattle.table_versions.specs.Stored.{tables_of}
+use Rattle.table_versions.specs.StoredTables.{tables_of}
 use Rattle.version_log.specs.Index.{IndexAt}
 
 -- this database, and those after each of these puts, where n were accepted before them

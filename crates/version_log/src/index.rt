@@ -6,7 +6,7 @@ ghost use Rattle.std.specs.Arc.{arc_value};
 ghost use Rattle.scan_base.specs.Limits.{most_commits};
 ghost use Rattle.version_log.specs.Index.{index_at};
 
-use hash_seed::HashSeed;
+use scan_base::HashSeed;
 use shared_pages::Pages;
 use shared_pages::handles::shared_from;
 use std::alloc::{AllocError, Global};

@@ -2,7 +2,7 @@
 
 ghost use Rattle.std.specs.Prelude.{◌≡◌, ◌++◌, ◌∷◌, [], MatchBool};
 ghost use Rattle.version_log.specs.Log.{added, expired, puts_in};
-ghost use Rattle.table_versions.specs.Stored.{put_of};
+ghost use Rattle.table_versions.specs.StoredTables.{put_of};
 
 use std::marker::Model;
 use std::snapshot::Snapshot;

@@ -1,8 +1,9 @@
-//! Who watches long work, and what a row of it costs.
+//! Who watches long work, how often, and what a row of it costs.
 #![tactic(auto)]
 
+pub mod pace;
 pub mod watch;
 mod weight;
 
-pub use crate::watch::{Unwatched, Watches, tell};
+pub use crate::watch::{NoWatch, Watches, tell};
 pub use crate::weight::comparisons_in;

@@ -46,9 +46,9 @@ pub trait Watches {
 
 /// Nobody watches: the work goes on to its end.
 #[derive(Clone, Copy, Drop)]
-pub struct Unwatched;
+pub struct NoWatch;
 
-impl Watches for Unwatched {
+impl Watches for NoWatch {
     ghost ready = { λ _. Unit {0} };
 
     // It never ends the work.

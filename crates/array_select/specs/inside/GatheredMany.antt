@@ -24,8 +24,8 @@ abbrev pub AreThere : SlotPlaces → Type 0
 AreThere slots = All (IsPlaceIn (columns_of slots)) slots.places.now
 
 -- the place of a slot, by its number among the places
-abbrev pub place_at : List SlotPlace → ℕ → SlotPlace
-place_at places k = get_or places k (record { column = 0; place = 0 })
+abbrev pub slot_place_at : List SlotPlace → ℕ → SlotPlace
+slot_place_at places k = get_or places k (record { column = 0; place = 0 })
 
 -- `cells` has the numbers of a column's slots, packed in so many bytes each; those of nulls may be
 -- any
@@ -44,15 +44,16 @@ pub record HaveNumbers (number : ℕ → ℤ) (width : ℕ) (sources : List (Lis
 
 -- each place is one of the packed numbers
 pub record HaveRoom (width : ℕ) (sources : List (List ℕ)) (places : List SlotPlace) : Type 0 where
-  pub source : (k : ℕ) → k < length places → (place_at places k).column < length sources
+  pub source : (k : ℕ) → k < length places → (slot_place_at places k).column < length sources
   pub room : (k : ℕ) → k < length places →
-      width * (place_at places k).place + width
-      ≤ length (get_or sources (place_at places k).column [])
+      width * (slot_place_at places k).place + width
+      ≤ length (get_or sources (slot_place_at places k).column [])
 
 -- the packed number of a slot, by the number of its place
 abbrev pub cell_at : ℕ → List (List ℕ) → List SlotPlace → ℕ → ℕ
 cell_at width sources places k =
-    element_at width (get_or sources (place_at places k).column []) (place_at places k).place
+    element_at width (get_or sources (slot_place_at places k).column [])
+    (slot_place_at places k).place
 
 -- `packed` has the numbers at the first `count` places, where they are valid
 pub record HasCellsAt (width : ℕ) (packed : List ℕ) (sources : List (List ℕ))

@@ -3,7 +3,7 @@ use Rattle.std.specs.Prelude.{◌≡◌, ◌≤◌, ℕ, List, length, All}
 use Rattle.scan_base.specs.declared.value.Value.{Value}
 use Rattle.scan_base.specs.Limits.{most_values}
 use Rattle.scan_base.specs.Value.{IsTextOrNull}
-use Rattle.arrays.specs.Written.{text_bytes}
+use Rattle.arrays.specs.WrittenSlots.{text_bytes}
 
 -- A dictionary counts its values, which are texts and nulls, and no more than there may be. It
 -- knows a number of bytes that none of the texts has more of.

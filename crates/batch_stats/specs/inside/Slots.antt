@@ -2,16 +2,12 @@
 use Rattle.std.specs.Prelude.{◌≡◌, ◌≤◌, ◌<◌, ◌-◌, ℕ, Bool, true, List, Option, None, map}
 use Rattle.std.specs.List.{fold, range_with_len}
 use Rattle.scan_base.specs.declared.value.Value.{Value}
-use Rattle.arrays.specs.Validity.{is_valid, where_valid, IsLong}
+use Rattle.arrays.specs.Validity.{is_valid, where_valid}
 use Rattle.batch_stats.specs.Stats.{with_value}
 
 -- ends with the values of the slots `from` up to, not with, `to`
 abbrev pub ends_with : Option (Value × Value) → (ℕ → Value) → ℕ → ℕ → Option (Value × Value)
 ends_with ends slot from to = fold with_value ends (map slot (range_with_len from (to - from)))
-
--- there are validity bits of the slots below a place, where there are some
-abbrev pub HasBits : Option (List Bool) → ℕ → Type 0
-HasBits validity to = (count : ℕ) × (to ≤ count) × IsLong validity count
 
 -- no slot before a place is valid, and this one is
 pub record IsFirstValid (validity : Option (List Bool)) (from to place : ℕ) : Type 0 where

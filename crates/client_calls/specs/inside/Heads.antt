@@ -3,7 +3,7 @@ use Rattle.std.specs.Prelude.{ℕ, List, [], ◌∷◌, ◌++◌, Some, None}
 use Rattle.flight_proto.specs.FlightData.{data_bytes}
 use Rattle.flight_info.specs.Payloads.{Payload}
 use Rattle.ipc_stream.specs.declared.message.IpcMessage.{IpcMessage}
-use Rattle.client_calls.specs.declared.putting.Target.{Target}
+use Rattle.client_calls.specs.declared.put_call.Target.{Target}
 use Rattle.client_calls.specs.Commands.{put_descriptor, carried_in}
 
 -- the descriptor alone

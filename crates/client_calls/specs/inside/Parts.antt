@@ -12,7 +12,7 @@ use Rattle.client_calls.specs.declared.failure.Failure.{Failure}
 use Rattle.client_calls.specs.declared.failure.Failure.TheVariants.{Found}
 use Rattle.client_calls.specs.Answers.{Incoming, Stop, stopped_at}
 use Rattle.client_calls.specs.Calls.{Fit}
-use Rattle.client_calls.specs.Outcome.{Outgoing, Line, IsWritten, IsBegun, WhyNot, left_of}
+use Rattle.client_calls.specs.Outcome.{Outgoing, Line, IsWritten, WroteBeginning, WhyNot, left_of}
 use Rattle.client_calls.specs.Outcome.{stopped_by}
 
 -- the ends by their parts
@@ -42,7 +42,7 @@ abbrev pub WritesCall : Result (Unit {0}) Fault → Method → List Payload → 
     Outgoing → Type 0
 WritesCall (Ok done) method messages old new = IsWritten method messages old new
 WritesCall (Err fault) method messages old new =
-    ((fault ≡ Transport) × IsBegun method messages old new)
+    ((fault ≡ Transport) × WroteBeginning method messages old new)
     ⊎ ((fault ≡ MessageTooLarge) × (¬ Fit messages) × (new ≡ old))
 
 -- the same on a connection

@@ -12,15 +12,16 @@ use Rattle.flight_client.specs.Stream.{StreamAt, Came, payload_glance, payload_n
 use Rattle.client_calls.specs.declared.answer.Arrival.TheVariants as arrival
 use Rattle.client_calls.specs.declared.failure.Failure.{Failure}
 use Rattle.client_calls.specs.declared.failure.Failure.TheVariants.{Answered}
-use Rattle.client_calls.specs.declared.taken.Took.{Took}
-use Rattle.client_calls.specs.declared.taken.Took.TheVariants as took
-use Rattle.client_calls.specs.Answers.{AnswersStream, Incoming, Stands}
+use Rattle.client_calls.specs.declared.fetch_piece.FetchPiece.{FetchPiece}
+use Rattle.client_calls.specs.declared.fetch_piece.FetchPiece.TheVariants as took
+use Rattle.client_calls.specs.Answers.{Incoming}
+use Rattle.client_calls.specs.StreamAnswers.{AnswersStream, Stands}
 use Rattle.client_calls.specs.Taking.{Taken, ended, with_batch}
 use Rattle.client_calls.specs.inside.Arriving.{ArrivesAs}
 use Rattle.client_calls.specs.inside.Parts.{given, incoming_of, left_behind}
 
 -- the batch that a payload says, if it says one
-abbrev pub batch_in : Took → Option BatchAt
+abbrev pub batch_in : FetchPiece → Option BatchAt
 batch_in (took.Payload batch) = batch
 batch_in took.End = None
 
@@ -36,7 +37,8 @@ pub record RefusesPayload (state : State) (fault : Fault) (old new : Incoming)
   pub instead : Stands left found fault
 
 -- what comes next of an answer: a payload and what it says, or the status, or neither
-abbrev pub TakesAs : Result (Result Took Failure) Fault → State → State → Incoming → Incoming →
+abbrev pub TakesAs : Result (Result FetchPiece Failure) Fault → State → State → Incoming →
+    Incoming →
     Received → Received → Type 0
 TakesAs (Ok (Ok (took.Payload batch))) before after old new all left =
     (payload : Payload) × ArrivesAs (Ok (arrival.Message payload)) old new all left

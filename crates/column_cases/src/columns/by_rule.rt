@@ -2,8 +2,8 @@
 
 ghost use Rattle.std.specs.Prelude.{◌<◌, ◌^◌, IfOk, length, map};
 ghost use Rattle.scan_base.specs.declared.value.Value.TheVariants.{Text};
-ghost use Rattle.arrays.specs.Written.{texts_joined};
-ghost use Rattle.array_select.specs.Built.{value_or_null};
+ghost use Rattle.arrays.specs.WrittenSlots.{texts_joined};
+ghost use Rattle.array_select.specs.ColumnValues.{value_or_null};
 
 use crate::pieces::first_word;
 use anyhow::{Result, bail};

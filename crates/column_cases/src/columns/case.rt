@@ -4,7 +4,7 @@ use anyhow::{Context, Result};
 
 /// What a column is made of, the slots of it that are kept, and which of those are gathered.
 #[derive(Clone, Copy)]
-pub struct Case<'a> {
+pub struct ColumnCase<'a> {
     /// A type: `Int8` .. `UInt64`, `Decimal128`, `Bool` or `Utf8`.
     pub kind: &'a str,
     /// How many slots there are.
@@ -22,15 +22,15 @@ pub struct Case<'a> {
     pub every: Option<usize>,
 }
 
-impl<'a> Case<'a> {
+impl<'a> ColumnCase<'a> {
     /// The case of a row, where it has all words. The last may be left out.
-    pub fn read(row: &'a str) -> Result<Case<'a>> {
-        Case::of_words(row).context("too few words")
+    pub fn read(row: &'a str) -> Result<ColumnCase<'a>> {
+        ColumnCase::of_words(row).context("too few words")
     }
 
-    fn of_words(row: &'a str) -> Option<Case<'a>> {
+    fn of_words(row: &'a str) -> Option<ColumnCase<'a>> {
         let mut words = row.split_whitespace();
-        Some(Case {
+        Some(ColumnCase {
             kind: words.next()?,
             len: number(words.next()?),
             validity: words.next()?,

@@ -3,19 +3,18 @@
 ghost use Rattle.std.specs.Prelude.{◌≡◌, ◌≤◌, [], ◌∷◌, All, IfOk, map};
 ghost use Rattle.scan_base.specs.Limits.{most_values};
 ghost use Rattle.scan_base.specs.Value.{IsTextOrNull};
-ghost use Rattle.arrow_schema.specs.declared.data_type.DataType.TheVariants.{
+ghost use Rattle.arrow_types.specs.declared.data_type.DataType.TheVariants.{
   Dictionary as DictionaryColumn,
 };
-ghost use Rattle.arrow_schema.specs.declared.data_type.IntegerType.TheVariants.{Int32 as Four};
+ghost use Rattle.arrow_types.specs.declared.data_type.IntegerType.TheVariants.{Int32 as Four};
 ghost use Rattle.arrays.specs.Column.{values_of};
 
 use anyhow::{Result, bail};
 use arrays::laws::values_are_of_their_type;
 use arrays::{Batch, Cells, Column, Layout, Slots};
-use arrow_schema::{DataType, DictionaryEncoding, Field, IntegerType, Schema};
-use dictionary_answers::{Stop, code_batch, code_column, column_of_indices};
-use hash_seed::HashSeed;
-use scan_base::{Items, Text};
+use arrow_types::{DataType, DictionaryEncoding, Field, IntegerType, Schema};
+use dictionary_answers::code_batch;
+use scan_base::{HashSeed, Items, Text};
 use std::alloc::{AllocError, Global};
 
 // The texts of a row have fewer bytes.
@@ -24,16 +23,13 @@ const ROOM: usize = 1_048_576;
 // Columns of so many slots are coded.
 const MOST_VALUES: usize = 16_777_216;
 
-/// A column of texts as it is coded in a batch, and the texts over which it lies; then the same
-/// column coded alone.
+/// A column of texts as it is coded in a batch, and the texts over which it lies.
 pub fn codings(alloc: Global, seed: HashSeed, column: &Column) -> Result<Vec<Column>> {
     let rows = column.len();
     values_are_of_their_type();
     match column.layout() {
         Layout::Texts(_) | Layout::Indices(_) if rows <= MOST_VALUES => {
-            let mut made = coded_batch(alloc, seed, column)?;
-            made.push(coded_alone(alloc, seed, column)?)?;
-            Ok(made)
+            coded_batch(alloc, seed, column)
         }
         _ => bail!("no column of texts"),
     }
@@ -58,20 +54,6 @@ fn coded_batch(alloc: Global, seed: HashSeed, column: &Column) -> Result<Vec<Col
     for dictionary in coded.dictionaries.as_slice() {
         made.push(Column::new(Slots::texts(dictionary.texts.share()?)))?;
     }
-    Ok(made)
-}
-
-// A column coded by itself.
-fn coded_alone(alloc: Global, seed: HashSeed, column: &Column) -> Result<Column>
-    requires few { column.now.len ≤ most_values }
-    requires texts { All IsTextOrNull (values_of column.now) }
-{
-    let coded = match code_column(alloc, seed, column, ROOM) {
-        Ok(coded) => coded,
-        Err(Stop::OutOfRoom) => bail!("no room for the texts"),
-        Err(Stop::OutOfMemory) => bail!("out of memory"),
-    };
-    let (made, _) = column_of_indices(alloc, coded.places(), coded.texts())?;
     Ok(made)
 }
 

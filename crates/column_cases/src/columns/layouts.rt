@@ -1,16 +1,16 @@
 //! Slots from cases.
 
-use crate::columns::case::{Case, number};
+use crate::columns::case::{ColumnCase, number};
 use crate::pieces::{buffer, optional_buffer};
 use anyhow::{Context, Result};
 use arrays::{Dictionary, Slots, Texts};
-use arrow_schema::IntegerType;
+use arrow_types::IntegerType;
 use bytes::Bytes;
 use std::alloc::Global;
 use std::sync::Arc;
 
 /// The slots of a case.
-pub fn layout(alloc: Global, case: &Case<'_>) -> Result<Slots> {
+pub fn layout(alloc: Global, case: &ColumnCase<'_>) -> Result<Slots> {
     let validity = optional_buffer(alloc, case.validity)?;
     let values = buffer(alloc, case.values)?;
     Ok(match case.kind {
@@ -44,7 +44,7 @@ fn numbers(
     integer: IntegerType,
     validity: Option<Bytes>,
     values: Bytes,
-    case: &Case<'_>,
+    case: &ColumnCase<'_>,
 ) -> Result<Slots> {
     if case.texts == "-" {
         return Ok(Slots::integers(integer, validity, values, case.len)?);

@@ -1,17 +1,17 @@
 //! Slots of columns in any order, and more than once, as a column of its own.
 
 ghost use Rattle.std.specs.Prelude.{◌≡◌, ◌<◌, All, IfOk};
-ghost use Rattle.arrow_schema.specs.declared.data_type.DataType.{DataType};
-ghost use Rattle.arrays.specs.Typed.{IsOfType};
+ghost use Rattle.arrow_types.specs.declared.data_type.DataType.{DataType};
+ghost use Rattle.arrays.specs.TypedLayouts.{IsOfType};
 ghost use Rattle.array_select.specs.OfSlots.{IsSlotOf};
 
-use crate::columns::case::Case;
+use crate::columns::case::ColumnCase;
 use crate::columns::layouts::layout;
 use crate::pieces::first_word;
 use anyhow::{Result, bail};
 use array_select::{SlotRef, column_of_slots, texts_fit};
 use arrays::{Cells, Column, Layout};
-use arrow_schema::{DataType, DictionaryEncoding};
+use arrow_types::{DataType, DictionaryEncoding};
 use std::alloc::Global;
 
 // How many turns there are, and how far the slot of each is after that of the one before.
@@ -31,7 +31,7 @@ pub fn column_of_turns(alloc: Global, words: &str) -> Result<Column> {
         count: count.parse::<u32>()?,
         step: step.parse::<u32>()?,
     };
-    let case = Case::read(row)?;
+    let case = ColumnCase::read(row)?;
     let whole = Column::new(layout(alloc, &case)?);
     if case.from > case.to || case.to > whole.len() {
         bail!("slots that are not there");

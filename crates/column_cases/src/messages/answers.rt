@@ -1,7 +1,7 @@
 //! What a reader answers, in words.
 
 use arrays::{Batch, Cells, Column};
-use arrow_schema::{DataType, Schema};
+use arrow_types::{DataType, Schema};
 use scan_base::{Fault, ValueRef};
 use std::alloc::{AllocError, Global};
 

@@ -1,12 +1,13 @@
 //! Cases: messages that a reader is given one after the other.
 
-ghost use Rattle.arrow_schema.specs.Schema.{IsSchema};
+ghost use Rattle.arrow_types.specs.Schema.{IsSchema};
 
 use crate::messages::answers::{Answer, answer_text, push_count, push_rows};
 use crate::messages::by_name::Messages;
 use anyhow::{Context, Result, bail};
 use arrays::Batch;
-use arrow_schema::{MAX_COLUMNS, Schema, write_schema};
+use arrow_schema::write_schema;
+use arrow_types::{MAX_COLUMNS, Schema};
 use bytes::Bytes;
 use ipc_batch::{Reader, WrittenMessage, write_batch};
 use std::alloc::{AllocError, Global};
@@ -52,7 +53,7 @@ fn read_before(alloc: Global, messages: &Messages, reader: &mut Reader, names: &
 
 /// What a reader said to the last of some messages.
 #[derive(Drop)]
-pub struct Hearing {
+pub struct ReaderAnswer {
     reader: Reader,
     is_first: bool,
     answer: Answer,
@@ -65,12 +66,12 @@ pub fn hear(
     before: &str,
     header: &[u8],
     body: &[u8],
-) -> Result<Hearing> {
+) -> Result<ReaderAnswer> {
     let mut reader = Reader::new();
     read_before(alloc, messages, &mut reader, before)?;
     let is_first = reader.schema().is_none();
     let answer = read(alloc, &mut reader, header, body)?;
-    Ok(Hearing {
+    Ok(ReaderAnswer {
         reader,
         is_first,
         answer,
@@ -78,13 +79,13 @@ pub fn hear(
 }
 
 /// What a reader says to the last of some messages.
-pub fn hear_last(alloc: Global, messages: &Messages, names: &str) -> Result<Hearing> {
+pub fn hear_last(alloc: Global, messages: &Messages, names: &str) -> Result<ReaderAnswer> {
     let (before, name) = last_name(names);
     let message = messages.get(name)?;
     hear(alloc, messages, before, &message.header, &message.body)
 }
 
-impl Hearing {
+impl ReaderAnswer {
     /// What was said, in words.
     pub fn text(&self, alloc: Global) -> Result<String, AllocError> {
         let schema = if self.is_first {
@@ -105,7 +106,7 @@ impl Hearing {
 
     // What is said of the schema or the batch, once our own writer wrote it. Before the batch come
     // the dictionaries among messages.
-    fn again(&self, alloc: Global, messages: &Messages, names: &str) -> Result<Hearing> {
+    fn again(&self, alloc: Global, messages: &Messages, names: &str) -> Result<ReaderAnswer> {
         let schema = self.reader.schema().context("no schema")?;
         let mut hearing = schema_again(alloc, schema)?;
         if let Ok(Some(batch)) = &self.answer {
@@ -142,13 +143,13 @@ pub fn own_message(alloc: Global, batch: &Batch) -> Result<WrittenMessage> {
 }
 
 // What a reader says to the schema of our own writer.
-fn schema_again(alloc: Global, schema: &Schema) -> Result<Hearing, AllocError>
+fn schema_again(alloc: Global, schema: &Schema) -> Result<ReaderAnswer, AllocError>
     requires { IsSchema schema.now }
 {
     let header = write_schema(alloc, schema)?;
     let mut reader = Reader::new();
     let answer = read(alloc, &mut reader, &header, &[])?;
-    Ok(Hearing {
+    Ok(ReaderAnswer {
         reader,
         is_first: true,
         answer,

@@ -1,8 +1,7 @@
 -- Inside: workers, with what they drew.
-use Rattle.std.specs.Prelude.{◌≡◌, ◌⊎◌, ◌<◌, ℕ, ◌+◌, length, List, [], ◌++◌, map, All, IsErr, IfOk}
-use Rattle.std.specs.Prelude.{IsSome, Option, Some, None, Result}
+use Rattle.std.specs.Prelude.{◌≡◌, ◌<◌, ℕ, List, [], map, IfOk}
+use Rattle.std.specs.Prelude.{IsSome, Option, Some, None}
 use Rattle.atomic_table.specs.Seated.{TableId}
-use Rattle.scan_base.specs.declared.fault.Fault.{Fault}
 use Rattle.version_log.specs.Log.{Log, Begins}
 use Rattle.logbook.specs.Pages.{Book}
 use Rattle.version_cell.specs.Rests.{RestAt}
@@ -12,12 +11,12 @@ use Rattle.flight_core.specs.Seats.{Seat, seat_of}
 use Rattle.shared_calls.specs.Sharing.{onward, seat_at}
 use Rattle.connection_turns.specs.Drawers.{DrawerAt, drawer_at}
 use Rattle.command_ends.specs.Network.{Accepting, Ends}
-use Rattle.command_ends.specs.Printing.{AnnouncedAt}
-use Rattle.commands.specs.declared.crew.Hired as declared
-use Rattle.commands.specs.Port.{IsFresh, Sharing, SharesEach}
-use Rattle.commands.specs.Shown.{IsNewSeat}
-use Rattle.commands.specs.Serve.{Pays, Work, Worker, ServesUpTo, drawn_by, first_fault, made_by}
-use Rattle.commands.specs.Serve.{made_by_each, worker_of}
+use Rattle.command_ends.specs.Printing.{PortLineAt}
+use Rattle.commands.specs.declared.crew.CrewMember as declared
+use Rattle.commands.specs.ShownSeat.{IsNewSeat}
+use Rattle.commands.specs.Serve.{Pays, Worker, ServesUpTo}
+use Rattle.commands.specs.ServeSideBySide.{Work}
+use Rattle.commands.specs.Serve.{worker_of}
 
 -- a worker's seat of the cell, which is always there between two connections
 abbrev pub seat_in : Option cell.Seat → Seat
@@ -26,7 +25,7 @@ seat_in None = seat_of [] 0
 
 -- a worker as the code has it
 abbrev pub HiredWorker : Type 0 → Type 0
-HiredWorker L = declared.Hired L cell.Seat DrawerAt
+HiredWorker L = declared.CrewMember L cell.Seat DrawerAt
 
 abbrev pub state_of : {L : Type 0} → HiredWorker L → Worker L
 state_of hired = worker_of hired.listener (seat_in hired.scanner)
@@ -57,7 +56,7 @@ pub record IsAtRest {L : Type 0} (at_rest : L → Type 0) (port_of : L → ℕ)
 pub record MayServe {L : Type 0} (at_rest : L → Type 0) (port_of : L → ℕ)
     (rests known : L → RestAt → Type 0) (due : L → ℕ → Option (List ℕ) → Type 0)
     (owed : RestAt → Ends → Ends → RestAt → Type 0) (options : Options)
-    (announced : AnnouncedAt) (book : Book) (name : TableId) (hired : HiredWorker L) : Type 0 where
+    (announced : PortLineAt) (book : Book) (name : TableId) (hired : HiredWorker L) : Type 0 where
   pub new : IsNew name hired
   pub fresh : seat_in hired.scanner ≡ seat_of [] 0
   pub free : at_rest hired.listener
@@ -84,41 +83,6 @@ pub record HasWorked {L : Type 0} (accepts : Accepting L) (options : Options) (n
 abbrev pub IsWithin : {L : Type 0} → Log → HiredWorker L → Type 0
 IsWithin history hired = Begins (seat_in hired.scanner).log history
 
--- those after the ones that are left are done with: their seats are taken in, and the hub has all
--- that they drew
-pub record Gathered {L : Type 0} (all left : List (HiredWorker L)) (seats : cell.GatheredAt)
-    (result : Result (Unit {0}) Fault) (name : TableId) (hub : DrawerAt) : Type 0 where
-  pub done : List (HiredWorker L)
-  pub whole : all ≡ left ++ done
-  pub others : All (HasDrawn name) left
-  pub within : All (IsWithin seats.log) done
-  pub many : seats.seats ≡ length done
-  pub made : seats.made ≡ made_by (map work_of done)
-  pub each : seats.each ≡ made_by_each (map work_of done)
-  pub first : result ≡ first_fault (map work_of done)
-  pub named : hub.name ≡ name
-  pub parts : hub.parts ≡ length done + 1
-  pub drawn : hub.drawn ≡ drawn_by (map work_of done)
-  pub ended : (0 < hub.ended) ⊎ All (λ work. IsErr work.result) (map work_of done)
-
 -- the listeners of workers, as the code has them
 abbrev pub hired_listeners : {L : Type 0} → List (HiredWorker L) → List L
 hired_listeners workers = map (λ hired. hired.listener) workers
-
--- Workers were made for the seats that were taken, and the first drawer has a part for each that is
--- left. The network, which was first this one and then that, gave each of them its listener.
-pub record Begun {L : Type 0} (shares : Sharing L) (at_rest : L → Type 0) (port_of : L → ℕ)
-    (rests known : L → RestAt → Type 0) (due : L → ℕ → Option (List ℕ) → Type 0) (handed : L → ℕ)
-    (heard network : L) (book : Book) (name : TableId) (hub : DrawerAt)
-    (workers : List (HiredWorker L)) (left : List cell.Seat) (count : ℕ) : Type 0 where
-  pub counted : length workers + length left ≡ count
-  pub given : SharesEach shares heard (hired_listeners workers) network
-  pub counts : handed network ≡ handed heard + length workers
-  pub port : port_of network ≡ port_of heard
-  pub knows : (shown : RestAt) → shown.book ≡ book → known network shown
-  pub dues : (port : ℕ) (held : Option (List ℕ)) → due heard port held → due network port held
-  pub fresh : All (λ hired. IsFresh (state_of hired)) workers
-  pub new : All (IsNew name) workers
-  pub may : All (IsAtRest at_rest port_of rests known due heard book) workers
-  pub seats : All (λ found. found ≡ cell.seat found.number [] [] 0 []) left
-  pub parts : hub ≡ drawer_at name (length left + 1) 0 0

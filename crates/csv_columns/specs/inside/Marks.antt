@@ -1,6 +1,6 @@
 -- Inside: texts that end with no mark.
 use Rattle.std.specs.Prelude.{◌≢◌, ℕ, Bool as Truth, true, false, List, ◌++◌}
-use Rattle.csv_columns.specs.Spelled.{mark_of}
+use Rattle.csv_columns.specs.SpelledColumns.{mark_of}
 
 -- a text whose mark was not taken off ends with none
 abbrev pub IsUnmarked : Truth → List ℕ → Type 0

@@ -2,14 +2,14 @@
 use Rattle.std.specs.Prelude.{◌≡◌, ◌<◌, ℕ, Bool as Truth, true, false, List, [], length, drop}
 use Rattle.std.specs.Prelude.{get_or}
 use Rattle.std.specs.List.{list_any}
-use Rattle.arrow_schema.specs.declared.data_type.IntegerType.TheVariants.{Int64}
-use Rattle.arrow_schema.specs.declared.data_type.DataType.TheVariants.{Integer, Bool, Decimal128}
-use Rattle.arrow_schema.specs.declared.data_type.DataType.TheVariants.{Date}
-use Rattle.csv_columns.specs.declared.seen.Seen.{Seen}
-use Rattle.csv_columns.specs.Found.{column_of, is_empty, takes_all}
+use Rattle.arrow_types.specs.declared.data_type.IntegerType.TheVariants.{Int64}
+use Rattle.arrow_types.specs.declared.data_type.DataType.TheVariants.{Integer, Bool, Decimal128}
+use Rattle.arrow_types.specs.declared.data_type.DataType.TheVariants.{Date}
+use Rattle.csv_columns.specs.declared.type_candidates.TypeCandidates.{TypeCandidates}
+use Rattle.csv_columns.specs.FittingColumns.{column_of, is_empty, takes_all}
 
 -- these fields were seen of a column
-pub record HasSeen (seen : Seen) (fields : List (List ℕ)) : Type 0 where
+pub record HasSeen (seen : TypeCandidates) (fields : List (List ℕ)) : Type 0 where
   pub flag : seen.flag ≡ takes_all Bool fields
   pub integer : seen.integer ≡ takes_all (Integer Int64) fields
   pub decimal : seen.decimal ≡ takes_all Decimal128 fields
@@ -17,9 +17,9 @@ pub record HasSeen (seen : Seen) (fields : List (List ℕ)) : Type 0 where
   pub empty : seen.empty ≡ list_any is_empty fields
 
 -- of each column those of these records
-abbrev pub HaveSeen : List Seen → List (List (List ℕ)) → Type 0
+abbrev pub HaveSeen : List TypeCandidates → List (List (List ℕ)) → Type 0
 HaveSeen all records =
-    (k : ℕ) (d : Seen) → k < length all → HasSeen (get_or all k d) (column_of k records)
+    (k : ℕ) (d : TypeCandidates) → k < length all → HasSeen (get_or all k d) (column_of k records)
 
 -- a record was passed over, and the others are left; or there was none
 abbrev pub PassesOne : Truth → List (List (List ℕ)) → List (List (List ℕ)) → Type 0

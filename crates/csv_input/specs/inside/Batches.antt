@@ -1,8 +1,8 @@
 -- Inside: the next records, as a chunk and as a batch.
 use Rattle.std.specs.Prelude.{◌≡◌, ◌≢◌, ℕ, List, [], ◌++◌, length, Option, None, Some}
-use Rattle.arrow_schema.specs.declared.schema.Field.{Field}
+use Rattle.arrow_types.specs.declared.schema.Field.{Field}
 use Rattle.arrays.specs.Batch.{BatchAt, rows_of}
-use Rattle.arrays.specs.Typed.{AreOfTypes}
+use Rattle.arrays.specs.TypedLayouts.{AreOfTypes}
 use Rattle.csv_input.specs.Rows.{AreRows}
 use Rattle.csv_input.specs.inside.Chunks.{ChunkAt, Holds}
 use Rattle.csv_input.specs.inside.Cells.{AreColumnsIn}

@@ -1,16 +1,16 @@
 -- Inside: the values of a column, and the columns of a batch.
 use Rattle.std.specs.Prelude.{◌≡◌, ◌⊎◌, ◌≤◌, ◌<◌, ◌^◌, ℕ, List, All, length, map, get_or, Some}
-use Rattle.std.specs.Prelude.{None, IsSome}
+use Rattle.std.specs.Prelude.{None}
 use Rattle.scan_base.specs.Value.{value_of}
 use Rattle.scan_base.specs.declared.fault.Fault.{Fault}
 use Rattle.scan_base.specs.declared.fault.Fault.TheVariants.{LimitReached, OutOfMemory}
 use Rattle.scan_base.specs.declared.value.Value.TheVariants.{Null}
 use Rattle.scan_base.specs.declared.value.ValueRef.{ValueRef}
-use Rattle.arrow_schema.specs.declared.schema.Field.{Field}
+use Rattle.arrow_types.specs.declared.schema.Field.{Field}
 use Rattle.arrays.specs.Column.{ColumnAt, values_of}
-use Rattle.arrays.specs.Typed.{IsOfType, IsValueOf}
-use Rattle.arrays.specs.Written.{texts_joined}
-use Rattle.csv_columns.specs.Said.{cell_in}
+use Rattle.arrays.specs.TypedLayouts.{IsOfType, IsValueOf}
+use Rattle.arrays.specs.WrittenSlots.{texts_joined}
+use Rattle.csv_columns.specs.FieldValues.{cell_in}
 use Rattle.csv_input.specs.inside.Chunks.{ChunkAt, field_in}
 
 -- a field of the column says no value of it
@@ -69,8 +69,3 @@ pub record HasLongColumn (chunk : ChunkAt) (columns : List Field) : Type 0 where
 abbrev pub WhyNoColumns : ChunkAt → List Field → Fault → Type 0
 WhyNoColumns chunk columns fault =
     (fault ≡ OutOfMemory) ⊎ ((fault ≡ LimitReached) × HasLongColumn chunk columns)
-
--- a record says a value in each of the first columns
-abbrev pub SaysCells : ChunkAt → List Field → ℕ → ℕ → Type 0
-SaysCells chunk columns row count =
-    (k : ℕ) (d : Field) → k < count → IsSome (cell_in (get_or columns k d) (field_in chunk row k))

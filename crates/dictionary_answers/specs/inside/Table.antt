@@ -2,7 +2,7 @@
 use Rattle.std.specs.Prelude.{◌≡◌, ◌≢◌, ◌<◌, ℕ, List, length, get_or, slice_index, Option, Some}
 use Rattle.scan_base.specs.declared.value.Value.{Value}
 use Rattle.scan_base.specs.declared.value.Value.TheVariants.{Null}
-use Rattle.dictionary_answers.specs.Coded.{held, no_place}
+use Rattle.dictionary_answers.specs.inside.CodedTexts.{held, no_place}
 use Rattle.dictionary_answers.specs.Firsts.{Leads}
 
 -- a table has a place for each value of a dictionary: of those that were met it leads to their text

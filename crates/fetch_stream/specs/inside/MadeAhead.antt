@@ -3,7 +3,7 @@ use Rattle.std.specs.Prelude.{◌≡◌, ◌≢◌, ◌≤◌, ◌⊎◌, ℕ, �
 use Rattle.std.specs.Prelude.{drop, Option, Some, None, Result, Ok, Err}
 use Rattle.std.specs.List.{range_with_len}
 use Rattle.scan_base.specs.declared.fault.Fault.{Fault}
-use Rattle.arrow_schema.specs.declared.schema.Schema.{Schema}
+use Rattle.arrow_types.specs.declared.schema.Schema.{Schema}
 use Rattle.row_sources.specs.declared.turn.Patience.{Patience}
 use Rattle.row_sources.specs.declared.turn.Patience.TheVariants.{Endless}
 use Rattle.row_sources.specs.declared.turn.Turn.{Turn}
@@ -13,9 +13,9 @@ use Rattle.scan_exec.specs.Scan.{ScanAt}
 use Rattle.scan_exec.specs.Morsels.{HasMorsels, morsel_rows}
 use Rattle.fetch_stream.specs.Streams.{StreamAt, RunningAt, Gives, GivesParcel, MayRefuse}
 use Rattle.fetch_stream.specs.Morsels.{MorselsAt}
-use Rattle.fetch_stream.specs.declared.made.Made.{Made}
+use Rattle.fetch_stream.specs.declared.ahead_parcel.AheadParcel.{AheadParcel}
 use Rattle.fetch_stream.specs.declared.source.Source.TheVariants.{Scanned}
-use Rattle.fetch_stream.specs.inside.Ahead.{IsSource}
+use Rattle.fetch_stream.specs.inside.RowsAhead.{IsSource}
 
 -- the morsels of a scan
 abbrev pub morsels_at : ScanAt → ℕ → Bool → MorselsAt
@@ -45,7 +45,7 @@ Stands stream (Some rest) = (rest.stream ≡ stream)
 
 -- Parcels that were made of these rows after the first ones, each after the other, and the rest.
 -- With each stands how many rows are given with it, and how many were taken of the scan.
-abbrev pub AreAhead : Schema → List Row → ℕ → List Made → Option RunningAt → Type 0
+abbrev pub AreAhead : Schema → List Row → ℕ → List AheadParcel → Option RunningAt → Type 0
 AreAhead schema rows given [] rest = Stands (behind schema rows given) rest
 AreAhead schema rows given (made ∷ more) rest =
     GivesParcel (behind schema rows given) made.parcel (behind schema rows made.given)
@@ -53,7 +53,7 @@ AreAhead schema rows given (made ∷ more) rest =
     × AreAhead schema rows made.given more rest
 
 -- what a turn of a stream gives, with how many rows were given and taken then
-abbrev pub MakesNext : Patience → StreamAt → Result (Turn Made) Fault → StreamAt → Type 0
+abbrev pub MakesNext : Patience → StreamAt → Result (Turn AheadParcel) Fault → StreamAt → Type 0
 MakesNext patience before (Ok (Given made)) after =
     Gives before (Ok (Some made.parcel)) after × (made.given ≡ after.given)
     × (made.given ≤ made.taken) × (made.taken ≤ after.given + length after.left)
@@ -63,7 +63,8 @@ MakesNext patience before (Ok End) after = Gives before (Ok None) after
 MakesNext patience before (Err fault) after = Gives before (Err fault) after
 
 -- what parcels that are ahead give in a turn, and the rest after them
-abbrev pub GivesMade : Patience → Schema → List Row → ℕ → Result (Turn Made) Fault → List Made →
+abbrev pub GivesMade : Patience → Schema → List Row → ℕ → Result (Turn AheadParcel) Fault →
+    List AheadParcel →
     Option RunningAt → Type 0
 GivesMade patience schema rows given (Ok (Given made)) more rest =
     GivesParcel (behind schema rows given) made.parcel (behind schema rows made.given)

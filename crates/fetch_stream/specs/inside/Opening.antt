@@ -1,8 +1,8 @@
 -- Inside: what is meant, before it is scanned.
 use Rattle.std.specs.Prelude.{◌≡◌, ℕ, false, List, map, None, Option}
-use Rattle.arrow_schema.specs.Schema.{IsSchema}
+use Rattle.arrow_types.specs.Schema.{IsSchema}
 use Rattle.table_versions.specs.Table.{Row}
-use Rattle.scan_exec.specs.Given.{given_of}
+use Rattle.scan_exec.specs.GivenRows.{given_of}
 use Rattle.fetch_stream.specs.Streams.{StreamAt}
 use Rattle.fetch_stream.specs.Morsels.{before_schema}
 use Rattle.fetch_stream.specs.declared.opening.Meaning.{Meaning}

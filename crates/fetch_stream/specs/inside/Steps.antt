@@ -3,7 +3,7 @@ use Rattle.std.specs.Prelude.{◌≡◌, ◌≤◌, ◌<◌, ◌⊎◌, ◌+◌,
 use Rattle.scan_base.specs.declared.fault.Fault.{Fault}
 use Rattle.scan_base.specs.declared.fault.Fault.TheVariants.{OutOfMemory, ResultTooLarge}
 use Rattle.scan_base.specs.Limits.{most_answer_rows, most_message_bytes}
-use Rattle.arrow_schema.specs.declared.schema.Schema.{Schema}
+use Rattle.arrow_types.specs.declared.schema.Schema.{Schema}
 use Rattle.row_sources.specs.declared.turn.Patience.{Patience}
 use Rattle.row_sources.specs.Running.{LooksOn}
 use Rattle.row_sources.specs.declared.turn.Turn.{Turn}
@@ -13,9 +13,10 @@ use Rattle.flight_info.specs.Payloads.{Payload, FitMessages}
 use Rattle.fetch_stream.specs.Streams.{Parcel, most_message_rows}
 use Rattle.fetch_stream.specs.declared.cutter.Cutter.{Cutter}
 use Rattle.fetch_stream.specs.declared.source.Source.{Source}
-use Rattle.fetch_stream.specs.inside.Ahead.{IsGoing, uncut, schema_behind, left_behind, rows_cut}
-use Rattle.fetch_stream.specs.inside.Ahead.{unseen_behind}
-use Rattle.fetch_stream.specs.inside.Written.{SaysRows, SaysSchema}
+use Rattle.fetch_stream.specs.inside.RowsAhead.{IsGoing, uncut, schema_behind, left_behind}
+use Rattle.fetch_stream.specs.inside.RowsAhead.{rows_cut}
+use Rattle.fetch_stream.specs.inside.RowsAhead.{unseen_behind}
+use Rattle.fetch_stream.specs.inside.WrittenPayloads.{SaysRows, SaysSchema}
 
 -- a parcel is the payload of the schema alone
 pub record SaysFirst (parcel : Parcel) (schema : Schema) : Type 0 where

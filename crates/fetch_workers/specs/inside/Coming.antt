@@ -2,8 +2,8 @@
 use Rattle.std.specs.Prelude.{◌≡◌, ◌≢◌, ◌≤◌, ◌<◌, ℕ, ◌+◌}
 use Rattle.row_sources.specs.declared.turn.Patience.{Patience}
 use Rattle.row_sources.specs.declared.turn.Patience.TheVariants.{Endless}
-use Rattle.scan_workers.specs.declared.work.NextAnswer.{NextAnswer}
-use Rattle.scan_workers.specs.declared.work.NextAnswer.TheVariants.{Given, Going, End}
+use Rattle.scan_workers.specs.declared.morsel_work.NextAnswer.{NextAnswer}
+use Rattle.scan_workers.specs.declared.morsel_work.NextAnswer.TheVariants.{Given, Going, End}
 
 -- the next answer of so many, where so many were given before: it is not there yet only where
 -- patience has an end

@@ -6,7 +6,7 @@ use Rattle.arrays.specs.Column.{ColumnAt}
 use Rattle.typed_plan.specs.declared.plan.Aggregate.{Aggregate}
 use Rattle.group_slots.specs.declared.tally.Tally.{Tally}
 use Rattle.group_slots.specs.Adding.{AreAdded}
-use Rattle.grouping.specs.Found.{found_then}
+use Rattle.grouping.specs.FoundKeys.{found_then}
 use Rattle.grouping.specs.inside.Placing.{ArePlaced}
 
 -- the keys of the rows are found, and the rows are added to the tallies of their groups

@@ -1,15 +1,11 @@
 -- Inside: cells of the answer.
-use Rattle.std.specs.Prelude.{ℕ, ◌==◌, ℤ, pos, if◌then◌else◌, List, Option, Some, None}
+use Rattle.std.specs.Prelude.{ℕ, ◌==◌, ℤ, if◌then◌else◌, List, Option, Some, None}
 use Rattle.scan_base.specs.declared.value.Value.{Value}
 use Rattle.scan_base.specs.Predicate.{cell_in}
 use Rattle.arrays.specs.Batch.{BatchAt}
 use Rattle.group_slots.specs.declared.tally.Tally.{Tally}
-use Rattle.grouping.specs.Answers.{row_in}
+use Rattle.grouping.specs.Answers.{placed_row}
 use Rattle.grouping.specs.declared.key.Place.{Place}
-
--- a count, as a number of a column
-abbrev pub count_or_none : ℕ → Option ℤ
-count_or_none count = Some (pos count)
 
 -- the sum of a tally, none where nothing is summed
 abbrev pub sum_or_none : Tally → Option ℤ
@@ -17,4 +13,4 @@ sum_or_none tally = if tally.count == 0 then None else Some tally.sum
 
 -- the cell of a first row
 abbrev pub first_cell : List BatchAt → ℕ → Place → Value
-first_cell batches column first = cell_in (row_in batches first) column
+first_cell batches column first = cell_in (placed_row batches first) column

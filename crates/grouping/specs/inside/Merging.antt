@@ -3,12 +3,12 @@ use Rattle.std.specs.Prelude.{◌≡◌, ◌≤◌, ◌<◌, ℕ, zero, suc, All
 use Rattle.indexmap.specs.IndexSet.{insert_all}
 use Rattle.scan_base.specs.declared.value.Value.{Value}
 use Rattle.arrays.specs.Batch.{BatchAt}
-use Rattle.typed_plan.specs.Grouped.{same_key}
+use Rattle.typed_plan.specs.GroupedRows.{same_key}
 use Rattle.group_slots.specs.declared.tally.Tally.{Tally}
 use Rattle.group_slots.specs.Tallies.{no_rows, both}
 use Rattle.group_slots.specs.Counting.{AreWithin}
 use Rattle.first_rows.specs.declared.key.RowKey.{RowKey}
-use Rattle.grouping.specs.Found.{place_in}
+use Rattle.grouping.specs.FoundKeys.{place_in}
 use Rattle.grouping.specs.inside.Placing.{IsFirst}
 
 -- the group of each of the first `count` of other keys is its place
@@ -24,26 +24,27 @@ FirstsJoin before others after = (batches : List BatchAt) (keys : List ℕ) →
     All (IsFirst batches keys) after
 
 -- tallies of groups after the first `count` of others, each of which adds to its group's
-abbrev pub joined : List ℕ → List Tally → List Tally → ℕ → List Tally
-joined groups others tallies zero = tallies
-joined groups others tallies (suc count) =
-    slice_set (joined groups others tallies count) (get_or groups count 0)
-    (both (get_or (joined groups others tallies count) (get_or groups count 0) no_rows)
+abbrev pub joined_tallies : List ℕ → List Tally → List Tally → ℕ → List Tally
+joined_tallies groups others tallies zero = tallies
+joined_tallies groups others tallies (suc count) =
+    slice_set (joined_tallies groups others tallies count) (get_or groups count 0)
+    (both (get_or (joined_tallies groups others tallies count) (get_or groups count 0) no_rows)
     (get_or others count no_rows))
 
 -- the tallies are those of before, and of no rows for each new group, with the others added
-pub record IsJoined (groups : List ℕ) (others : List Tally) (found : ℕ)
+pub record AreTalliesJoined (groups : List ℕ) (others : List Tally) (found : ℕ)
     (before after : List Tally) : Type 0 where
   pub padded : List Tally
   pub long : length padded ≡ found
   pub same : (group : ℕ) → group < found → get_or padded group no_rows ≡ get_or before group no_rows
-  pub is : after ≡ joined groups others padded (length groups)
+  pub is : after ≡ joined_tallies groups others padded (length groups)
 
 -- the others are added to the tallies of each item before a place, and the rest are as they were
 pub record AllJoined (groups : List ℕ) (others : List (List Tally)) (found most : ℕ)
     (before after : List (List Tally)) (place : ℕ) : Type 0 where
   pub joined : (item : ℕ) → item < place →
-      IsJoined groups (get_or others item []) found (get_or before item []) (get_or after item [])
+      AreTalliesJoined groups (get_or others item []) found (get_or before item [])
+      (get_or after item [])
   pub small : (item : ℕ) → item < place → AreWithin most (get_or after item [])
   pub left : (item : ℕ) → place ≤ item → get_or after item [] ≡ get_or before item []
 

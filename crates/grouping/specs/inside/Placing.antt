@@ -5,9 +5,9 @@ use Rattle.arrays.specs.Batch.{BatchAt, row_of}
 use Rattle.arrays.specs.Column.{ColumnAt}
 use Rattle.grouping.specs.declared.key.Place.{Place}
 use Rattle.first_rows.specs.declared.key.RowKey.{RowKey}
-use Rattle.grouping.specs.declared.table.Chosen.{Chosen}
-use Rattle.grouping.specs.Fed.{batch_at}
-use Rattle.grouping.specs.Found.{found_then, key_in, place_in}
+use Rattle.grouping.specs.declared.table.ChosenRows.{ChosenRows}
+use Rattle.grouping.specs.FedRows.{batch_at}
+use Rattle.grouping.specs.FoundKeys.{found_then, key_in, place_in}
 use Rattle.first_rows.specs.RowKeys.{key_of}
 
 -- the keys that were found, by the first rows; without columns there is one key
@@ -34,7 +34,7 @@ pub record IsFirst (batches : List BatchAt) (keys : List ℕ) (first : RowKey) :
   pub keyed : first.columns.now ≡ keys
 
 -- first rows stay first rows, wherever the chosen rows are in the batch of their number
-abbrev pub FirstsStay : Chosen → List RowKey → List RowKey → Type 0
+abbrev pub FirstsStay : ChosenRows → List RowKey → List RowKey → Type 0
 FirstsStay chosen before after =
     (batches : List BatchAt) → IsBatchAt batches chosen.number chosen.batch.now →
     All (IsFirst batches chosen.columns.now) before → All (IsFirst batches chosen.columns.now) after
@@ -45,7 +45,7 @@ place_of first = record { batch = first.number; row = first.row }
 
 -- the keys of the first so many of these rows were found after earlier ones, and each of these rows
 -- has the place of its key
-pub record IsFinding (chosen : Chosen) (before : List RowKey) (count : ℕ) (firsts : List RowKey)
+pub record IsFinding (chosen : ChosenRows) (before : List RowKey) (count : ℕ) (firsts : List RowKey)
     (groups : List ℕ) : Type 0 where
   pub found : map key_of firsts ≡ found_then chosen.columns.now (map key_of before)
       (map (row_of chosen.batch.now.columns) (take count chosen.rows.now))

@@ -5,8 +5,8 @@ use Rattle.arrays.specs.Batch.{BatchAt}
 use Rattle.coded_keys.specs.declared.numbers.SeenNumbers.{SeenNumbers}
 use Rattle.coded_keys.specs.Numbers.{AreNumbers}
 use Rattle.first_rows.specs.Numbers.{text_number}
-use Rattle.grouping.specs.declared.seen.SeenBatch.{SeenBatch}
-use Rattle.grouping.specs.Fed.{batch_at}
+use Rattle.grouping.specs.declared.seen_batch.SeenBatch.{SeenBatch}
+use Rattle.grouping.specs.FedRows.{batch_at}
 
 -- the numbers that were kept of rows of a batch are those of their texts
 abbrev pub AreSeenOf : List (Bor (List ℕ)) → BatchAt → List ℕ → SeenNumbers → Type 0

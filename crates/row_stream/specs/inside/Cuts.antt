@@ -2,15 +2,15 @@
 use Rattle.std.specs.Prelude.{◌≡◌, ◌≤◌, ◌<◌, ℕ, ◌+◌, List, [], ◌∷◌, ◌++◌, All, length, map}
 use Rattle.scan_base.specs.declared.fault.Fault.{Fault}
 use Rattle.scan_base.specs.declared.fault.Fault.TheVariants.{LimitReached, OutOfMemory}
-use Rattle.arrow_schema.specs.declared.schema.Schema.{Schema}
+use Rattle.arrow_types.specs.declared.schema.Schema.{Schema}
 use Rattle.arrays.specs.Batch.{BatchAt, cut_batch, rows_of}
-use Rattle.ipc_batch.specs.Dressed.{IsDressed}
-use Rattle.ipc_batch.specs.Written.{SaysBatch}
+use Rattle.ipc_batch.specs.DressedBatches.{IsDressed}
+use Rattle.ipc_batch.specs.WrittenMessages.{SaysBatch}
 use Rattle.dictionary_answers.specs.Lengths.{bodies_length}
 use Rattle.ipc_stream.specs.declared.message.IpcMessage.{IpcMessage}
 use Rattle.ipc_stream.specs.Stream.{IsMessage}
 use Rattle.row_stream.specs.Stream.{sent_in, HasShortBody, HasShortRows}
-use Rattle.row_stream.specs.declared.cutting.Cut.{Cut}
+use Rattle.row_stream.specs.declared.batch_cuts.CutMessages.{CutMessages}
 
 -- messages of dictionaries, and one that says a batch after them, in bodies that together have no
 -- more bytes than there is room for
@@ -42,7 +42,8 @@ abbrev pub HasBodyWithin : ℕ → IpcMessage → Type 0
 HasBodyWithin room message = length message.body ≤ room
 
 -- the messages of the rows of a batch from one on, of one or more of them and at most so many
-pub record IsCut (schema : Schema) (batch : BatchAt) (at most : ℕ) (cut : Cut) : Type 0 where
+pub record IsCut (schema : Schema) (batch : BatchAt) (at most : ℕ)
+    (cut : CutMessages) : Type 0 where
   pub forth : at < cut.end
   pub few : cut.end ≤ at + most
   pub within : cut.end ≤ batch.rows

@@ -1,7 +1,7 @@
 -- Inside: messages that are sent through an outbox.
 use Rattle.std.specs.Prelude.{◌≡◌, ℕ, List, [], None, Some, Ok}
-use Rattle.arrow_schema.specs.declared.schema.Schema.{Schema}
-use Rattle.ipc_batch.specs.Said.{Sent, news_of}
+use Rattle.arrow_types.specs.declared.schema.Schema.{Schema}
+use Rattle.ipc_batch.specs.SaidRows.{Sent, news_of}
 use Rattle.ipc_batch.specs.declared.writer.WrittenMessage.{WrittenMessage}
 use Rattle.ipc_stream.specs.declared.message.IpcMessage.{IpcMessage}
 use Rattle.ipc_stream.specs.Stream.{frame}

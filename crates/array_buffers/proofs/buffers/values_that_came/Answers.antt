@@ -1,7 +1,7 @@
 use Rattle.std.proofs.Common.{◌≡◌, ◌∙◌, ◌+◌, ◌-◌, [], List, ℕ, get_or, sym, ap, arith}
 use Rattle.arrays.specs.declared.layout.Layout.TheVariants as layout
 use Rattle.arrays.specs.Number.{byte_width}
-use Rattle.arrays.specs.Written.{elements}
+use Rattle.arrays.specs.WrittenSlots.{elements}
 use Rattle.array_buffers.proofs.Lengths.{written_as}
 use Rattle.array_buffers.proofs.buffers.values_that_came.Goals as goal
 

@@ -1,7 +1,7 @@
 use Rattle.std.proofs.Common.{◌≡◌, ◌+◌, ◌*◌, ◌-◌, ◌/◌, ◌%◌, ◌++◌, ℕ, List, take, drop, sym, ap, ◌∙◌, arith}
 use Rattle.std.specs.Int.{to_le_bytes, w64, div_ceil}
 use Rattle.std.specs.Simd.Lanes.{mask_l}
-use Rattle.array_buffers.specs.Written.{packed_bits}
+use Rattle.array_buffers.specs.ColumnBuffers.{packed_bits}
 use Rattle.arrays.proofs.Offsets.{out_more}
 use Rattle.array_buffers.proofs.Appended.{begins_more, on_ok_items, word_more, word_last}
 use Rattle.array_buffers.proofs.packing.append_bits.Goals as goal

@@ -1,5 +1,5 @@
 use Rattle.std.proofs.Common.{◌≡◌, ◌+◌, ◌*◌, ◌-◌, ◌++◌, length, take, drop}
-use Rattle.array_buffers.specs.Written.{packed_bits}
+use Rattle.array_buffers.specs.ColumnBuffers.{packed_bits}
 use Rattle.array_buffers.proofs.packing.append_bits.Given as goal
 
 abbrev pub invariant-loop-word : goal.invariant-loop-word

@@ -1,4 +1,4 @@
-use Rattle.array_select.specs.inside.Gathered.{HasElementsAt}
+use Rattle.array_select.specs.inside.GatheredSlots.{HasElementsAt}
 use Rattle.array_select.proofs.at_places.gather_elements.Given as goal
 
 abbrev pub invariant-loop-place : goal.invariant-loop-place

@@ -1,7 +1,7 @@
 use Rattle.std.proofs.Common.{subst}
 use Rattle.arrays.specs.declared.layout.Layout.{Layout}
 use Rattle.arrays.specs.Layout.{layout_count}
-use Rattle.array_select.specs.inside.Gathered.{AreValuesAt}
+use Rattle.array_select.specs.inside.GatheredSlots.{AreValuesAt}
 use Rattle.arrays.proofs.ValidSlots.{validity_long}
 use Rattle.array_select.proofs.at_places.gather_slots.Goals as goal
 

@@ -1,6 +1,6 @@
 use Rattle.std.proofs.Common.{◌≡◌, ◌++◌, drop}
-use Rattle.arrays.specs.Written.{texts_joined}
-use Rattle.array_select.specs.inside.Gathered.{texts_at}
+use Rattle.arrays.specs.WrittenSlots.{texts_joined}
+use Rattle.array_select.specs.inside.GatheredSlots.{texts_at}
 use Rattle.array_select.proofs.gather_texts.gather_bytes.Given as goal
 
 abbrev pub invariant-loop-place : goal.invariant-loop-place

@@ -2,8 +2,8 @@ use Rattle.std.proofs.Common.{◌≡◌, ◌<◌, ◌+◌, ◌-◌, ◌++◌, �
 use Rattle.std.specs.Int.{to_le_bytes, w32}
 use Rattle.scan_base.specs.declared.value.Value.{Value}
 use Rattle.arrays.specs.Texts.{text_at}
-use Rattle.arrays.specs.Written.{offsets_from}
-use Rattle.array_select.specs.inside.Gathered.{texts_at}
+use Rattle.arrays.specs.WrittenSlots.{offsets_from}
+use Rattle.array_select.specs.inside.GatheredSlots.{texts_at}
 use Rattle.arrays.proofs.Offsets.{out_more}
 use Rattle.array_select.proofs.GatheredTexts.{texts_ahead, joined_ahead, text_long}
 use Rattle.array_select.proofs.gather_texts.gather_offsets.Goals as goal

@@ -1,6 +1,6 @@
 use Rattle.std.proofs.Common.{◌≡◌, ◌++◌, ◌+◌, drop, length}
-use Rattle.arrays.specs.Written.{texts_joined, offsets_from}
-use Rattle.array_select.specs.inside.Gathered.{texts_at}
+use Rattle.arrays.specs.WrittenSlots.{texts_joined, offsets_from}
+use Rattle.array_select.specs.inside.GatheredSlots.{texts_at}
 use Rattle.array_select.proofs.gather_texts.gather_offsets.Given as goal
 
 abbrev pub invariant-loop-place : goal.invariant-loop-place

@@ -2,7 +2,7 @@ use Rattle.std.proofs.Common.{length, map, sym, arith}
 use Rattle.std.proofs.lemmas.Bool.{lt-leb}
 use Rattle.std.proofs.lemmas.List.{length-map}
 use Rattle.array_select.specs.GatherMany.{value_in}
-use Rattle.arrays.specs.Written.{texts_joined}
+use Rattle.arrays.specs.WrittenSlots.{texts_joined}
 use Rattle.array_select.proofs.GatheredMany.{past_values}
 use Rattle.array_select.proofs.many_places.texts_fit_many.Goals as goal
 

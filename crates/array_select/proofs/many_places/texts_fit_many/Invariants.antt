@@ -1,5 +1,5 @@
 use Rattle.std.proofs.Common.{◌≡◌, ◌+◌, take, length}
-use Rattle.arrays.specs.Written.{texts_joined}
+use Rattle.arrays.specs.WrittenSlots.{texts_joined}
 use Rattle.array_select.specs.inside.GatheredMany.{values_at}
 use Rattle.array_select.proofs.many_places.texts_fit_many.Given as goal
 

@@ -2,7 +2,7 @@ use Rattle.std.proofs.Common.{Some, length, map, sym, ap, ◌∙◌, arith}
 use Rattle.std.proofs.lemmas.Bool.{lt-leb}
 use Rattle.std.proofs.lemmas.Option.{slice_get-get_or}
 use Rattle.array_select.specs.OfSlots.{slot_value}
-use Rattle.arrays.specs.Written.{texts_joined}
+use Rattle.arrays.specs.WrittenSlots.{texts_joined}
 use Rattle.array_select.specs.declared.of_slots.SlotRef.{SlotRef}
 use Rattle.array_select.proofs.TooMany.{past}
 use Rattle.array_select.proofs.of_slots.texts_fit.Goals as goal

@@ -2,8 +2,8 @@ use Rattle.std.proofs.Common.{[], ◌∷◌, All, rules, arith, ◌∙◌, sym, 
 use Rattle.std.proofs.lemmas.List.{length-append}
 use Rattle.std.proofs.lemmas.List.Elements.{All-append, All-cons, All-nil}
 use Rattle.scan_base.proofs.ReadingLaws.{numbers_more, numbers_stop}
+use Rattle.arrow_types.specs.Schema.{IsField}
 use Rattle.arrow_schema.specs.Header.{field_at}
-use Rattle.arrow_schema.specs.Schema.{IsField}
 use Rattle.arrow_schema.proofs.reading.each_field.Goals as goal
 
 pub returns-in_err-field_at-clause-value : goal.returns-in_err-field_at-clause-value

@@ -1,7 +1,8 @@
 use Rattle.std.proofs.Common.{◌≡◌, ◌-◌, All, length}
-use Rattle.arrow_schema.specs.Schema.{IsField}
+use Rattle.arrow_types.specs.Schema.{IsField}
 use Rattle.std.specs.List.{range_with_len}
-use Rattle.scan_base.specs.Lists.{each, behind}
+use Rattle.scan_base.specs.Lists.{each}
+use Rattle.scan_base.proofs.ReadingLaws.{behind}
 use Rattle.arrow_schema.specs.Header.{field_at}
 use Rattle.arrow_schema.proofs.reading.each_field.Given as goal
 

@@ -1,6 +1,6 @@
 use Rattle.std.proofs.Common.{◌≡◌, drop}
 use Rattle.std.specs.List.{list_any}
-use Rattle.arrow_schema.specs.Header.{same_dictionary}
+use Rattle.arrow_types.specs.Schema.{same_dictionary}
 use Rattle.arrow_schema.proofs.reading.is_shared.Given as goal
 
 abbrev pub invariant-loop-other : goal.invariant-loop-other

@@ -9,5 +9,5 @@ stats_with-requires-clause-known g c = λ code has.
     let cells = c.args.cells.now in
     let start = c.args.start in
     let is : c.code.result ≡ element_at (byte_width cells.index) cells.values start =
-    c.code.ensures ∙ ap (λ v. element_at g.C.Code.BYTES v start) c.values.ensures ∙ ap (λ w. element_at w cells.values start) c.requires.width in
+    c.code.ensures ∙ ap (λ v. element_at g.C.Code.WIDTH v start) c.values.ensures ∙ ap (λ w. element_at w cells.values start) c.requires.width in
     last_one c.code.result code (subst (λ (codes : List ℕ). HasLast codes code) c.new-last.ensures has) ∙ is

@@ -4,7 +4,7 @@ use Rattle.arrays.specs.Column.{slot_of, values_of}
 use Rattle.arrays.specs.Layout.{layout_slot}
 use Rattle.arrays.specs.Number.{byte_width, element_at}
 use Rattle.arrays.specs.Validity.{is_valid}
-use Rattle.batch_stats.specs.Held.{ends_held}
+use Rattle.batch_stats.specs.HeldStats.{ends_held}
 use Rattle.batch_stats.specs.Stats.{ends_of, with_value}
 use Rattle.batch_stats.specs.inside.Slots.{ends_with}
 use Rattle.batch_stats.proofs.Coded.{begun, coded, known_more, known_still, looked, own_stands, passed, passed_null}
@@ -23,7 +23,7 @@ loop-place-init g c =
     let held : after ≡ one = c.with_slot-stats.ensures.ends ∙ ap (λ (f : ℕ). with_value None (slot_of column (start - f))) c.first-first.ensures in
     let low : column.first ≤ start = c.requires.start.low in
     let code : c.code.result ≡ at =
-    c.code.ensures ∙ ap (λ v. element_at g.C.Code.BYTES v start) c.values.ensures ∙ ap (λ w. element_at w cells.values start) c.requires.width in
+    c.code.ensures ∙ ap (λ v. element_at g.C.Code.WIDTH v start) c.values.ensures ∙ ap (λ w. element_at w cells.values start) c.requires.width in
     let own : Stands after (coded cells at) =
     subst (λ (e : Option (Value × Value)). Stands e (coded cells at)) (sym held) (own_stands column cells c.requires.layout None start low c.requires.start.valid) in
     let only : (k : ℕ) → g.S.CodeSet.has c.insert.new.self k → k ≡ at = λ k has. elim (c.insert.ensures.all k has) [
@@ -59,7 +59,7 @@ loop-place-preserved g c =
       | then-is_valid+then-insert w ↦
           let x = w.code-then-is_valid.result in
           let code : x ≡ at =
-          w.code-then-is_valid.ensures ∙ ap (λ v. element_at g.C.Code.BYTES v place) w.values-then-is_valid.ensures ∙ ap (λ n. element_at n cells.values place) c.requires.width in
+          w.code-then-is_valid.ensures ∙ ap (λ v. element_at g.C.Code.WIDTH v place) w.values-then-is_valid.ensures ∙ ap (λ n. element_at n cells.values place) c.requires.width in
           let v : Value = slot_of column (place - column.first) in
           let after : Option (Value × Value) = ends_held column w.with_slot-stats-then-insert.result in
           let held : after ≡ with_value before v =
@@ -76,7 +76,7 @@ loop-place-preserved g c =
         | else-is_valid-via-then-is_valid+else-insert u ↦
             let x = u.code-then-is_valid.result in
             let code : x ≡ at =
-            u.code-then-is_valid.ensures ∙ ap (λ v. element_at g.C.Code.BYTES v place) u.values-then-is_valid.ensures ∙ ap (λ n. element_at n cells.values place) c.requires.width in
+            u.code-then-is_valid.ensures ∙ ap (λ v. element_at g.C.Code.WIDTH v place) u.values-then-is_valid.ensures ∙ ap (λ n. element_at n cells.values place) c.requires.width in
             let there : Stands before (coded cells x) = stand x (u.insert-then-is_valid.ensures.found u.if-insert.false) in
             let stands : Stands before (coded cells at) = subst (λ (z : ℕ). Stands before (coded cells z)) code there in
             let step : ends_with before slot (place + 1) behind ≡ all = passed column cells c.requires.layout before place high (valid ∙ u.if-is_valid.true) stands so_far in

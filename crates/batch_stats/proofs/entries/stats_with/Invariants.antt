@@ -1,7 +1,7 @@
 use Rattle.std.proofs.Common.{◌≡◌, ◌≤◌, ◌+◌, ℕ}
 use Rattle.arrays.specs.Column.{values_of}
 use Rattle.arrays.specs.Layout.{layout_slot}
-use Rattle.batch_stats.specs.Held.{ends_held, AreSlots}
+use Rattle.batch_stats.specs.HeldStats.{ends_held, AreSlots}
 use Rattle.batch_stats.specs.Stats.{ends_of}
 use Rattle.batch_stats.specs.inside.Slots.{ends_with}
 use Rattle.batch_stats.proofs.Standing.{Stands}

@@ -1,7 +1,8 @@
 use Rattle.std.proofs.Common.{◌≡◌, ℕ, ℤ, List, ap, ◌∙◌}
 use Rattle.std.specs.Int.{w128, cast_signed}
 use Rattle.arrays.specs.Number.{element_at, decimal_at}
-use Rattle.batch_stats.proofs.Numerals.{decimals_are, signed128}
+use Rattle.arrays.specs.inside.SignedNumbers.{signed128}
+use Rattle.batch_stats.proofs.Numerals.{decimals_are}
 use Rattle.batch_stats.proofs.numbers.decimals_stats.Goals as goal
 
 pub returns : goal.returns

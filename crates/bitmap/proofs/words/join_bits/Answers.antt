@@ -3,7 +3,7 @@ use Rattle.std.specs.Simd.Lanes.{zip2, mask_l}
 use Rattle.std.specs.Int.{to_le_bytes, w64}
 use Rattle.byteorder.specs.Numbers.{length-bytes_low_first}
 use Rattle.bitmap.specs.Bits.{bits_of}
-use Rattle.bitmap.specs.inside.Joined.{joined}
+use Rattle.bitmap.specs.inside.JoinedBits.{joined}
 use Rattle.bitmap.proofs.Masks.{join_more, join_none, length-bits_of}
 use Rattle.bitmap.proofs.words.join_bits.Goals as goal
 

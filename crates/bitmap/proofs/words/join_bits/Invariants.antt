@@ -1,7 +1,7 @@
 use Rattle.std.proofs.Common.{◌≡◌, ◌*◌, length}
 use Rattle.std.specs.Simd.Lanes.{zip2}
 use Rattle.bitmap.specs.Bits.{bits_of}
-use Rattle.bitmap.specs.inside.Joined.{joined}
+use Rattle.bitmap.specs.inside.JoinedBits.{joined}
 use Rattle.bitmap.proofs.words.join_bits.Given as goal
 
 abbrev pub invariant-loop-i : goal.invariant-loop-i

@@ -1,6 +1,6 @@
 use Rattle.std.proofs.Common.{◌≡◌, ℤ, Some, None, to_z, of_z, to_z-of_z, subst}
 use Rattle.std.specs.Int.{w128}
-use Rattle.calendar.specs.Shown.{date_within, ReadsBack}
+use Rattle.calendar.specs.DateText.{date_within, ReadsBack}
 use Rattle.calendar.proofs.Printed.{shown_with, shown_without}
 use Rattle.calendar.proofs.printing.date_shown.Goals as goal
 

@@ -2,7 +2,7 @@ use Rattle.std.proofs.Common.{◌≡◌, ℕ, true, false, ℤ, pos, ◌<ℤ◌,
 use Rattle.jiff_core.specs.Calendar.{days_from_civil, IsEpochDay}
 use Rattle.jiff_core.specs.Date.{epoch_day}
 use Rattle.jiff_core.proofs.SignedLemmas.{signed_arith, signed_casts, fits_between}
-use Rattle.calendar.specs.Shown.{has_date}
+use Rattle.calendar.specs.DateText.{has_date}
 use Rattle.calendar.proofs.Numbers.{early_is_not_shown, shown_is_epoch_day, false_if_not}
 use Rattle.calendar.proofs.Printed.{natural, is_shown, is_as_date, reads_back, is_no_date, no_date, same_number}
 use Rattle.calendar.proofs.printing.near_date.Goals as goal

@@ -2,7 +2,7 @@ use Rattle.std.proofs.Common.{List, Vec, inl, inr, map, refl}
 use Rattle.std.specs.Global.{Global}
 use Rattle.std.proofs.lemmas.Result.{err_from_is_err_and}
 use Rattle.flight_proto.specs.FlightInfo.{EndpointSaid, endpoint_said}
-use Rattle.flight_proto.specs.Wanted.{wanted_said}
+use Rattle.flight_proto.specs.InfoCommand.{wanted_said}
 use Rattle.flight_proto.specs.declared.flight_info.FlightEndpoint.{FlightEndpoint}
 use Rattle.client_commands.proofs.Fetched.{asked, not_asked}
 use Rattle.client_commands.proofs.fetching.fetch_rows.Goals as goal

@@ -1,6 +1,6 @@
 use Rattle.std.proofs.Common.{Err, inl, inr, refl}
 use Rattle.command_ends.specs.Printing.{Said, said_of}
-use Rattle.command_ends.specs.Whole.{Source}
+use Rattle.command_ends.specs.WholeInput.{Source}
 use Rattle.command_ends.specs.declared.exit_status.ExitStatus.{ExitStatus}
 use Rattle.csv_input.specs.Input.{Form, ReadsCsv, TextAt}
 use Rattle.client_commands.proofs.put.put_csv.Goals as goal

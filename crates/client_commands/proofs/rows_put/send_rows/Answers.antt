@@ -1,6 +1,6 @@
 use Rattle.std.proofs.Common.{[], inl, refl, sym, ap, subst, ◌∙◌}
 use Rattle.std.proofs.lemmas.Result.{err_from_is_err_and}
-use Rattle.arrow_schema.specs.declared.schema.Schema.{Schema}
+use Rattle.arrow_types.specs.declared.schema.Schema.{Schema}
 use Rattle.scan_base.specs.declared.fault.Fault.TheVariants.{OutOfMemory}
 use Rattle.csv_input.specs.Input.{TextAt}
 use Rattle.csv_input.specs.Long.{WhyNoMessage}

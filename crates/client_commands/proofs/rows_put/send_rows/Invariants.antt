@@ -1,6 +1,6 @@
 use Rattle.std.proofs.Common.{◌≡◌, [], ◌++◌, ℕ, List, length}
 use Rattle.client_calls.specs.Outcome.{Line}
-use Rattle.client_calls.specs.declared.putting.Target.{Target}
+use Rattle.client_calls.specs.declared.put_call.Target.{Target}
 use Rattle.client_commands.specs.inside.RowsSent.{HaveSent}
 use Rattle.client_commands.proofs.rows_put.send_rows.Given as goal
 

@@ -1,4 +1,4 @@
-use Rattle.commands.specs.inside.Gathering.{Gathered}
+use Rattle.commands.proofs.Crews.{Gathered}
 use Rattle.commands.proofs.crew.first_of.Given as goal
 
 abbrev pub invariant-loop-worker : goal.invariant-loop-worker

@@ -1,5 +1,5 @@
 use Rattle.std.proofs.Common.{List, rules, subst}
-use Rattle.flight_core.specs.Placed.{Placed, placed}
+use Rattle.flight_core.specs.PlacedEntries.{Placed, placed}
 use Rattle.version_cell.specs.Merges.{MergesAll}
 use Rattle.commands.specs.Serve.{AcceptsThenCloses}
 use Rattle.commands.proofs.Crews.{all_have_drawn, all_served, written}

@@ -1,6 +1,6 @@
 use Rattle.std.proofs.Common.{length}
 use Rattle.std.specs.Vec.Iter.{into_iter_items}
-use Rattle.commands.specs.inside.Gathering.{Begun}
+use Rattle.commands.proofs.Crews.{Begun}
 use Rattle.commands.proofs.crew.workers_of.Given as goal
 
 abbrev pub invariant-loop-scanner : goal.invariant-loop-scanner

@@ -1,6 +1,6 @@
 use Rattle.std.proofs.Common.{◌≡◌, ℕ, List, Option}
 use Rattle.version_cell.specs.Rests.{RestAt}
-use Rattle.commands.specs.Shown.{HasLearnt}
+use Rattle.commands.specs.ShownSeat.{HasLearnt}
 use Rattle.commands.specs.inside.Accepting.{FailsSo}
 use Rattle.commands.proofs.turns.accept_next.Given as goal
 

@@ -4,11 +4,11 @@ use Rattle.std.proofs.lemmas.Result.{err_from_is_err_and}
 use Rattle.std.specs.Prelude.{Err}
 use Rattle.csv.specs.Records.{fields_of}
 use Rattle.scan_base.specs.declared.fault.Fault.TheVariants.{OutOfMemory}
-use Rattle.arrow_schema.specs.declared.data_type.DataType.{DataType}
-use Rattle.arrow_schema.specs.declared.schema.Field.{Field}
-use Rattle.arrow_schema.specs.Schema.{IsField, IsName}
-use Rattle.arrow_schema.specs.Written.{encoding_of}
-use Rattle.csv_columns.specs.Found.{column_of, column_seen, name_of}
+use Rattle.arrow_types.specs.declared.data_type.DataType.{DataType}
+use Rattle.arrow_types.specs.declared.schema.Field.{Field}
+use Rattle.arrow_types.specs.Schema.{IsField, IsName}
+use Rattle.arrow_types.specs.DataType.{encoding_of}
+use Rattle.csv_columns.specs.FittingColumns.{column_of, column_seen, name_of}
 use Rattle.csv_columns.proofs.Each.{each_more}
 use Rattle.csv_columns.proofs.columns.fields_in.Goals as goal
 

@@ -1,9 +1,9 @@
 use Rattle.std.proofs.Common.{◌≡◌, ◌<◌, ℕ, None, List, All, length, get_or}
 use Rattle.csv.specs.Records.{fields_of}
-use Rattle.arrow_schema.specs.declared.schema.Field.{Field}
-use Rattle.arrow_schema.specs.Schema.{IsField, IsName}
-use Rattle.arrow_schema.specs.Written.{encoding_of}
-use Rattle.csv_columns.specs.Found.{column_seen, name_of}
+use Rattle.arrow_types.specs.declared.schema.Field.{Field}
+use Rattle.arrow_types.specs.Schema.{IsField, IsName}
+use Rattle.arrow_types.specs.DataType.{encoding_of}
+use Rattle.csv_columns.specs.FittingColumns.{column_seen, name_of}
 use Rattle.csv_columns.specs.inside.Tests.{HaveSeen}
 use Rattle.csv_columns.proofs.columns.fields_in.Given as goal
 

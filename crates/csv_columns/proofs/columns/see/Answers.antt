@@ -1,7 +1,7 @@
 use Rattle.std.proofs.Common.{◌<◌, ◌≢◌, ℕ, List, [], ◌∷◌, ◌++◌, length, length-set, get_or-set_other, sym, subst, ap, ◌∙◌, arith}
 use Rattle.csv.specs.Records.{fields_of}
-use Rattle.csv_columns.specs.declared.seen.Seen.{Seen}
-use Rattle.csv_columns.specs.Found.{column_of}
+use Rattle.csv_columns.specs.declared.type_candidates.TypeCandidates.{TypeCandidates}
+use Rattle.csv_columns.specs.FittingColumns.{column_of}
 use Rattle.csv_columns.specs.inside.Tests.{HasSeen}
 use Rattle.csv_columns.proofs.Each.{column_more, one_set}
 use Rattle.csv_columns.proofs.columns.see.Goals as goal
@@ -19,7 +19,7 @@ loop-number-preserved c =
       done = λ records have.
           let one : HasSeen c.with.result (column_of n (records ++ fields ∷ [])) = (
           let told : HasSeen c.with.result (column_of n records ++ c.field_in.result.now ∷ []) =
-          c.with.ensures (column_of n records) (subst (λ (s : Seen). HasSeen s (column_of n records)) (sym (c.index.ensures ∙ inv.ahead n c.index.result.now (omega arith))) (have n c.index.result.now (omega (arith, low, inv.many)))) in
+          c.with.ensures (column_of n records) (subst (λ (s : TypeCandidates). HasSeen s (column_of n records)) (sym (c.index.ensures ∙ inv.ahead n c.index.result.now (omega arith))) (have n c.index.result.now (omega (arith, low, inv.many)))) in
           subst (λ (l : List (List ℕ)). HasSeen c.with.result l) (ap (λ (f : List ℕ). column_of n records ++ f ∷ []) c.field_in.ensures ∙ sym (column_more n records fields)) told) in
           one_set all first records fields n c.with.result low one (inv.done records have);
       ahead = λ k d behind.

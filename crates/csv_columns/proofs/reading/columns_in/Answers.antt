@@ -1,7 +1,7 @@
 use Rattle.std.proofs.Common.{◌≡◌, ◌≤◌, [], length, ap, sym, ◌∙◌, arith}
 use Rattle.std.proofs.lemmas.List.{length-map}
 use Rattle.scan_base.specs.Limits.{most_columns}
-use Rattle.csv_columns.specs.Left.{records_in}
+use Rattle.csv_columns.specs.TextRecords.{records_in}
 use Rattle.csv_columns.proofs.Plain.{are_schema}
 use Rattle.csv_columns.proofs.Refusing.{no_record}
 use Rattle.csv_columns.proofs.reading.columns_in.Goals as goal

@@ -4,11 +4,11 @@ use Rattle.std.proofs.lemmas.Result.{err_from_is_err_and}
 use Rattle.std.specs.Prelude.{Err}
 use Rattle.csv.specs.Records.{fields_of}
 use Rattle.scan_base.specs.declared.fault.Fault.TheVariants.{OutOfMemory}
-use Rattle.arrow_schema.specs.declared.schema.Field.{Field}
-use Rattle.arrow_schema.specs.Schema.{IsField}
-use Rattle.arrow_schema.specs.Written.{encoding_of}
-use Rattle.csv_columns.specs.Refused.{WhyNoColumn}
-use Rattle.csv_columns.specs.Spelled.{spelled}
+use Rattle.arrow_types.specs.declared.schema.Field.{Field}
+use Rattle.arrow_types.specs.Schema.{IsField}
+use Rattle.arrow_types.specs.DataType.{encoding_of}
+use Rattle.csv_columns.specs.Refusals.{WhyNoColumn}
+use Rattle.csv_columns.specs.SpelledColumns.{spelled}
 use Rattle.csv_columns.proofs.More.{texts_more}
 use Rattle.csv_columns.proofs.Refusing.{first_fails}
 use Rattle.csv_columns.proofs.reading.fields_in.Goals as goal

@@ -1,9 +1,9 @@
 use Rattle.std.proofs.Common.{◌≡◌, ◌<◌, ℕ, None, All, [], length, get_or}
 use Rattle.csv.specs.Records.{fields_of}
-use Rattle.arrow_schema.specs.declared.schema.Field.{Field}
-use Rattle.arrow_schema.specs.Schema.{IsField}
-use Rattle.arrow_schema.specs.Written.{encoding_of}
-use Rattle.csv_columns.specs.Spelled.{spelled}
+use Rattle.arrow_types.specs.declared.schema.Field.{Field}
+use Rattle.arrow_types.specs.Schema.{IsField}
+use Rattle.arrow_types.specs.DataType.{encoding_of}
+use Rattle.csv_columns.specs.SpelledColumns.{spelled}
 use Rattle.csv_columns.proofs.reading.fields_in.Given as goal
 
 abbrev pub invariant-loop-place : goal.invariant-loop-place

@@ -1,5 +1,5 @@
 use Rattle.std.proofs.Common.{true}
-use Rattle.csv_columns.specs.Spelled.{mark_of}
+use Rattle.csv_columns.specs.SpelledColumns.{mark_of}
 use Rattle.csv_columns.proofs.Marked.{with_mark}
 use Rattle.csv_columns.proofs.reading.unmarked.Goals as goal
 

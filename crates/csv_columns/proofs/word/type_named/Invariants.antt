@@ -1,7 +1,7 @@
 use Rattle.std.proofs.Common.{◌≢◌, ◌<◌, ℕ, get_or}
-use Rattle.arrow_schema.specs.declared.data_type.DataType.{DataType}
+use Rattle.arrow_types.specs.declared.data_type.DataType.{DataType}
 use Rattle.csv_columns.specs.declared.word.TheConstants.{TYPES}
-use Rattle.csv_columns.specs.Spelled.{word_of}
+use Rattle.csv_columns.specs.SpelledColumns.{word_of}
 use Rattle.csv_columns.proofs.word.type_named.Given as goal
 
 -- no type so far has the word

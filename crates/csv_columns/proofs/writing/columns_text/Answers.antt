@@ -1,7 +1,7 @@
 use Rattle.std.proofs.Common.{◌∙◌, ap}
 use Rattle.std.proofs.lemmas.Result.{IfOk-weaker}
 use Rattle.csv.specs.Writing.{default_writer, row_text}
-use Rattle.csv_columns.specs.Spelled.{spelled}
+use Rattle.csv_columns.specs.SpelledColumns.{spelled}
 use Rattle.csv_columns.proofs.Again.{made_again}
 use Rattle.csv_columns.proofs.writing.columns_text.Goals as goal
 

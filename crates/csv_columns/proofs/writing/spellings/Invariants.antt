@@ -1,6 +1,6 @@
 use Rattle.std.proofs.Common.{◌≡◌, [], map, take}
 use Rattle.csv.specs.Records.{fields_of, partial_of}
-use Rattle.csv_columns.specs.Spelled.{spelled}
+use Rattle.csv_columns.specs.SpelledColumns.{spelled}
 use Rattle.csv_columns.proofs.writing.spellings.Given as goal
 
 abbrev pub invariant-loop-column : goal.invariant-loop-column

@@ -1,5 +1,5 @@
 use Rattle.std.proofs.Common.{[], false, length, sym, ◌∙◌}
-use Rattle.arrow_schema.specs.declared.data_type.DataType.TheVariants as type
+use Rattle.arrow_types.specs.declared.data_type.DataType.TheVariants as type
 use Rattle.csv_input.specs.inside.Cells.{AreColumnsIn}
 use Rattle.csv_input.proofs.Columnar.{columns_long}
 use Rattle.csv_input.proofs.batch.batch_in.Goals as goal

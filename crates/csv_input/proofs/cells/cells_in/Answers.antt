@@ -1,5 +1,5 @@
 use Rattle.std.proofs.Common.{ap, sym, ◌∙◌}
-use Rattle.csv_columns.specs.Said.{cell_in}
+use Rattle.csv_columns.specs.FieldValues.{cell_in}
 use Rattle.csv_input.proofs.Columnar.{cells_more}
 use Rattle.csv_input.proofs.cells.cells_in.Goals as goal
 

@@ -1,7 +1,7 @@
 use Rattle.std.proofs.Common.{Bool as Truth, List, Option, map, ap, ◌∙◌}
 use Rattle.std.proofs.lemmas.Result.{IfOk-weaker}
 use Rattle.scan_base.specs.declared.value.Value.TheVariants.{Bool}
-use Rattle.array_select.specs.Built.{value_or_null}
+use Rattle.array_select.specs.ColumnValues.{value_or_null}
 use Rattle.csv_input.proofs.Alike.{flags_kept}
 use Rattle.csv_input.proofs.columns.bools.Goals as goal
 

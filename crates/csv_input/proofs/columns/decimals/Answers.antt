@@ -1,7 +1,7 @@
 use Rattle.std.proofs.Common.{ℤ, List, Option, map, ap, ◌∙◌}
 use Rattle.std.proofs.lemmas.Result.{IfOk-weaker}
 use Rattle.scan_base.specs.declared.value.Value.TheVariants.{Int}
-use Rattle.array_select.specs.Built.{value_or_null}
+use Rattle.array_select.specs.ColumnValues.{value_or_null}
 use Rattle.csv_input.proofs.Alike.{numbers_kept}
 use Rattle.csv_input.proofs.columns.decimals.Goals as goal
 

@@ -3,8 +3,8 @@ use Rattle.std.proofs.lemmas.Result.{IfOk-weaker}
 use Rattle.scan_base.specs.Value.{value_of}
 use Rattle.scan_base.specs.declared.value.Value.{Value}
 use Rattle.scan_base.specs.declared.value.Value.TheVariants.{Text}
-use Rattle.arrays.specs.Written.{texts_joined}
-use Rattle.array_select.specs.Built.{value_or_null}
+use Rattle.arrays.specs.WrittenSlots.{texts_joined}
+use Rattle.array_select.specs.ColumnValues.{value_or_null}
 use Rattle.csv_input.proofs.Alike.{texts_kept}
 use Rattle.csv_input.proofs.columns.texts.Goals as goal
 

@@ -1,6 +1,6 @@
 use Rattle.std.proofs.Common.{inl}
-use Rattle.csv_columns.specs.Left.{records_in}
-use Rattle.csv_columns.specs.Found.{rows_behind}
+use Rattle.csv_columns.specs.TextRecords.{records_in}
+use Rattle.csv_columns.specs.FittingColumns.{rows_behind}
 use Rattle.csv_input.specs.Rows.{IsFirstWrong}
 use Rattle.csv_input.proofs.input.check_rows.Goals as goal
 

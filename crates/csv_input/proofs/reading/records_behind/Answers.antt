@@ -1,5 +1,5 @@
 use Rattle.std.proofs.Common.{◌≡◌, ◌∙◌, [], ap₂, sym}
-use Rattle.csv_columns.specs.Found.{rows_behind}
+use Rattle.csv_columns.specs.FittingColumns.{rows_behind}
 use Rattle.csv_input.proofs.Taken.{none_in}
 use Rattle.csv_input.proofs.reading.records_behind.Goals as goal
 

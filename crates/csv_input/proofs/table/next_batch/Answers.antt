@@ -1,5 +1,5 @@
 use Rattle.std.proofs.Common.{[], false, arith}
-use Rattle.arrow_schema.specs.declared.data_type.DataType.TheVariants as type
+use Rattle.arrow_types.specs.declared.data_type.DataType.TheVariants as type
 use Rattle.csv_input.specs.inside.Batches.{IsBatchOf}
 use Rattle.csv_input.specs.inside.Cells.{HasWrongColumn}
 use Rattle.csv_input.proofs.Taken.{batch_taken, none_wrong}

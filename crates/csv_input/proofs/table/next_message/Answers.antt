@@ -1,5 +1,5 @@
 use Rattle.std.proofs.Common.{List, subst}
-use Rattle.arrow_schema.specs.declared.schema.Field.{Field}
+use Rattle.arrow_types.specs.declared.schema.Field.{Field}
 use Rattle.csv_input.specs.inside.Batches.{IsNextBatch}
 use Rattle.csv_input.proofs.Taken.{message_taken}
 use Rattle.csv_input.proofs.table.next_message.Goals as goal

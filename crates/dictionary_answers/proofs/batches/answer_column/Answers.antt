@@ -2,8 +2,8 @@ use Rattle.std.proofs.Common.{◌∙◌, ℕ, List, map, ap, length, subst, Bor,
 use Rattle.std.proofs.lemmas.List.{length-map}
 use Rattle.arrays.specs.Column.{slot_of, values_of}
 use Rattle.dictionary_answers.specs.Answer.{LiesOver}
-use Rattle.dictionary_answers.specs.Coded.{coded_at, held}
-use Rattle.dictionary_answers.specs.inside.Packed.{numbers_in}
+use Rattle.dictionary_answers.specs.inside.CodedTexts.{coded_texts_at, held}
+use Rattle.dictionary_answers.specs.inside.PackedPlaces.{numbers_in}
 use Rattle.dictionary_answers.proofs.Slots.{few_texts}
 use Rattle.dictionary_answers.proofs.IndicesMade.{led_same}
 use Rattle.dictionary_answers.proofs.batches.answer_column.Goals as goal
@@ -16,7 +16,7 @@ column_over-requires-clause-led c = (values_of c.args.column.now, rw c.texts.ens
 
 pub column_over-requires-clause-few : goal.column_over-requires-clause-few
 column_over-requires-clause-few c =
-    let coded = coded_at c.in_ok-found-in-Dictionary.found (numbers_in c.in_ok-found-in-Dictionary.packed.items) in
+    let coded = coded_texts_at c.in_ok-found-in-Dictionary.found (numbers_in c.in_ok-found-in-Dictionary.packed.items) in
     omega (
       arith,
       few_texts (slot_of c.args.column.now) c.args.column.now.len c.args.room coded c.in_ok-found-in-Dictionary.ensures.coded,

@@ -3,7 +3,7 @@ use Rattle.std.specs.Option.{option_to_list}
 use Rattle.scan_base.specs.declared.value.Value.{Value}
 use Rattle.arrays.specs.Texts.{texts_values}
 use Rattle.std.proofs.lemmas.List.{take_all}
-use Rattle.arrow_schema.specs.declared.schema.Field.{Field}
+use Rattle.arrow_types.specs.declared.schema.Field.{Field}
 use Rattle.arrays.specs.Column.{ColumnAt}
 use Rattle.dictionary_answers.specs.Answer.{AreAnswered, IsAnswered, IsCodable, column_bytes, column_dictionary, coded_bytes, dictionaries_of, dictionary_seen}
 use Rattle.dictionary_answers.proofs.Answered.{codable_long, codable_at}

@@ -1,7 +1,7 @@
 use Rattle.std.proofs.Common.{◌≡◌, ℕ, List, length, sym, ap, subst, arith}
 use Rattle.arrays.specs.Column.{values_of}
-use Rattle.dictionary_answers.specs.Coded.{AreCoded, FoundAt, coded_at}
-use Rattle.dictionary_answers.specs.inside.Packed.{numbers_in}
+use Rattle.dictionary_answers.specs.inside.CodedTexts.{AreCoded, DistinctTextsAt, coded_texts_at}
+use Rattle.dictionary_answers.specs.inside.PackedPlaces.{numbers_in}
 use Rattle.dictionary_answers.proofs.Numbers.{written_back}
 use Rattle.dictionary_answers.proofs.columns.code_packed.Goals as goal
 
@@ -12,5 +12,5 @@ returns-clause-coded c =
     let items = c.in_ok-packed.packed.items in
     let long : length items ≡ c.in_ok-packed.packed.len = omega (arith, c.in_ok-packed.packed.ok) in
     let same : length new ≡ length items = omega (arith, c.code_slots.auto.packed) in
-    subst (λ (bytes : List ℕ). AreCoded values c.args.room (coded_at c.code_slots.new.found (numbers_in bytes))) (sym (written_back c.in_ok-packed.packed.len new items long same))
-    (subst (λ (n : ℕ). AreCoded values n (coded_at c.code_slots.new.found (numbers_in new))) (ap (λ (f : FoundAt). f.left) c.new-found.ensures) c.in_ok-code_slots.ensures.coded)
+    subst (λ (bytes : List ℕ). AreCoded values c.args.room (coded_texts_at c.code_slots.new.found (numbers_in bytes))) (sym (written_back c.in_ok-packed.packed.len new items long same))
+    (subst (λ (n : ℕ). AreCoded values n (coded_texts_at c.code_slots.new.found (numbers_in new))) (ap (λ (f : DistinctTextsAt). f.left) c.new-found.ensures) c.in_ok-code_slots.ensures.coded)

@@ -1,14 +1,14 @@
 use Rattle.std.proofs.Common.{map, take}
 use Rattle.std.specs.List.{range_with_len}
 use Rattle.arrays.specs.Column.{slot_of}
-use Rattle.dictionary_answers.specs.Coded.{AreCoded, coded_at}
-use Rattle.dictionary_answers.specs.inside.Packed.{numbers_in}
+use Rattle.dictionary_answers.specs.inside.CodedTexts.{AreCoded, coded_texts_at}
+use Rattle.dictionary_answers.specs.inside.PackedPlaces.{numbers_in}
 use Rattle.dictionary_answers.specs.inside.Table.{IsTable}
 use Rattle.dictionary_answers.proofs.columns.code_some.Given as goal
 
 -- the slots so far are coded, and the table leads to their texts
 abbrev pub invariant-loop-place : goal.invariant-loop-place
 invariant-loop-place g l = record {
-  coded : AreCoded (map (slot_of l.of.column.now) (range_with_len 0 l.place)) l.initial.found.left (coded_at l.found (take l.place (numbers_in l.packed)));
+  coded : AreCoded (map (slot_of l.of.column.now) (range_with_len 0 l.place)) l.initial.found.left (coded_texts_at l.found (take l.place (numbers_in l.packed)));
   table : IsTable l.of.cells.dictionary l.found.texts l.table;
 }

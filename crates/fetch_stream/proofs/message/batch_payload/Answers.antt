@@ -1,6 +1,6 @@
 use Rattle.std.proofs.Common.{◌≡◌, ◌++◌, length, refl, ap, length-append, arith, rules}
 use Rattle.flight_proto.specs.FlightData.{data_head}
-use Rattle.ipc_batch.specs.Written.{body_of, buffers_written}
+use Rattle.ipc_batch.specs.WrittenMessages.{body_of, batch_buffers_written}
 use Rattle.fetch_stream.proofs.Sizes.{batch_fits}
 use Rattle.fetch_stream.proofs.Streaming.{batch_said}
 use Rattle.fetch_stream.proofs.message.batch_payload.Goals as goal
@@ -8,7 +8,7 @@ use Rattle.fetch_stream.proofs.message.batch_payload.Goals as goal
 pub new-requires-clause-short : goal.new-requires-clause-short
 new-requires-clause-short c =
     let batch = c.args.batch.now in
-    let body = body_of (buffers_written batch.columns) in
+    let body = body_of (batch_buffers_written batch.columns) in
     let header = c.in_ok-header.header.items in
     let head : c.put_flight_data_head.new.out.items ≡ data_head header (length body) = search rules in
     let fits = batch_fits header body (data_head header (length body) ++ body) refl c.in_ok-header.ensures.short c.requires.short in
@@ -19,7 +19,7 @@ new-requires-clause-short c =
 pub returns-clause-said : goal.returns-clause-said
 returns-clause-said c =
     let batch = c.args.batch.now in
-    let body = body_of (buffers_written batch.columns) in
+    let body = body_of (batch_buffers_written batch.columns) in
     let header = c.in_ok-header.header.items in
     let whole : c.new.result ≡ data_head header (length body) ++ body = search rules in
     batch_said c.new.result header body batch whole (search rules) c.requires.short refl c.in_ok-header.ensures.rows

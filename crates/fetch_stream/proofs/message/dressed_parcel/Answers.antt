@@ -3,11 +3,11 @@ use Rattle.arrays.specs.Batch.{BatchAt}
 use Rattle.flight_info.specs.Payloads.{FitMessages}
 use Rattle.flight_info.proofs.Fitting.{one_fits}
 use Rattle.ipc_batch.specs.declared.writer.WrittenMessage.{WrittenMessage}
-use Rattle.ipc_batch.specs.Seen.{written_seen}
-use Rattle.ipc_batch.specs.Written.{body_length}
+use Rattle.ipc_batch.specs.MessageView.{written_seen}
+use Rattle.ipc_batch.specs.WrittenMessages.{body_length}
 use Rattle.dictionary_answers.specs.Lengths.{bodies_length}
 use Rattle.fetch_stream.specs.Streams.{most_body_bytes}
-use Rattle.fetch_stream.specs.inside.Written.{SaysWritten}
+use Rattle.fetch_stream.specs.inside.WrittenPayloads.{SaysWritten}
 use Rattle.fetch_stream.proofs.Streaming.{carry_last, short_messages}
 use Rattle.fetch_stream.proofs.message.dressed_parcel.Goals as goal
 

@@ -6,9 +6,9 @@ use Rattle.std.proofs.lemmas.List.Elements.{All-rest, All-head}
 use Rattle.flight_info.specs.Payloads.{Payload, FitMessages}
 use Rattle.flight_info.proofs.Fitting.{none_fit, one_fits}
 use Rattle.ipc_batch.specs.declared.writer.WrittenMessage.{WrittenMessage}
-use Rattle.ipc_batch.specs.Said.{Sent}
-use Rattle.ipc_batch.specs.Seen.{written_seen}
-use Rattle.fetch_stream.specs.inside.Written.{Carries, IsShort}
+use Rattle.ipc_batch.specs.SaidRows.{Sent}
+use Rattle.ipc_batch.specs.MessageView.{written_seen}
+use Rattle.fetch_stream.specs.inside.WrittenPayloads.{Carries, IsShort}
 use Rattle.fetch_stream.proofs.Streaming.{carry_next}
 use Rattle.fetch_stream.proofs.message.message_payloads.Goals as goal
 

@@ -2,8 +2,8 @@ use Rattle.std.proofs.Common.{◌++◌, All, List, map}
 use Rattle.std.specs.List.{AllZip}
 use Rattle.std.specs.Vec.Iter.{into_iter_items}
 use Rattle.flight_info.specs.Payloads.{Payload, FitMessages}
-use Rattle.ipc_batch.specs.Seen.{written_seen}
-use Rattle.fetch_stream.specs.inside.Written.{Carries, IsShort}
+use Rattle.ipc_batch.specs.MessageView.{written_seen}
+use Rattle.fetch_stream.specs.inside.WrittenPayloads.{Carries, IsShort}
 use Rattle.fetch_stream.proofs.message.message_payloads.Given as goal
 
 -- where others carry the messages that are left, all carry all

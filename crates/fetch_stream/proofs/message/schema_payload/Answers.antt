@@ -1,5 +1,5 @@
 use Rattle.std.proofs.Common.{◌≡◌, [], None, length, ◌∙◌, arith, rules}
-use Rattle.arrow_schema.specs.Written.{schema_bytes}
+use Rattle.arrow_schema.specs.WrittenHeader.{schema_bytes}
 use Rattle.flight_proto.specs.FlightData.{data_bytes}
 use Rattle.fetch_stream.proofs.Sizes.{schema_fits}
 use Rattle.fetch_stream.proofs.Streaming.{schema_said}

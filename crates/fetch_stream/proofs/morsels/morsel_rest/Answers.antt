@@ -2,7 +2,7 @@ use Rattle.std.proofs.Common.{◌≡◌, [], refl, sym, subst, arith}
 use Rattle.arrays.specs.Batch.{rows_of}
 use Rattle.scan_exec.specs.Scan.{ScanAt}
 use Rattle.fetch_stream.specs.declared.source.Source.TheVariants.{Scanned}
-use Rattle.fetch_stream.specs.inside.Ahead.{IsSource}
+use Rattle.fetch_stream.specs.inside.RowsAhead.{IsSource}
 use Rattle.fetch_stream.proofs.Falling.{behind_part, is_part}
 use Rattle.fetch_stream.proofs.morsels.morsel_rest.Goals as goal
 

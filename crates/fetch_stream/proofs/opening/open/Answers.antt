@@ -1,5 +1,5 @@
 use Rattle.std.proofs.Common.{refl}
-use Rattle.table_versions.specs.Stored.{tables_of}
+use Rattle.table_versions.specs.StoredTables.{tables_of}
 use Rattle.flight_info.specs.Tables.{tables_listed}
 use Rattle.fetch_stream.proofs.opening.open.Goals as goal
 

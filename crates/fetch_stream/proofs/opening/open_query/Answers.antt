@@ -1,6 +1,6 @@
 use Rattle.std.proofs.Common.{◌≤◌, List, ap, ◌∙◌, arith}
 use Rattle.std.proofs.lemmas.Result.{err_from_is_err_and}
-use Rattle.table_versions.specs.Stored.{tables_of}
+use Rattle.table_versions.specs.StoredTables.{tables_of}
 use Rattle.table_versions.specs.Table.{Row}
 use Rattle.typed_plan.specs.View.{plan_of}
 use Rattle.scan_exec.proofs.PlanGives.{rows_law}

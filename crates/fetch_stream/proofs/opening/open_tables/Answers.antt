@@ -1,9 +1,9 @@
 use Rattle.std.proofs.Common.{◌∙◌, sym, subst}
-use Rattle.arrow_schema.specs.declared.schema.Schema.{Schema}
-use Rattle.table_versions.specs.Stored.{tables_of}
+use Rattle.arrow_types.specs.declared.schema.Schema.{Schema}
+use Rattle.table_versions.specs.StoredTables.{tables_of}
 use Rattle.arrays.specs.Batch.{rows_of}
 use Rattle.flight_info.specs.Tables.{tables_listed, tables_schema}
-use Rattle.fetch_stream.specs.inside.Ahead.{AnsweredAs}
+use Rattle.fetch_stream.specs.inside.RowsAhead.{AnsweredAs}
 use Rattle.fetch_stream.proofs.Going.{opens_all}
 use Rattle.fetch_stream.proofs.Scanned.{typed_dressable}
 use Rattle.fetch_stream.proofs.opening.open_tables.Goals as goal

@@ -1,7 +1,7 @@
 use Rattle.std.proofs.Common.{sym, subst}
-use Rattle.arrow_schema.specs.declared.schema.Schema.{Schema}
-use Rattle.fetch_stream.specs.inside.Ahead.{AnsweredAs, schema_behind}
-use Rattle.fetch_stream.specs.inside.Cut.{Cuts}
+use Rattle.arrow_types.specs.declared.schema.Schema.{Schema}
+use Rattle.fetch_stream.specs.inside.RowsAhead.{AnsweredAs, schema_behind}
+use Rattle.fetch_stream.specs.inside.BatchCuts.{Cuts}
 use Rattle.fetch_stream.specs.inside.Steps.{HasNext}
 use Rattle.fetch_stream.proofs.Stepping.{says_next}
 use Rattle.fetch_stream.proofs.Streaming.{few_answered}

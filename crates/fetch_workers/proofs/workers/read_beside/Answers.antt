@@ -1,8 +1,8 @@
 use denote.Param.Send.{sendable}
 use Rattle.std.proofs.Crossing.{crosses}
 use Rattle.scan_base.proofs.fault.Fault.TheSendSync as fault
-use Rattle.hash_seed.proofs.seed.HashSeed.TheSendSync as seed
-use Rattle.fetch_stream.proofs.made.Made.TheSendSync as made
+use Rattle.scan_base.proofs.seed.HashSeed.TheSendSync as seed
+use Rattle.fetch_stream.proofs.ahead_parcel.AheadParcel.TheSendSync as made
 use Rattle.fetch_workers.proofs.Sent.{scan_sync, stream_send}
 use Rattle.fetch_workers.proofs.Kept.{answers_morsels}
 use Rattle.fetch_workers.proofs.workers.read_beside.Goals as goal

@@ -1,6 +1,6 @@
 use Rattle.std.proofs.Common.{◌≡◌, ◌%◌, ◌++◌, length, drop, map}
 use Rattle.flatbuf.specs.Block.{children}
-use Rattle.flatbuf.specs.Given.{given_of}
+use Rattle.flatbuf.specs.GivenSlots.{given_of}
 use Rattle.flatbuf.proofs.build.put_children.Given as goal
 
 abbrev pub invariant-loop-slot : goal.invariant-loop-slot

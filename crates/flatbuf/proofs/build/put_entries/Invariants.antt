@@ -1,6 +1,6 @@
 use Rattle.std.proofs.Common.{◌≡◌, ◌+◌, ◌*◌, ◌++◌, drop, map}
 use Rattle.flatbuf.specs.Block.{numbers, entries}
-use Rattle.flatbuf.specs.Given.{given_of}
+use Rattle.flatbuf.specs.GivenSlots.{given_of}
 use Rattle.flatbuf.proofs.build.put_entries.Given as goal
 
 abbrev pub invariant-loop-slot : goal.invariant-loop-slot

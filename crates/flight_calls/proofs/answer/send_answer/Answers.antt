@@ -8,7 +8,7 @@ use Rattle.flight_calls.proofs.answer.send_answer.Goals as goal
 
 pub returns-in-Stream-clause-bytes : goal.returns-in-Stream-clause-bytes
 returns-in-Stream-clause-bytes g c asked log new answered =
-    rw c.in-Stream.is (stream_sent asked log new c.in-Stream.opening _ _ _ _ _ (rw c.in-Stream.is at answered) c.send_fetch.ensures.bytes)
+    rw c.in-Stream.is (stream_sent asked log new c.in-Stream.opening _ _ _ (rw c.in-Stream.is at answered) c.send_fetch.ensures.bytes)
 
 pub returns-in-Floor-clause-bytes : goal.returns-in-Floor-clause-bytes
 returns-in-Floor-clause-bytes g c asked log new answered =
@@ -17,5 +17,5 @@ returns-in-Floor-clause-bytes g c asked log new answered =
       reply = whole (floor_bytes floor ∷ []);
       right = (rw c.in-Floor.is at answered, refl);
       fits = one_fits [] (floor_bytes floor) none_fit (floor_fits floor);
-      sent = c.send_floor.ensures.bytes;
+      sent = c.send_floor.ensures;
     })

@@ -1,11 +1,5 @@
-use Rattle.std.proofs.lemmas.Result.{err_from_is_err_and}
-use Rattle.grpc_frame.proofs.Sending.{flushed, begun_alone}
+use Rattle.grpc_frame.proofs.Outgoing.{then_flushed}
 use Rattle.flight_calls.proofs.answer.write_last_status.Goals as goal
 
-pub returns-in_err-send_status-clause-bytes : goal.returns-in_err-send_status-clause-bytes
-returns-in_err-send_status-clause-bytes g c =
-    let p = err_from_is_err_and c.from_residual.result c.from_residual.ensures.1 in
-    rw p.1 (begun_alone _ _ _ _ _ c.requires.empty c.in_err-send_status.ensures.bytes)
-
 pub returns-clause-bytes : goal.returns-clause-bytes
-returns-clause-bytes g c = flushed _ _ _ _ _ _ _ c.requires.empty c.in_ok-send_status.ensures.bytes c.flush.ensures.bytes
+returns-clause-bytes g c = then_flushed _ _ _ _ _ c.in_ok-send_status.ensures.bytes c.flush.ensures.bytes

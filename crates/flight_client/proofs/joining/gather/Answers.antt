@@ -1,8 +1,8 @@
 use Rattle.std.proofs.Common.{◌≡◌, ◌∷◌, ◌∙◌, List, None, Some, refl, sym, subst, rules}
 use Rattle.std.specs.Vec.Iter.{into_iter_items}
 use Rattle.flight_client.specs.Stream.{StreamAt}
-use Rattle.flight_client.specs.inside.Gathered.{gathered}
-use Rattle.flight_client.specs.inside.Typed.{FitRows}
+use Rattle.flight_client.specs.inside.GatheredStreams.{gathered}
+use Rattle.flight_client.specs.inside.TypedColumns.{FitRows}
 use Rattle.flight_client.proofs.Typed.{fit_head, fit_tail}
 use Rattle.flight_client.proofs.joining.gather.Goals as goal
 

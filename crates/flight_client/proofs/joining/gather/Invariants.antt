@@ -1,7 +1,7 @@
 use Rattle.std.proofs.Common.{◌≡◌, None}
 use Rattle.std.specs.Vec.Iter.{into_iter_items}
-use Rattle.flight_client.specs.inside.Gathered.{gathered}
-use Rattle.flight_client.specs.inside.Typed.{FitRows}
+use Rattle.flight_client.specs.inside.GatheredStreams.{gathered}
+use Rattle.flight_client.specs.inside.TypedColumns.{FitRows}
 use Rattle.flight_client.proofs.joining.gather.Given as goal
 
 abbrev pub invariant-loop-stream : goal.invariant-loop-stream

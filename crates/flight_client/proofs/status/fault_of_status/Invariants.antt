@@ -1,6 +1,6 @@
 use Rattle.std.proofs.Common.{ℕ, ◌≤◌, ◌<◌}
 use Rattle.flight_client.specs.Status.{HasStatus}
-use Rattle.flight_client.specs.inside.Numbered.{fault_numbered}
+use Rattle.flight_client.specs.inside.NumberedFaults.{fault_numbered}
 use Rattle.flight_client.proofs.status.fault_of_status.Given as goal
 
 abbrev pub invariant-loop-number : goal.invariant-loop-number

@@ -1,12 +1,12 @@
 use Rattle.std.proofs.Common.{◌≡◌, [], map, arith, ap, ◌∙◌, subst}
 use Rattle.table_versions.proofs.Tables.{versions_are_databases}
-use Rattle.version_log.specs.Log.{Log, ArePuts, puts_of}
+use Rattle.version_log.specs.Log.{Log, puts_of}
+use Rattle.flight_core.proofs.Runs.{ArePuts, run_more, whole_run, refusals_leave_nothing, run_is_log, none_is_log}
 use Rattle.flight_core.specs.Event.{asked_in}
-use Rattle.flight_core.specs.Placed.{log_in}
+use Rattle.flight_core.specs.PlacedEntries.{log_in}
 use Rattle.flight_core.proofs.Placing.{log_in-placed}
 use Rattle.flight_core.proofs.Lone.{alone_made, alone_steps}
 use Rattle.flight_core.proofs.Running.{runs_meet_headline}
-use Rattle.flight_core.proofs.Runs.{run_more, whole_run, refusals_leave_nothing, run_is_log, none_is_log}
 use Rattle.flight_core.proofs.machine.run.Goals as goal
 
 pub loop-event-preserved : goal.loop-event-preserved

@@ -1,5 +1,5 @@
 use Rattle.std.proofs.Common.{Ok}
-use Rattle.flight_core.specs.Answered.{ReactsBy, fault_in}
+use Rattle.flight_core.specs.StepAnswer.{ReactsBy, fault_in}
 use Rattle.flight_core.specs.Asked.{Asked, info, tables, schema, fetch, expire}
 use Rattle.flight_core.specs.Machine.{AsShown}
 use Rattle.flight_core.proofs.Reacting.{same_puts}

@@ -1,4 +1,4 @@
-use Rattle.table_versions.specs.Stored.{put_of}
+use Rattle.table_versions.specs.StoredTables.{put_of}
 use Rattle.flight_core.proofs.Replies.{accepted_reply}
 use Rattle.flight_core.proofs.Reacting.{put_unread, put_tired, put_refused, put_made, more_puts, same_puts}
 use Rattle.flight_core.proofs.steps.step_put.Goals as goal

@@ -1,5 +1,5 @@
 use Rattle.std.proofs.Common.{◌≡◌, List, ℕ, [], ◌∷◌, ap, arith}
-use Rattle.table_versions.specs.Stored.{tables_of}
+use Rattle.table_versions.specs.StoredTables.{tables_of}
 use Rattle.flight_info.proofs.Describing.{tables_described}
 use Rattle.flight_info.proofs.info.describe_tables.Goals as goal
 

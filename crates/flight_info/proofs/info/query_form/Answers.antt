@@ -1,10 +1,10 @@
 use Rattle.std.proofs.Common.{◌≢◌, subst}
 use Rattle.std.proofs.lemmas.Result.{err_from_is_err_and}
 use Rattle.scan_base.specs.declared.fault.Fault.TheVariants.{OutOfMemory}
-use Rattle.flight_proto.specs.Wanted.{rows_of}
-use Rattle.table_versions.specs.Stored.{CatalogAt, tables_of}
+use Rattle.flight_proto.specs.InfoCommand.{rows_of}
+use Rattle.table_versions.specs.StoredTables.{CatalogAt, tables_of}
 use Rattle.typed_plan.specs.View.{plan_of}
-use Rattle.flight_info.specs.Meant.{Misses}
+use Rattle.flight_info.specs.QueryMeaning.{Misses}
 use Rattle.flight_info.proofs.Describing.{query_form}
 use Rattle.flight_info.proofs.info.query_form.Goals as goal
 

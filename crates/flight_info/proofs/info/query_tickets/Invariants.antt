@@ -1,6 +1,6 @@
 use Rattle.std.proofs.Common.{◌≡◌, map, take}
 use Rattle.endpoint_split.specs.Handle.{Query}
-use Rattle.flight_info.specs.inside.Described.{ticket_bytes}
+use Rattle.flight_info.specs.inside.InfoParts.{ticket_bytes}
 use Rattle.flight_info.proofs.info.query_tickets.Given as goal
 
 abbrev pub invariant-loop-range : goal.invariant-loop-range

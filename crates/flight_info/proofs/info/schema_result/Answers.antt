@@ -1,5 +1,5 @@
-use Rattle.flight_proto.specs.Wanted.{wanted_said}
-use Rattle.table_versions.specs.Stored.{tables_of}
+use Rattle.flight_proto.specs.InfoCommand.{wanted_said}
+use Rattle.table_versions.specs.StoredTables.{tables_of}
 use Rattle.flight_info.proofs.Answering.{shown, schema_made}
 use Rattle.flight_info.proofs.info.schema_result.Goals as goal
 

@@ -1,4 +1,4 @@
-use Rattle.table_versions.specs.Stored.{tables_of}
+use Rattle.table_versions.specs.StoredTables.{tables_of}
 use Rattle.flight_info.proofs.Describing.{tables_form}
 use Rattle.flight_info.proofs.info.wanted_form.Goals as goal
 

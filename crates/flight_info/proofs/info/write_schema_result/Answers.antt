@@ -1,5 +1,5 @@
 use Rattle.std.proofs.Common.{◌≡◌, rules}
-use Rattle.flight_proto.specs.Wrapped.{wrapped_bytes}
+use Rattle.flight_proto.specs.WrappedBytes.{wrapped_bytes}
 use Rattle.flight_info.proofs.Describing.{result_fits}
 use Rattle.flight_info.proofs.info.write_schema_result.Goals as goal
 

@@ -1,5 +1,5 @@
 use Rattle.std.proofs.Common.{take}
-use Rattle.flight_info.specs.inside.Listed.{names_listed}
+use Rattle.flight_info.specs.inside.ListedTables.{names_listed}
 use Rattle.flight_info.proofs.Listed.{more_names}
 use Rattle.flight_info.proofs.tables.name_column.Goals as goal
 

@@ -1,5 +1,5 @@
 use Rattle.std.proofs.Common.{take}
-use Rattle.flight_info.specs.inside.Listed.{HoldTexts, names_listed}
+use Rattle.flight_info.specs.inside.ListedTables.{HoldTexts, names_listed}
 use Rattle.flight_info.proofs.tables.name_column.Given as goal
 
 abbrev pub invariant-loop-place : goal.invariant-loop-place

@@ -1,5 +1,5 @@
 use Rattle.std.proofs.Common.{◌≡◌, ◌+◌, ◌*◌, Some, refl, ◌∙◌}
-use Rattle.flight_info.specs.inside.Listed.{nulls_listed}
+use Rattle.flight_info.specs.inside.ListedTables.{nulls_listed}
 use Rattle.flight_info.proofs.Listed.{zeros, null_slots, read_same, never_refused}
 use Rattle.flight_info.proofs.tables.null_column.Goals as goal
 

@@ -1,7 +1,7 @@
 use Rattle.std.proofs.Common.{◌≡◌, List, ap, ◌∙◌}
 use Rattle.arrays.specs.Batch.{rows_of}
 use Rattle.arrays.specs.Column.{ColumnAt}
-use Rattle.table_versions.specs.Stored.{tables_of}
+use Rattle.table_versions.specs.StoredTables.{tables_of}
 use Rattle.flight_info.specs.Tables.{tables_listed}
 use Rattle.flight_info.proofs.Listed.{batch_with, all_long, rows_are, listed_short}
 use Rattle.flight_info.proofs.tables.tables_batch.Goals as goal

@@ -1,5 +1,5 @@
 use Rattle.std.proofs.Common.{◌<◌, length, take, arith}
-use Rattle.flight_info.specs.inside.Listed.{types_listed}
+use Rattle.flight_info.specs.inside.ListedTables.{types_listed}
 use Rattle.flight_info.proofs.Listed.{more_types}
 use Rattle.flight_info.proofs.tables.type_column.Goals as goal
 

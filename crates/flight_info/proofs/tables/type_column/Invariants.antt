@@ -1,5 +1,5 @@
 use Rattle.std.proofs.Common.{take}
-use Rattle.flight_info.specs.inside.Listed.{HoldTexts, types_listed}
+use Rattle.flight_info.specs.inside.ListedTables.{HoldTexts, types_listed}
 use Rattle.flight_info.proofs.tables.type_column.Given as goal
 
 abbrev pub invariant-loop-place : goal.invariant-loop-place

@@ -1,5 +1,6 @@
 use Rattle.std.proofs.Common.{◌≡◌, ◌+◌, length, map, List, Ok}
-use Rattle.scan_base.specs.Lists.{each, behind}
+use Rattle.scan_base.specs.Lists.{each}
+use Rattle.scan_base.proofs.ReadingLaws.{behind}
 use Rattle.proto_wire.specs.Standard.{Entry}
 use Rattle.flight_proto.specs.Lookup.{chunks}
 use Rattle.flight_proto.specs.Cursor.{left_of}

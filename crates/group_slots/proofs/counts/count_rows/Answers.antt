@@ -2,7 +2,7 @@ use Rattle.std.proofs.Common.{◌<◌, length, get_or, arith, refl}
 use Rattle.std.proofs.lemmas.List.{length-map}
 use Rattle.std.proofs.lemmas.List.Elements.{All-get_or}
 use Rattle.typed_plan.specs.declared.plan.Aggregate.TheVariants.{CountRows}
-use Rattle.group_slots.specs.Held.{count_tally}
+use Rattle.group_slots.specs.HeldTallies.{count_tally}
 use Rattle.group_slots.proofs.Counted.{count_few, count_step}
 use Rattle.group_slots.proofs.counts.count_rows.Goals as goal
 use Rattle.group_slots.proofs.counts.count_rows.Goals.{In-loop-k}

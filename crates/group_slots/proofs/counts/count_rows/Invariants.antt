@@ -1,5 +1,5 @@
 use Rattle.typed_plan.specs.declared.plan.Aggregate.TheVariants.{CountRows}
-use Rattle.group_slots.specs.Held.{count_tallies}
+use Rattle.group_slots.specs.HeldTallies.{count_tallies}
 use Rattle.group_slots.proofs.Stepping.{IsStepped}
 use Rattle.group_slots.proofs.counts.count_rows.Given as goal
 

@@ -2,7 +2,7 @@ use Rattle.std.proofs.Common.{◌<◌, length, get_or, arith}
 use Rattle.std.proofs.lemmas.List.{length-map}
 use Rattle.std.proofs.lemmas.List.Elements.{All-get_or}
 use Rattle.typed_plan.specs.declared.plan.Aggregate.TheVariants.{Count}
-use Rattle.group_slots.specs.Held.{count_tally}
+use Rattle.group_slots.specs.HeldTallies.{count_tally}
 use Rattle.group_slots.proofs.Counted.{count_few, count_step, counted_more}
 use Rattle.group_slots.proofs.counts.count_values.Goals as goal
 use Rattle.group_slots.proofs.counts.count_values.Goals.{In-loop-k}

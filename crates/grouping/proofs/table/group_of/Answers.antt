@@ -1,6 +1,6 @@
 use Rattle.std.proofs.Common.{sym, ◌∙◌}
 use Rattle.std.proofs.lemmas.Result.{IfOk-weaker}
-use Rattle.typed_plan.specs.Grouped.{same_key}
+use Rattle.typed_plan.specs.GroupedRows.{same_key}
 use Rattle.first_rows.specs.RowKeys.{key_of}
 use Rattle.grouping.proofs.Finding.{position_map}
 use Rattle.grouping.proofs.table.group_of.Goals as goal

@@ -1,6 +1,6 @@
 use Rattle.std.proofs.Common.{map}
 use Rattle.arrays.specs.Batch.{row_of}
-use Rattle.group_slots.specs.Tagged.{value_tagged}
+use Rattle.group_slots.specs.TaggedValues.{value_tagged}
 use Rattle.first_rows.specs.RowKeys.{key_of}
 use Rattle.grouping.proofs.Knowing.{known_found}
 use Rattle.grouping.proofs.table.groups_of_numbers.Goals as goal

@@ -1,7 +1,6 @@
 use Rattle.std.proofs.Common.{◌+◌, ◌++◌, ap, sym, ◌∙◌, arith, drop}
 use Rattle.hash_join.specs.Pairs.{places}
-use Rattle.hash_join.specs.Places.{places_from}
-use Rattle.hash_join.proofs.Places.{places_in, places_is, rows_few, more_places}
+use Rattle.hash_join.proofs.Places.{places_from, places_in, places_is, rows_few, more_places}
 use Rattle.hash_join.proofs.rights.places_of.Goals as goal
 
 pub loop-number-init : goal.loop-number-init

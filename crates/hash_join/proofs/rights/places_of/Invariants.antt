@@ -1,6 +1,6 @@
 use Rattle.std.proofs.Common.{◌≡◌, ◌++◌, drop}
 use Rattle.hash_join.specs.Pairs.{places}
-use Rattle.hash_join.specs.Places.{places_from}
+use Rattle.hash_join.proofs.Places.{places_from}
 use Rattle.hash_join.proofs.rights.places_of.Given as goal
 
 abbrev pub invariant-loop-number : goal.invariant-loop-number

@@ -1,5 +1,5 @@
 use Rattle.std.proofs.Common.{◌+◌, ◌++◌, ◌∷◌, [], ℕ, List, drop, get_or, sym, ap, ◌∙◌, arith, append_assoc}
-use Rattle.array_buffers.specs.Written.{buffers_written as column_written}
+use Rattle.array_buffers.specs.ColumnBuffers.{buffers_written as column_written}
 use Rattle.ipc_batch.proofs.WriterLoops.{dropped_buffer, short_texts}
 use Rattle.ipc_batch.proofs.buffers.push_column.Goals as goal
 

@@ -1,5 +1,5 @@
 use Rattle.std.proofs.Common.{◌≡◌, ◌++◌, drop}
-use Rattle.array_buffers.specs.Written.{buffers_written as column_written}
+use Rattle.array_buffers.specs.ColumnBuffers.{buffers_written as column_written}
 use Rattle.ipc_batch.proofs.buffers.push_column.Given as goal
 
 abbrev pub invariant-loop-index : goal.invariant-loop-index

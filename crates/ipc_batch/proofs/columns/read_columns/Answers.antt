@@ -1,6 +1,6 @@
 use Rattle.std.proofs.Common.{◌∙◌, ap, arith}
 use Rattle.arrays.specs.Column.{ColumnAt}
-use Rattle.ipc_batch.specs.inside.Seen.{front_seen}
+use Rattle.ipc_batch.specs.inside.PartsView.{front_seen}
 use Rattle.ipc_batch.proofs.ColumnsRead.{read_more, long_more}
 use Rattle.ipc_batch.proofs.columns.read_columns.Goals as goal
 

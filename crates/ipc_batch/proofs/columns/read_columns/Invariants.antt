@@ -1,5 +1,5 @@
 use Rattle.std.proofs.Common.{◌≡◌, drop}
-use Rattle.scan_base.specs.Lists.{behind}
+use Rattle.scan_base.proofs.ReadingLaws.{behind}
 use Rattle.arrays.specs.Batch.{AreLong}
 use Rattle.ipc_batch.specs.Columns.{columns_from}
 use Rattle.ipc_batch.proofs.columns.read_columns.Given as goal

@@ -1,5 +1,5 @@
 use Rattle.std.proofs.Common.{◌∙◌, refl}
-use Rattle.ipc_batch.specs.Written.{dictionary_part, parts_written}
+use Rattle.ipc_batch.specs.WrittenMessages.{dictionary_batch_part, parts_written}
 use Rattle.ipc_batch.proofs.Lengths.{on_ok}
 use Rattle.ipc_batch.proofs.PartsAgain.{short_parts}
 use Rattle.ipc_batch.proofs.BatchAgain.{fit_parts}
@@ -17,7 +17,7 @@ write_message-requires c =
     rw (c.in_ok-block.ensures, c.in_ok-table.ensures.block) (short_dictionary _ _ _ (short_parts (parts_written batch) (fit_parts batch c.in_ok-table.ensures.fits)))
 
 pub returns-clause-items : goal.returns-clause-items
-unfolding dictionary_part
+unfolding dictionary_batch_part
 returns-clause-items c = on_ok c.write_message.result (λ header is. is ∙ rw (c.in_ok-block.ensures, c.in_ok-table.ensures.block, c.body_length.ensures.length) refl) c.write_message.ensures.items
 
 pub returns-clause-short : goal.returns-clause-short

@@ -2,7 +2,7 @@ use Rattle.std.proofs.Common.{ℕ, List, sym, subst}
 use Rattle.scan_base.specs.declared.truth.Truth.{Truth}
 use Rattle.scan_base.specs.declared.predicate.Predicate.{Predicate}
 use Rattle.scan_base.specs.View.{pred_of}
-use Rattle.kernels.specs.Kept.{Keeps}
+use Rattle.kernels.specs.KeptRows.{Keeps}
 use Rattle.kernels.specs.Rows.{truth_in, truths_of}
 use Rattle.kernels.proofs.KeptParts.{keeps_both}
 use Rattle.kernels.proofs.conjuncts.+keep_true.Goals as goal

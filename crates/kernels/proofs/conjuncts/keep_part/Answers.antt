@@ -1,7 +1,7 @@
 use Rattle.std.proofs.Common.{◌+◌, ◌/◌, ℕ, List, length, ap, sym, subst, ◌∙◌}
 use Rattle.scan_base.specs.declared.truth.Truth.{Truth}
 use Rattle.scan_base.specs.View.{pred_of}
-use Rattle.kernels.specs.Kept.{Keeps}
+use Rattle.kernels.specs.KeptRows.{Keeps}
 use Rattle.kernels.specs.Rows.{truths_of}
 use Rattle.kernels.proofs.KeptParts.{keeps_none}
 use Rattle.kernels.proofs.Walking.{length-truths_of}

@@ -6,7 +6,7 @@ use Rattle.scan_base.specs.declared.truth.Truth.{Truth}
 use Rattle.arrays.specs.Column.{slot_of}
 use Rattle.kernels.specs.Entries.{truth_at}
 use Rattle.kernels.specs.Parts.{said_of}
-use Rattle.kernels.specs.Rows.{cells_at, truth_in, truths_of}
+use Rattle.kernels.specs.Rows.{read_cells, truth_in, truths_of}
 use Rattle.kernels.proofs.AmongCodes.{found_again}
 use Rattle.kernels.proofs.EntryRows.{alone_truth}
 use Rattle.kernels.proofs.WordRows.{same_map}
@@ -25,5 +25,5 @@ returns-else-rows-number c =
     ∙ ap (λ (n : ℕ). map f (range_with_len n part.len)) c.part.ensures.from
     ∙ ap (λ (n : ℕ). map f (range_with_len rows.from n)) c.part.ensures.len
     ∙ same_map f (truth_in columns read p) (λ row.
-    ap (truth_at p) (c.part.ensures.cells row) ∙ sym (alone_truth c.in-Some.number (cell_in (cells_at columns read row)) p c.in-Some.ensures)) (range_with_len rows.from rows.len))
+    ap (truth_at p) (c.part.ensures.cells row) ∙ sym (alone_truth c.in-Some.number (cell_in (read_cells columns read row)) p c.in-Some.ensures)) (range_with_len rows.from rows.len))
     c.entries_part.ensures

@@ -3,7 +3,7 @@ use Rattle.std.specs.List.{range_with_len}
 use Rattle.scan_base.specs.View.{pred_of}
 use Rattle.scan_base.specs.declared.truth.Truth.{Truth}
 use Rattle.scan_base.specs.declared.value.Value.TheVariants.{Null}
-use Rattle.arrow_schema.specs.declared.data_type.IntegerType.{IntegerType}
+use Rattle.arrow_types.specs.declared.data_type.IntegerType.{IntegerType}
 use Rattle.arrays.specs.declared.layout.Layout.{Layout}
 use Rattle.arrays.specs.declared.layout.Layout.TheVariants.{Indices}
 use Rattle.arrays.specs.Column.{slot_of}

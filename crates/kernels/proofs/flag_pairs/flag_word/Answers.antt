@@ -3,11 +3,9 @@ use Rattle.scan_base.specs.declared.value.Value.TheVariants.{Null, Bool as Flag}
 use Rattle.arrays.specs.declared.layout.Layout.{Layout}
 use Rattle.arrays.specs.declared.layout.Layout.TheVariants.{Bools}
 use Rattle.arrays.specs.Layout.{layout_count, layout_slot, IsLayout}
-use Rattle.arrays.specs.Validity.{is_valid, IsLong}
-use Rattle.kernels.specs.Ranges.{validity_count}
+use Rattle.arrays.specs.Validity.{is_valid, HasBits, IsLong}
 use Rattle.kernels.specs.Words.{bit}
-use Rattle.kernels.proofs.Lanes.{bit_of_taken}
-use Rattle.kernels.proofs.NullTruths.{counted, word_there}
+use Rattle.arrays.proofs.ValidWords.{bit_of_taken}
 use Rattle.kernels.proofs.flag_pairs.flag_word.Goals as goal
 
 pub valid_word-requires : goal.valid_word-requires
@@ -17,9 +15,8 @@ valid_word-requires c =
     let from : ℕ = c.first.result + c.args.from in
     let long : IsLong cells.validity count = subst (λ (l : Layout). IsLayout l) (sym c.in-Bools.ensures.value) c.in-Bools.ensures.stands in
     let counts = ap layout_count c.in-Bools.ensures.value in
-    subst (λ (v : Option (List Bool)). (x : ℕ) × (from + 64 ≤ x) × (validity_count v x ≡ x)) (sym c.validity.ensures)
-    (word_there cells.validity count from (counted cells.validity count long)
-    (omega (arith, counts, c.len-len.ensures.stands.within, c.len-len.ensures.count, c.first.ensures, c.requires)))
+    subst (λ (v : Option (List Bool)). HasBits v (from + 64)) (sym c.validity.ensures)
+    (count, omega (arith, counts, c.len-len.ensures.stands.within, c.len-len.ensures.count, c.first.ensures, c.requires), long)
 
 pub returns-in-Bools : goal.returns-in-Bools
 returns-in-Bools c = λ row lt.

@@ -1,6 +1,6 @@
 use Rattle.std.proofs.Common.{ℕ, Bool, List, Option, map, ap, ◌∙◌}
 use Rattle.std.specs.List.{range_with_len}
-use Rattle.arrow_schema.specs.declared.data_type.IntegerType.{IntegerType}
+use Rattle.arrow_types.specs.declared.data_type.IntegerType.{IntegerType}
 use Rattle.arrays.specs.Validity.{is_valid}
 use Rattle.kernels.specs.Codes.{code_at, is_among}
 use Rattle.kernels.specs.Items.{AreCodesOf}

@@ -26,10 +26,10 @@ returns-in_ok-mask-in-Some c =
     let column = part.column.now in
     let kernel = c.null_slots-kernel.result in
     let tells = c.in-Some.ensures in
-    let first = c.first-in-Some.result in
+    let first = c.first.result in
     c.in_ok-mask-in-Some.ensures
     ∙ same_range (null_truth kernel.validity.now) (λ (row : ℕ). nullness (slot_of column row)) (first + part.from) part.from part.len (λ i lt.
     let place : ℕ = first + part.from + i in
-    let at : place ≡ column.first + (part.from + i) = omega (arith, c.first-in-Some.ensures) in
+    let at : place ≡ column.first + (part.from + i) = omega (arith, c.first.ensures) in
     ap (λ (v : Option (List Bool)). null_truth v place) c.null_slots-kernel.ensures.validity
     ∙ ap truth_from (sym (tells.nulls place) ∙ ap (λ (p : ℕ). is_null (layout_slot c.layout.result p)) at ∙ ap (λ (l : Layout). is_null (layout_slot l (column.first + (part.from + i)))) c.layout.ensures.value))

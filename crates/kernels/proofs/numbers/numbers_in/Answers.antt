@@ -6,7 +6,7 @@ use Rattle.arrays.specs.declared.layout.Layout.TheVariants.{Integers, Decimals}
 use Rattle.arrays.specs.Column.{slot_of}
 use Rattle.arrays.specs.Layout.{layout_slot}
 use Rattle.arrays.specs.Number.{element_at}
-use Rattle.kernels.proofs.Compared.{signed128}
+use Rattle.arrays.specs.inside.SignedNumbers.{signed128}
 use Rattle.kernels.proofs.Ranged.{decimals_said}
 use Rattle.kernels.proofs.WordRows.{same_range}
 use Rattle.kernels.proofs.numbers.numbers_in.Goals as goal

@@ -6,7 +6,7 @@ use Rattle.arrays.specs.declared.layout.Layout.TheVariants.{Integers, Decimals}
 use Rattle.arrays.specs.Layout.{layout_slot}
 use Rattle.arrays.specs.Number.{element_at}
 use Rattle.arrays.specs.Validity.{is_valid}
-use Rattle.kernels.proofs.Compared.{signed128}
+use Rattle.arrays.specs.inside.SignedNumbers.{signed128}
 use Rattle.kernels.proofs.pairs.fill_numbers.Goals as goal
 
 pub returns-in-Integers : goal.returns-in-Integers

@@ -23,14 +23,14 @@ returns-in_ok-mask-in-Texts c =
     let kernel = c.equal_texts-kernel.result in
     let is = c.equal_texts-kernel.ensures in
     let other = c.args.other.now in
-    let first = c.first-in-Texts.result in
+    let first = c.first.result in
     let f : ℕ → Truth = λ place. where_known (is_valid kernel.validity.now place) (is_text_at kernel.needle kernel.offsets.now kernel.bytes.now place) in
     let g : ℕ → Truth = λ row. compared Equal (slot_of column row) (Text other) in
     c.in_ok-mask-in-Texts.ensures
     ∙ same_range f g (first + part.from) part.from part.len (λ i lt.
     let place : ℕ = first + part.from + i in
     let known : Bool = is_valid cells.validity place in
-    let at : place ≡ column.first + (part.from + i) = omega (arith, c.first-in-Texts.ensures) in
+    let at : place ≡ column.first + (part.from + i) = omega (arith, c.first.ensures) in
     ap (λ (v : Option (List Bool)). where_known (is_valid v place) (is_text_at kernel.needle kernel.offsets.now kernel.bytes.now place)) is.validity
     ∙ ap (λ (t : List ℕ). where_known known (is_text_at t kernel.offsets.now kernel.bytes.now place)) is.needle
     ∙ ap (λ (o : List ℕ). where_known known (is_text_at other o kernel.bytes.now place)) is.offsets

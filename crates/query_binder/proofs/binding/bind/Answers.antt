@@ -1,17 +1,17 @@
 use Rattle.std.proofs.Common.{◌≡◌, ◌-◌, [], ◌∷◌, false, Some, None, length, map, take, drop, refl, sym, ap, subst, ◌∙◌, rules}
 use Rattle.std.proofs.lemmas.Result.{err_from_is_err_and}
-use Rattle.arrow_schema.specs.Schema.{IsSchema}
+use Rattle.arrow_types.specs.Schema.{IsSchema}
 use Rattle.std.specs.Option.{option_copied}
 use Rattle.sql_query.specs.Sentence.{sentence_of, is_left_out_whole}
-use Rattle.table_versions.specs.Stored.{TableAt, tables_of, plain}
-use Rattle.query_binder.specs.Over.{AreTablesOf, names_of, places_of}
+use Rattle.table_versions.specs.StoredTables.{TableAt, tables_of, plain}
+use Rattle.query_binder.specs.PlaceTables.{AreTablesOf, names_of, places_of}
 use Rattle.table_versions.specs.Database.{table_at}
 use Rattle.table_versions.proofs.Stores.{table_at-tables_of}
 use Rattle.query_binder.specs.Binding.{IsPlanOf}
-use Rattle.query_binder.specs.Bound.{places_fault}
-use Rattle.typed_plan.specs.Held.{tree_tables, tree_schemas}
+use Rattle.query_binder.specs.NameRules.{places_fault}
+use Rattle.typed_plan.specs.HeldTables.{tree_tables, tree_schemas}
 use Rattle.typed_plan.specs.Plan.{PlanAt}
-use Rattle.typed_plan.specs.Typed.{IsTyped}
+use Rattle.typed_plan.specs.TypedPlans.{IsTyped}
 use Rattle.typed_plan.specs.View.{BoundAt, plan_of}
 use Rattle.query_binder.proofs.LookedUp.{glance_is, glance_refuses}
 use Rattle.query_binder.proofs.Over.{others_are, fault_is, bound_over, schemas_are, names_hold}

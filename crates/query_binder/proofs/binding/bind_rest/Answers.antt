@@ -1,7 +1,7 @@
 use Rattle.std.proofs.Common.{sym, subst}
-use Rattle.arrow_schema.specs.Schema.{IsSchema}
+use Rattle.arrow_types.specs.Schema.{IsSchema}
 use Rattle.sql_query.specs.Sentence.{sentence_of}
-use Rattle.query_binder.specs.Bound.{select_fault}
+use Rattle.query_binder.specs.NameRules.{select_fault}
 use Rattle.typed_plan.specs.Faults.{first_in, fault_in}
 use Rattle.typed_plan.specs.Scope.{column_of}
 use Rattle.typed_plan.proofs.TypedNames.{then_none}

@@ -1,7 +1,7 @@
 use Rattle.std.proofs.Common.{◌≡◌, take, drop}
-use Rattle.query_binder.specs.Bound.{equality_fault}
+use Rattle.query_binder.specs.NameRules.{equality_fault}
 use Rattle.typed_plan.specs.Faults.{first_in}
-use Rattle.query_binder.specs.Planned.{keys_of}
+use Rattle.query_binder.specs.PlannedTree.{keys_of}
 use Rattle.query_binder.proofs.joining.bind_on.Given as goal
 
 abbrev pub invariant-loop-equality : goal.invariant-loop-equality

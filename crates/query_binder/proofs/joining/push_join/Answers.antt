@@ -1,10 +1,10 @@
 use Rattle.std.proofs.Common.{◌≡◌, ◌++◌, refl, rules, length, sym, subst}
-use Rattle.query_binder.specs.Over.{columns_over}
-use Rattle.query_binder.specs.Bound.{equality_fault}
+use Rattle.query_binder.specs.PlaceTables.{columns_over}
+use Rattle.query_binder.specs.NameRules.{equality_fault}
 use Rattle.typed_plan.specs.Faults.{first_in}
-use Rattle.query_binder.specs.Planned.{keys_of}
-use Rattle.arrow_schema.specs.Schema.{IsSchema}
-use Rattle.query_binder.specs.Listed.{CanBeWritten}
+use Rattle.query_binder.specs.PlannedTree.{keys_of}
+use Rattle.arrow_types.specs.Schema.{IsSchema}
+use Rattle.query_binder.specs.SelectList.{CanBeWritten}
 use Rattle.query_binder.proofs.Outcomes.{binds_as, holds_if_ok}
 use Rattle.query_binder.proofs.Written.{wider_written}
 use Rattle.query_binder.proofs.joining.push_join.Goals as goal

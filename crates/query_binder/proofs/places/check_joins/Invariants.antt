@@ -1,7 +1,7 @@
 use Rattle.std.proofs.Common.{◌≡◌, [], take, drop, map}
-use Rattle.table_versions.specs.Stored.{tables_of}
-use Rattle.query_binder.specs.Bound.{places_fault}
-use Rattle.query_binder.specs.Over.{names_of}
+use Rattle.table_versions.specs.StoredTables.{tables_of}
+use Rattle.query_binder.specs.NameRules.{places_fault}
+use Rattle.query_binder.specs.PlaceTables.{names_of}
 use Rattle.query_binder.proofs.places.check_joins.Given as goal
 
 abbrev pub invariant-loop-number : goal.invariant-loop-number

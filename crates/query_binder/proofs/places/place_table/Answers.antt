@@ -3,7 +3,7 @@ use Rattle.std.specs.List.{list_any}
 use Rattle.std.specs.Option.{option_copied}
 use Rattle.std.specs.Str.{bytes_eq}
 use Rattle.sql_query.specs.Sentence.{place_name}
-use Rattle.query_binder.specs.Over.{names_of}
+use Rattle.query_binder.specs.PlaceTables.{names_of}
 use Rattle.query_binder.proofs.LookedUp.{absent, taken, free}
 use Rattle.query_binder.proofs.places.place_table.Goals as goal
 

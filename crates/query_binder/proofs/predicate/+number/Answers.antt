@@ -5,8 +5,8 @@ use Rattle.scan_base.specs.View.{pred_of}
 use Rattle.sql_query.specs.declared.query.ColumnName.{ColumnName}
 use Rattle.typed_plan.specs.Faults.{predicate_fault}
 use Rattle.query_binder.specs.NameClasses.{class_of_name}
-use Rattle.query_binder.specs.Chain.{connected, first_of, side_of}
-use Rattle.typed_plan.specs.Numbered.{predicate_map}
+use Rattle.query_binder.specs.Chain.{connected, first_predicate, link_of}
+use Rattle.typed_plan.specs.NumberedPredicates.{predicate_map}
 use Rattle.typed_plan.specs.Scope.{numbered}
 use Rattle.query_binder.proofs.Chains.{operators, first_operators, side_operators, started, popped, chain_fault}
 use Rattle.query_binder.proofs.Chains.{side_fault, bound_more}
@@ -32,7 +32,7 @@ number_chain-returns-in_err-bound t c =
     c.new-sides.result.items c.push.new.self.items c.first_of.new.sides.items
     c.new-sides.ensures.items c.in_ok-push.ensures.items c.in_ok-first.ensures.behind in
     let p = err_from_is_err_and c.from_residual-in_err-bound.result c.from_residual-in_err-bound.ensures.1 in
-    rw (p.1, p.2) (λ other. chain_fault f (first_of left) _ _ _ chain
+    rw (p.1, p.2) (λ other. chain_fault f (first_predicate left) _ _ _ chain
     (ap (predicate_fault f) (sym c.in_ok-first.ensures.first) ∙ c.in_err-bound.ensures other))
 
 pub number_chain-loop-side-init : goal.number_chain-loop-side-init
@@ -44,7 +44,7 @@ number_chain-loop-side-init t c =
     let chain = started (record { connective = c.args.connective; predicate = c.args.right }) left
     c.new-sides.result.items c.push.new.self.items c.first_of.new.sides.items
     c.new-sides.ensures.items c.in_ok-push.ensures.items c.in_ok-first.ensures.behind in (
-      first_of left,
+      first_predicate left,
       chain,
       ap (predicate_fault f) (sym first) ∙ c.in_ok-bound.ensures.0,
       c.in_ok-bound.ensures.1
@@ -57,7 +57,7 @@ number_chain-number_predicate-requires-in-Some t c =
     let side = c.in-Some.side in
     let left = popped done _ c.loop-side.sides.items c.pop.new.self.items side c.in-Some.ensures.items chain in
     let few = side_operators done (pred_of side.predicate.now) (pred_of c.args.left.now) (pred_of c.args.right.now)
-    side.connective c.args.connective (map side_of c.pop.new.self.items) left in
+    side.connective c.args.connective (map link_of c.pop.new.self.items) left in
     (omega (arith, c.decreases, few), tt)
 
 pub number_chain-returns-in_err-right : goal.number_chain-returns-in_err-right

@@ -4,8 +4,8 @@ use Rattle.scan_base.specs.View.{pred_of}
 use Rattle.sql_query.specs.declared.query.ColumnName.{ColumnName}
 use Rattle.typed_plan.specs.Faults.{predicate_fault}
 use Rattle.query_binder.specs.NameClasses.{class_of_name}
-use Rattle.query_binder.specs.Chain.{connected, side_of}
-use Rattle.typed_plan.specs.Numbered.{predicate_map}
+use Rattle.query_binder.specs.Chain.{connected, link_of}
+use Rattle.typed_plan.specs.NumberedPredicates.{predicate_map}
 use Rattle.typed_plan.specs.Scope.{numbered}
 use Rattle.query_binder.proofs.Chains.{chained, operators}
 use Rattle.query_binder.proofs.predicate.+number.Given as goal
@@ -23,7 +23,7 @@ decreases-number_truth_test l = 2 * operators (pred_of l.predicate.now) + 1
 abbrev pub invariant-number_chain-loop-side : goal.invariant-number_chain-loop-side
 invariant-number_chain-loop-side l =
     (done : Pred ColumnName)
-    × (chained done (map side_of l.sides.items) ≡ connected l.fn.connective (pred_of l.left) (pred_of l.right))
+    × (chained done (map link_of l.sides.items) ≡ connected l.fn.connective (pred_of l.left) (pred_of l.right))
     × (predicate_fault (class_of_name l.scope) done ≡ None)
     × (pred_of l.bound ≡ predicate_map (numbered l.scope) done)
 

@@ -1,7 +1,7 @@
 use Rattle.std.proofs.Common.{◌≡◌, ◌++◌, take, drop, map}
 use Rattle.typed_plan.specs.Faults.{first_in}
-use Rattle.query_binder.specs.Listed.{column_fault}
-use Rattle.query_binder.specs.Planned.{number_of_item}
+use Rattle.query_binder.specs.SelectList.{column_fault}
+use Rattle.query_binder.specs.PlannedTree.{number_of_item}
 use Rattle.query_binder.specs.ResultSchema.{list_fields}
 use Rattle.query_binder.proofs.selection.bind_items.Given as goal
 

@@ -1,7 +1,7 @@
 use Rattle.std.proofs.Common.{List, sym, ◌∙◌, subst, arith}
 use Rattle.arrays.specs.Batch.{BatchAt}
-use Rattle.grouping.specs.Answers.{IsAnswerOf, IsOver}
-use Rattle.grouping.specs.Fed.{HasMerged}
+use Rattle.grouping.specs.Answers.{IsAnswerOf, HasFirstRows}
+use Rattle.grouping.specs.FedRows.{HasMerged}
 use Rattle.query_cases.proofs.merges.merged_of.Goals as goal
 
 pub merge-requires-clause-alike : goal.merge-requires-clause-alike
@@ -20,4 +20,4 @@ next-requires c =
     let has : HasMerged c.in_ok-groups.groups c.in_ok-others.others c.merge.new.self =
     rw (c.in_ok-groups.ensures.ready, c.in_ok-others.ensures.ready) at c.in_ok-merge.ensures.merged in
     let is : IsAnswerOf c.merge.new.self c.in_ok-answers.answers = rw has.refused at c.in_ok-answers.ensures in
-    subst (λ (batches : List BatchAt). IsOver batches c.in_ok-answers.answers) (has.alike.batches ∙ c.in_ok-groups.ensures.batches) is.over
+    subst (λ (batches : List BatchAt). HasFirstRows batches c.in_ok-answers.answers) (has.alike.batches ∙ c.in_ok-groups.ensures.batches) is.over

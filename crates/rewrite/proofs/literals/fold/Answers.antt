@@ -1,9 +1,9 @@
 use Rattle.std.proofs.Common.{map, ap, sym, ◌∙◌}
-use Rattle.table_versions.specs.Stored.{TableAt}
+use Rattle.table_versions.specs.StoredTables.{TableAt}
 use Rattle.typed_plan.specs.declared.plan.Plan.{Plan}
-use Rattle.typed_plan.specs.Held.{tree_schemas}
+use Rattle.typed_plan.specs.HeldTables.{tree_schemas}
 use Rattle.typed_plan.specs.View.{BoundAt, tree_of}
-use Rattle.rewrite.specs.Folded.{folded_tree, is_folded_tree}
+use Rattle.rewrite.specs.FoldedPredicates.{folded_tree, is_folded_tree}
 use Rattle.rewrite.proofs.FoldedTrees.{folded_types, folded_schemas, folded_place, folded_typed, folded_stands, tree_folded}
 use Rattle.rewrite.proofs.WellTyped.{typed_again, typed_as}
 use Rattle.rewrite.proofs.literals.fold.Goals as goal

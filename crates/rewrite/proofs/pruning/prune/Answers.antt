@@ -1,11 +1,11 @@
 use Rattle.std.proofs.Common.{List, Bool, map, refl, ap, sym, ◌∙◌}
-use Rattle.table_versions.specs.Stored.{TableAt}
+use Rattle.table_versions.specs.StoredTables.{TableAt}
 use Rattle.typed_plan.specs.declared.plan.Plan.{Plan}
-use Rattle.typed_plan.specs.Held.{tree_schemas}
+use Rattle.typed_plan.specs.HeldTables.{tree_schemas}
 use Rattle.typed_plan.specs.View.{BoundAt, tree_of}
-use Rattle.rewrite.specs.Folded.{is_folded_tree}
-use Rattle.rewrite.specs.Pruned.{output_in, pruned}
-use Rattle.rewrite.specs.Pushed.{is_pushed}
+use Rattle.rewrite.specs.FoldedPredicates.{is_folded_tree}
+use Rattle.rewrite.specs.PrunedColumns.{output_in, pruned}
+use Rattle.rewrite.specs.PushedFilters.{is_pushed}
 use Rattle.rewrite.proofs.PrunedPlans.{pruned_as, pruned_plan, pruned_stands, used_as, tree_as, output_as}
 use Rattle.rewrite.proofs.PrunedShapes.{pruned_below, pruned_folded}
 use Rattle.rewrite.proofs.PrunedRows.{pruned_schemas}

@@ -6,23 +6,23 @@ use Rattle.std.proofs.lemmas.Result.{IfOk-weaker}
 use Rattle.arrays.specs.Batch.{BatchAt, rows_of}
 use Rattle.scan_base.specs.Predicate.{Pred}
 use Rattle.scan_base.specs.View.{pred_of}
-use Rattle.table_versions.specs.Stored.{TableAt}
+use Rattle.table_versions.specs.StoredTables.{TableAt}
 use Rattle.typed_plan.specs.declared.plan.Plan.{Plan}
 use Rattle.typed_plan.specs.declared.plan.JoinKey.{JoinKey}
-use Rattle.typed_plan.specs.Held.{tree_schemas}
-use Rattle.arrow_schema.specs.declared.schema.Schema.{Schema}
+use Rattle.typed_plan.specs.HeldTables.{tree_schemas}
+use Rattle.arrow_types.specs.declared.schema.Schema.{Schema}
 use Rattle.table_versions.specs.Table.{Name}
 use Rattle.typed_plan.specs.Plan.{Tree, scan, filtered, joined}
-use Rattle.typed_plan.specs.Typed.{IsTypedTree, is_place, tree_types}
+use Rattle.typed_plan.specs.TypedPlans.{IsTypedTree, is_place, tree_types}
 use Rattle.typed_plan.specs.View.{tree_of}
-use Rattle.row_sources.specs.declared.build.Sourced.{Sourced}
-use Rattle.row_sources.specs.Joining.{CanJoin, JoinsRows}
-use Rattle.row_sources.specs.Begun.{IsBegun}
-use Rattle.row_sources.specs.Sourced.{sourced_at}
+use Rattle.row_sources.specs.declared.build.FilteredSource.{FilteredSource}
+use Rattle.row_sources.specs.JoinParts.{CanJoin, JoinsRows}
+use Rattle.row_sources.specs.BegunRows.{IsBegun}
+use Rattle.row_sources.specs.FilteredSource.{filtered_source_at}
 use Rattle.row_sources.specs.Parts.{first_batches}
-use Rattle.row_sources.specs.Joined.{source_at}
+use Rattle.row_sources.specs.JoinedRows.{source_at}
 use Rattle.batch_skipping.specs.Narrow.{BeginsInFirst}
-use Rattle.batch_skipping.specs.Opened.{batches_in}
+use Rattle.batch_skipping.specs.OpenedBatches.{batches_in}
 use Rattle.row_sources.specs.Picking.{IsPick}
 use Rattle.row_sources.specs.Running.{picked_of}
 use Rattle.row_sources.proofs.BeginPick.{pick_with}
@@ -160,8 +160,8 @@ join_source-requires-clause-joinable g t c =
     let popped = c.pop-in-Join.new.self.items in
     let from = c.args.reading.from in
     let to = c.args.reading.to in
-    let a = sourced_at c.in_ok-left-in-Join.left in
-    let b = sourced_at c.in_ok-right-in-Join.right in
+    let a = filtered_source_at c.in_ok-left-in-Join.left in
+    let b = filtered_source_at c.in_ok-right-in-Join.right in
     let kept = c.rows-to.ensures.kept in
     let tree : tree_of c.args.plan ≡ joined left right c.in-Join.on = ap tree_of c.in-Join.is in
     let typed = subst IsTypedTree tree c.requires.typed in
@@ -180,8 +180,8 @@ returns-clause-begun g t c =
     let popped = c.pop-in-Join.new.self.items in
     let from = c.args.reading.from in
     let to = c.args.reading.to in
-    let a = sourced_at c.in_ok-left-in-Join.left in
-    let b = sourced_at c.in_ok-right-in-Join.right in
+    let a = filtered_source_at c.in_ok-left-in-Join.left in
+    let b = filtered_source_at c.in_ok-right-in-Join.right in
     let kept = c.rows-to.ensures.kept in
     let tree : tree_of c.args.plan ≡ joined left right c.in-Join.on = ap tree_of c.in-Join.is in
     let typed = subst IsTypedTree tree c.requires.typed in
@@ -191,13 +191,13 @@ returns-clause-begun g t c =
     let l = subst (λ (plan : Plan). IsBegun (tree_of plan) popped from to a) c.into_inner-in-Join.ensures c.in_ok-left-in-Join.ensures.begun in
     let r = subst (λ (some : List TableAt). IsBegun right some 0 c.rows-to.result b) lasts
     (subst (λ (plan : Plan). IsBegun (tree_of plan) c.push-in-Join.new.self.items 0 c.rows-to.result b) c.into_inner-in-Join-2.ensures c.in_ok-right-in-Join.ensures.begun) in
-    IfOk-weaker c.join_source.result (λ (made : Sourced). JoinsRows c.as_slice.result.now a b (sourced_at made))
-    (λ (made : Sourced). IsBegun (tree_of c.args.plan) c.args.tables.items from to (sourced_at made))
-    (λ (made : Sourced) joins.
-    subst (λ (some : Tree). IsBegun some c.args.tables.items from to (sourced_at made)) (sym tree)
-    (subst (λ (tables : List TableAt). IsBegun (joined left right c.in-Join.on) tables from to (sourced_at made)) (sym all)
-    (joined_begun left right c.in-Join.on popped table from to c.rows-to.result a b (sourced_at made) l r kept.counted typed.2 sides.0
-    (subst (λ (on : List JoinKey). JoinsRows on a b (sourced_at made)) c.as_slice.ensures joins))))
+    IfOk-weaker c.join_source.result (λ (made : FilteredSource). JoinsRows c.as_slice.result.now a b (filtered_source_at made))
+    (λ (made : FilteredSource). IsBegun (tree_of c.args.plan) c.args.tables.items from to (filtered_source_at made))
+    (λ (made : FilteredSource) joins.
+    subst (λ (some : Tree). IsBegun some c.args.tables.items from to (filtered_source_at made)) (sym tree)
+    (subst (λ (tables : List TableAt). IsBegun (joined left right c.in-Join.on) tables from to (filtered_source_at made)) (sym all)
+    (joined_begun left right c.in-Join.on popped table from to c.rows-to.result a b (filtered_source_at made) l r kept.counted typed.2 sides.0
+    (subst (λ (on : List JoinKey). JoinsRows on a b (filtered_source_at made)) c.as_slice.ensures joins))))
     c.join_source.ensures.joins
 
 -- a join is no place
@@ -207,9 +207,9 @@ returns-clause-few g t c =
     let right = tree_of c.in-Join.right.value in
     let tree : tree_of c.args.plan ≡ joined left right c.in-Join.on = ap tree_of c.in-Join.is in
     let none : is_place (tree_of c.args.plan) ≡ false = ap is_place tree in
-    IfOk-weaker c.join_source.result (λ (made : Sourced). JoinsRows c.as_slice.result.now (sourced_at c.in_ok-left-in-Join.left) (sourced_at c.in_ok-right-in-Join.right) (sourced_at made))
-    (λ (made : Sourced). is_place (tree_of c.args.plan) ≡ true → length (source_at made.source).ahead ≤ length (flat_map rows_of (first_batches c.args.tables.items)))
-    (λ (made : Sourced) joins place. absurd cc)
+    IfOk-weaker c.join_source.result (λ (made : FilteredSource). JoinsRows c.as_slice.result.now (filtered_source_at c.in_ok-left-in-Join.left) (filtered_source_at c.in_ok-right-in-Join.right) (filtered_source_at made))
+    (λ (made : FilteredSource). is_place (tree_of c.args.plan) ≡ true → length (source_at made.source).ahead ≤ length (flat_map rows_of (first_batches c.args.tables.items)))
+    (λ (made : FilteredSource) joins place. absurd cc)
     c.join_source.ensures.joins
 
 -- the one table of a place
@@ -231,10 +231,10 @@ returns-in-Scan-clause-begun g t c =
     let tree : tree_of c.args.plan ≡ scan name c.in-Scan.schema some = ap tree_of c.in-Scan.is in
     let all = with_last c.args.tables.items c.pop.new.self.items c.pop.result table c.pop.ensures.items c.in_ok-table-in-Scan.ensures.ok_part in
     let one = single c.args.tables.items c.pop.new.self.items table c.in-Scan.schema (sym (ap tree_schemas tree) ∙ c.requires.schemas) all in
-    IfOk-weaker c.scan_source.result (λ (made : Sourced). (name : Name) → IsBegun (scan name table.schema some) (table ∷ []) from to (sourced_at made))
-    (λ (made : Sourced). IsBegun (tree_of c.args.plan) c.args.tables.items from to (sourced_at made))
-    (λ (made : Sourced) begun.
-    subst (λ (tables : List TableAt). IsBegun (tree_of c.args.plan) tables from to (sourced_at made)) (sym one.0)
-    (subst (λ (some_tree : Tree). IsBegun some_tree (table ∷ []) from to (sourced_at made)) (sym tree)
-    (subst (λ (schema : Schema). IsBegun (scan name schema some) (table ∷ []) from to (sourced_at made)) (sym one.1) (begun name))))
+    IfOk-weaker c.scan_source.result (λ (made : FilteredSource). (name : Name) → IsBegun (scan name table.schema some) (table ∷ []) from to (filtered_source_at made))
+    (λ (made : FilteredSource). IsBegun (tree_of c.args.plan) c.args.tables.items from to (filtered_source_at made))
+    (λ (made : FilteredSource) begun.
+    subst (λ (tables : List TableAt). IsBegun (tree_of c.args.plan) tables from to (filtered_source_at made)) (sym one.0)
+    (subst (λ (some_tree : Tree). IsBegun some_tree (table ∷ []) from to (filtered_source_at made)) (sym tree)
+    (subst (λ (schema : Schema). IsBegun (scan name schema some) (table ∷ []) from to (filtered_source_at made)) (sym one.1) (begun name))))
     c.scan_source.ensures.begun

@@ -1,5 +1,5 @@
 use Rattle.std.proofs.Common.{take}
-use Rattle.batch_skipping.specs.Chosen.{columns_at}
+use Rattle.batch_skipping.specs.ChosenColumns.{columns_at}
 use Rattle.row_sources.proofs.Cells.{columns_more}
 use Rattle.row_sources.proofs.Selecting.{all_long, more_has}
 use Rattle.row_sources.proofs.columns.gather_of.Goals as goal

@@ -1,7 +1,7 @@
 use Rattle.std.proofs.Common.{take}
 use Rattle.std.specs.List.{AllZip}
-use Rattle.batch_skipping.specs.Chosen.{columns_at}
-use Rattle.row_sources.specs.Picked.{HasSlotsAt}
+use Rattle.batch_skipping.specs.ChosenColumns.{columns_at}
+use Rattle.row_sources.specs.PickedRows.{HasSlotsAt}
 use Rattle.row_sources.proofs.columns.gather_of.Given as goal
 
 abbrev pub invariant-loop-number : goal.invariant-loop-number

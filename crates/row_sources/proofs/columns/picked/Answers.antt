@@ -1,7 +1,7 @@
 use Rattle.std.proofs.Common.{◌≡◌, ◌+◌, ◌<◌, ◌++◌, ◌∷◌, [], ℕ, List, length, map, get_or, take, slice_index, ap, sym, ◌∙◌}
 use Rattle.std.proofs.lemmas.List.{map-append, take_more}
-use Rattle.typed_plan.specs.Typed.{has_columns}
-use Rattle.batch_skipping.specs.Chosen.{are_within}
+use Rattle.typed_plan.specs.TypedPlans.{has_columns}
+use Rattle.batch_skipping.specs.ChosenColumns.{are_within}
 use Rattle.row_sources.proofs.Cells.{within_at}
 use Rattle.row_sources.proofs.columns.picked.Goals as goal
 

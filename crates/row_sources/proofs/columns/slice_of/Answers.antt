@@ -3,9 +3,9 @@ use Rattle.std.specs.List.{AllZip}
 use Rattle.std.proofs.lemmas.List.{take_all}
 use Rattle.std.proofs.lemmas.List.FromFn.{length-range_with_len}
 use Rattle.arrays.specs.Batch.{AreLong}
-use Rattle.batch_skipping.specs.Chosen.{columns_at}
+use Rattle.batch_skipping.specs.ChosenColumns.{columns_at}
 use Rattle.row_sources.specs.Picking.{rows_of_part}
-use Rattle.row_sources.specs.Picked.{HasSlotsAt}
+use Rattle.row_sources.specs.PickedRows.{HasSlotsAt}
 use Rattle.row_sources.proofs.Cells.{columns_more}
 use Rattle.row_sources.proofs.Selecting.{all_long, cut_has, more_has}
 use Rattle.row_sources.proofs.columns.slice_of.Goals as goal

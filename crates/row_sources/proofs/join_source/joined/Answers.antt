@@ -2,9 +2,9 @@ use Rattle.std.proofs.Common.{◌≡◌, length, map, vec_len, ap, sym, ◌∙�
 use Rattle.std.specs.List.{range_with_len}
 use Rattle.join_batches.specs.Joiner.{joined_types}
 use Rattle.scan_base.specs.View.{pred_of}
-use Rattle.typed_plan.specs.Typed.{type_at}
-use Rattle.row_sources.specs.Sourced.{sourced_at}
-use Rattle.row_sources.specs.Joined.{IsJoined, joined_at}
+use Rattle.typed_plan.specs.TypedPlans.{type_at}
+use Rattle.row_sources.specs.FilteredSource.{filtered_source_at}
+use Rattle.row_sources.specs.JoinedRows.{IsJoined, joined_at}
 use Rattle.row_sources.specs.Picking.{IsPick, PickAt}
 use Rattle.row_sources.specs.Running.{RowsAt, picked_of}
 use Rattle.row_sources.proofs.BeginJoin.{all_pick}
@@ -15,7 +15,7 @@ use Rattle.row_sources.proofs.join_source.joined.Goals as goal
 pub returns-clause-sourced : goal.returns-clause-sourced
 returns-clause-sourced c =
     let types = joined_types c.args.joiner in
-    let left : c.in_ok-left.left.value ≡ sourced_at c.args.left = c.in_ok-left.ensures.ok ∙ c.in_ok-rows.ensures in
+    let left : c.in_ok-left.left.value ≡ filtered_source_at c.args.left = c.in_ok-left.ensures.ok ∙ c.in_ok-rows.ensures in
     let size : vec_len c.args.types ≡ length c.args.types.items = search rules in
     let numbers : c.in_ok-columns.columns.items ≡ range_with_len 0 (length types) =
     c.in_ok-columns.ensures ∙ ap (range_with_len 0) (c.len.ensures ∙ size ∙ ap length c.requires.types) in
@@ -29,11 +29,11 @@ returns-clause-sourced c =
 pub returns-clause-joined : goal.returns-clause-joined
 returns-clause-joined c =
     let types = joined_types c.args.joiner in
-    let left : c.in_ok-left.left.value ≡ sourced_at c.args.left = c.in_ok-left.ensures.ok ∙ c.in_ok-rows.ensures in
+    let left : c.in_ok-left.left.value ≡ filtered_source_at c.args.left = c.in_ok-left.ensures.ok ∙ c.in_ok-rows.ensures in
     let size : vec_len c.args.types ≡ length c.args.types.items = search rules in
     let numbers : c.in_ok-columns.columns.items ≡ range_with_len 0 (length types) =
     c.in_ok-columns.ensures ∙ ap (range_with_len 0) (c.len.ensures ∙ size ∙ ap length c.requires.types) in
     let pick = pick_is c.new-2.result.items c.in_ok-columns.columns.items (range_with_len 0 (length types)) c.new-2.ensures.items numbers in
     let made : PickAt = record { filters = map pred_of c.new-2.result.items; read = c.in_ok-columns.columns.items; shown = c.in_ok-columns.columns.items } in
     ap (λ (l : RowsAt). picked_of made (joined_at l c.args.joiner 0)) left
-    ∙ ap (λ (p : PickAt). picked_of p (joined_at (sourced_at c.args.left) c.args.joiner 0)) pick
+    ∙ ap (λ (p : PickAt). picked_of p (joined_at (filtered_source_at c.args.left) c.args.joiner 0)) pick

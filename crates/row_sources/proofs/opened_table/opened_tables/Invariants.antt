@@ -1,6 +1,6 @@
 use Rattle.std.proofs.Common.{◌≡◌, ◌++◌, length, map, drop}
 use Rattle.std.specs.Vec.Iter.{into_iter_items}
-use Rattle.batch_skipping.specs.declared.opened.OpenedList.{OpenedList}
+use Rattle.batch_skipping.specs.declared.opened_batches.OpenedList.{OpenedList}
 use Rattle.row_sources.specs.OpenedTables.{CanAll, narrow_all}
 use Rattle.row_sources.proofs.opened_table.opened_tables.Given as goal
 

@@ -1,31 +1,31 @@
 use Rattle.std.proofs.Common.{◌≡◌, ◌<◌, ℕ, List, [], true, length, refl, sym, ap, ◌∙◌, subst, arith}
 use Rattle.std.specs.Arc.{arc_value}
-use Rattle.arrow_schema.specs.declared.data_type.DataType.{DataType}
+use Rattle.arrow_types.specs.declared.data_type.DataType.{DataType}
 use Rattle.join_batches.specs.Joiner.{joined_types, GivesJoined, GivesShown}
-use Rattle.batch_skipping.specs.Chosen.{are_within}
-use Rattle.table_versions.specs.Stored.{TableAt}
-use Rattle.typed_plan.specs.Typed.{types_of}
+use Rattle.batch_skipping.specs.ChosenColumns.{are_within}
+use Rattle.table_versions.specs.StoredTables.{TableAt}
+use Rattle.typed_plan.specs.TypedPlans.{types_of}
 use Rattle.row_sources.specs.Choices.{IsChoice}
-use Rattle.row_sources.specs.Joined.{joined_at, source_at}
+use Rattle.row_sources.specs.JoinedRows.{joined_at, source_at}
 use Rattle.row_sources.specs.Picking.{IsPick, pick_of, given_numbered}
 use Rattle.row_sources.specs.Running.{RowsAt, FindsTurn, FindsPiece, picked_of}
 use Rattle.row_sources.specs.declared.picker.Picker.{Picker}
 use Rattle.row_sources.specs.declared.rows.Source.{Source}
-use Rattle.row_sources.specs.Sources.{place_at}
+use Rattle.row_sources.specs.Sources.{rows_of_place}
 use Rattle.row_sources.proofs.JoinSteps.{as_many, still_joined, batch_goes, batch_none, batch_over, batch_found, batch_fewer, batch_looked, fed_fewer, fed_looked, fed_none, left_looked, left_none, on_and_on, picks_end, picks_none, shown_found, shown_joined}
 use Rattle.row_sources.proofs.Turns.{has_end}
 use Rattle.row_sources.proofs.rows.+turn.Goals as goal
 
-pub Joining::turn-pick-requires-clause-pick : goal.Joining::turn-pick-requires-clause-pick
-Joining::turn-pick-requires-clause-pick t c =
+pub JoinState::turn-pick-requires-clause-pick : goal.JoinState::turn-pick-requires-clause-pick
+JoinState::turn-pick-requires-clause-pick t c =
     let joiner = c.loop-batch.self.joiner in
     let gives : GivesJoined joiner c.in-Some.batch c.next.new.self = rw (c.in_ok-batch.was, c.in-Some.is) at c.next.ensures in
     let wide = as_many (joined_types joiner) c.in-Some.batch.columns gives.typed in
     subst (λ (n : ℕ). IsPick n (pick_of c.args.picker.now)) (sym (wide ∙ ap length c.loop-batch.invariant.goes.types)) c.requires.pick
 
-pub Joining::turn-returns-in-Some-2-clause-found :
-    goal.Joining::turn-returns-in-Some-2-clause-found
-Joining::turn-returns-in-Some-2-clause-found t c =
+pub JoinState::turn-returns-in-Some-2-clause-found :
+    goal.JoinState::turn-returns-in-Some-2-clause-found
+JoinState::turn-returns-in-Some-2-clause-found t c =
     let is = c.loop-batch.invariant in
     let joiner = c.loop-batch.self.joiner in
     let gives : GivesJoined joiner c.in-Some.batch c.next.new.self = rw (c.in_ok-batch.was, c.in-Some.is) at c.next.ensures in
@@ -33,15 +33,15 @@ Joining::turn-returns-in-Some-2-clause-found t c =
     batch_found (pick_of c.args.picker.now) (joined_at c.args.left.now c.args.self.now.joiner c.args.self.now.number) c.loop-batch.left joiner
     c.loop-batch.self.number c.in-Some.batch c.next.new.self gives is.goes is.rows is.seen is.is _ refl refl c.rows-to.ensures c.in-Some-2.batch picked
 
-pub Joining::turn-returns-in-Some-2-clause-joined :
-    goal.Joining::turn-returns-in-Some-2-clause-joined
-Joining::turn-returns-in-Some-2-clause-joined t c =
+pub JoinState::turn-returns-in-Some-2-clause-joined :
+    goal.JoinState::turn-returns-in-Some-2-clause-joined
+JoinState::turn-returns-in-Some-2-clause-joined t c =
     let joiner = c.loop-batch.self.joiner in
     let gives : GivesJoined joiner c.in-Some.batch c.next.new.self = rw (c.in_ok-batch.was, c.in-Some.is) at c.next.ensures in
     still_joined c.loop-batch.left joiner c.loop-batch.self.number c.in-Some.batch c.next.new.self gives c.loop-batch.invariant.is
 
-pub Joining::turn-returns-then-is_over-clause-found : goal.Joining::turn-returns-then-is_over-clause-found
-Joining::turn-returns-then-is_over-clause-found t c =
+pub JoinState::turn-returns-then-is_over-clause-found : goal.JoinState::turn-returns-then-is_over-clause-found
+JoinState::turn-returns-then-is_over-clause-found t c =
     let is = c.loop-batch.invariant in
     let pick = pick_of c.args.picker.now in
     let joiner = c.loop-batch.self.joiner in
@@ -56,15 +56,15 @@ Joining::turn-returns-then-is_over-clause-found t c =
       ),
     )
 
-pub Joining::turn-loop-batch-smaller-in-Some : goal.Joining::turn-loop-batch-smaller-in-Some
-Joining::turn-loop-batch-smaller-in-Some t c =
+pub JoinState::turn-loop-batch-smaller-in-Some : goal.JoinState::turn-loop-batch-smaller-in-Some
+JoinState::turn-loop-batch-smaller-in-Some t c =
     let joiner = c.loop-batch.self.joiner in
     let gives : GivesJoined joiner c.in-Some.batch c.next.new.self = rw (c.in_ok-batch.was, c.in-Some.is) at c.next.ensures in
     let fewer = batch_fewer c.loop-batch.left joiner c.loop-batch.self.number c.in-Some.batch c.next.new.self gives in
     omega (arith, fewer)
 
-pub Joining::turn-loop-batch-preserved-in-Some : goal.Joining::turn-loop-batch-preserved-in-Some
-Joining::turn-loop-batch-preserved-in-Some t c =
+pub JoinState::turn-loop-batch-preserved-in-Some : goal.JoinState::turn-loop-batch-preserved-in-Some
+JoinState::turn-loop-batch-preserved-in-Some t c =
     let is = c.loop-batch.invariant in
     let pick = pick_of c.args.picker.now in
     let joiner = c.loop-batch.self.joiner in
@@ -83,28 +83,28 @@ Joining::turn-loop-batch-preserved-in-Some t c =
 
 -- ---- the next left batch
 
-pub Joining::turn-loop-batch-smaller : goal.Joining::turn-loop-batch-smaller
-Joining::turn-loop-batch-smaller t c =
+pub JoinState::turn-loop-batch-smaller : goal.JoinState::turn-loop-batch-smaller
+JoinState::turn-loop-batch-smaller t c =
     let is = c.loop-batch.invariant in
     let joiner = c.loop-batch.self.joiner in
     let none : (joiner.ahead ≡ []) × (c.next.new.self ≡ joiner) = rw (c.in_ok-batch.was, c.in_default.is) at c.next.ensures in
     let first = joined_at c.args.left.now c.args.self.now.joiner c.args.self.now.number in
     let before = joined_at c.loop-batch.left joiner c.loop-batch.self.number in
     let after = joined_at c.feed_next.new.left c.feed_next.new.self.joiner c.feed_next.new.self.number in
-    let found = rw (none.1, c.in_ok-feed_next.was, c.in-Given.is) at c.feed_next.ensures.feeds in
-    let fewer : length c.feed_next.new.left.ahead < length c.loop-batch.left.ahead = rw (c.in_ok-feed_next.was, c.in-Given.is) at c.feed_next.ensures.fewer in
+    let found = rw (none.1, c.in_ok-given.was, c.in-Given.is) at c.feed_next.ensures.feeds in
+    let fewer : length c.feed_next.new.left.ahead < length c.loop-batch.left.ahead = rw (c.in_ok-given.was, c.in-Given.is) at c.feed_next.ensures.fewer in
     let same : length before.ahead ≡ length after.ahead = ap length found.same in
     omega (arith, fewer, same)
 
-pub Joining::turn-loop-batch-preserved : goal.Joining::turn-loop-batch-preserved
-Joining::turn-loop-batch-preserved t c =
+pub JoinState::turn-loop-batch-preserved : goal.JoinState::turn-loop-batch-preserved
+JoinState::turn-loop-batch-preserved t c =
     let is = c.loop-batch.invariant in
     let joiner = c.loop-batch.self.joiner in
     let none : (joiner.ahead ≡ []) × (c.next.new.self ≡ joiner) = rw (c.in_ok-batch.was, c.in_default.is) at c.next.ensures in
     let first = joined_at c.args.left.now c.args.self.now.joiner c.args.self.now.number in
     let before = joined_at c.loop-batch.left joiner c.loop-batch.self.number in
     let after = joined_at c.feed_next.new.left c.feed_next.new.self.joiner c.feed_next.new.self.number in
-    let found = rw (none.1, c.in_ok-feed_next.was, c.in-Given.is) at c.feed_next.ensures.feeds in
+    let found = rw (none.1, c.in_ok-given.was, c.in-Given.is) at c.feed_next.ensures.feeds in
     record {
       is = c.feed_next.ensures.joined;
       goes = on_and_on first before after is.goes found.on;
@@ -114,46 +114,46 @@ Joining::turn-loop-batch-preserved t c =
       choice = λ e. is.choice (c.feed_next.ensures.choice e);
     }
 
-pub Joining::turn-returns-in-Working-clause-found : goal.Joining::turn-returns-in-Working-clause-found
-Joining::turn-returns-in-Working-clause-found t c =
+pub JoinState::turn-returns-in-Working-clause-found : goal.JoinState::turn-returns-in-Working-clause-found
+JoinState::turn-returns-in-Working-clause-found t c =
     let is = c.loop-batch.invariant in
     let joiner = c.loop-batch.self.joiner in
     let none : (joiner.ahead ≡ []) × (c.next.new.self ≡ joiner) = rw (c.in_ok-batch.was, c.in_default.is) at c.next.ensures in
     let first = joined_at c.args.left.now c.args.self.now.joiner c.args.self.now.number in
     let before = joined_at c.loop-batch.left joiner c.loop-batch.self.number in
     let after = joined_at c.feed_next.new.left c.feed_next.new.self.joiner c.feed_next.new.self.number in
-    let found = rw (none.1, c.in_ok-feed_next.was, c.in-Working.is) at c.feed_next.ensures.feeds in (
+    let found = rw (none.1, c.in_ok-given.was, c.in-Working.is) at c.feed_next.ensures.feeds in (
       picks_none (pick_of c.args.picker.now) first before after is.goes is.rows is.seen found.0,
       ((λ e. found.1.0 (is.endless e)), λ no. let fewer = found.1.1 (λ e. no (is.choice e)) in omega (arith, is.seen, fewer)),
     )
 
-pub Joining::turn-returns-in-End-clause-found : goal.Joining::turn-returns-in-End-clause-found
-Joining::turn-returns-in-End-clause-found t c =
+pub JoinState::turn-returns-in-End-clause-found : goal.JoinState::turn-returns-in-End-clause-found
+JoinState::turn-returns-in-End-clause-found t c =
     let is = c.loop-batch.invariant in
     let joiner = c.loop-batch.self.joiner in
     let none : (joiner.ahead ≡ []) × (c.next.new.self ≡ joiner) = rw (c.in_ok-batch.was, c.in_default.is) at c.next.ensures in
     let first = joined_at c.args.left.now c.args.self.now.joiner c.args.self.now.number in
     let before = joined_at c.loop-batch.left joiner c.loop-batch.self.number in
     let after = joined_at c.feed_next.new.left c.feed_next.new.self.joiner c.feed_next.new.self.number in
-    let found = rw (none.1, c.in_ok-feed_next.was, c.in-End.is) at c.feed_next.ensures.feeds in
+    let found = rw (none.1, c.in_ok-given.was, c.in-End.is) at c.feed_next.ensures.feeds in
     picks_end (pick_of c.args.picker.now) first before after is.goes is.rows found
 
 -- ---- without filters
 
-pub Joining::turn_shown-next_shown-requires : goal.Joining::turn_shown-next_shown-requires
-Joining::turn_shown-next_shown-requires t c =
+pub JoinState::turn_shown-next_shown-requires : goal.JoinState::turn_shown-next_shown-requires
+JoinState::turn_shown-next_shown-requires t c =
     subst (λ (types : List DataType). are_within (length types) c.as_slice-shown.result.now ≡ true) (sym c.loop-batch.invariant.goes.types)
     (subst (λ (shown : List ℕ). are_within (length (joined_types c.args.self.now.joiner)) shown ≡ true) (sym c.as_slice-shown.ensures.value) c.requires.pick.shown)
 
-pub Joining::turn_shown-returns-in-Some-clause-joined : goal.Joining::turn_shown-returns-in-Some-clause-joined
-Joining::turn_shown-returns-in-Some-clause-joined t c =
+pub JoinState::turn_shown-returns-in-Some-clause-joined : goal.JoinState::turn_shown-returns-in-Some-clause-joined
+JoinState::turn_shown-returns-in-Some-clause-joined t c =
     let joiner = c.loop-batch.self.joiner in
     let shown = c.as_slice-shown.result.now in
     let gives : GivesShown joiner shown c.in-Some.batch c.next_shown.new.self = rw (c.in_ok-batch.was, c.in-Some.is) at c.next_shown.ensures in
     shown_joined c.loop-batch.left joiner c.loop-batch.self.number shown c.in-Some.batch c.next_shown.new.self gives c.loop-batch.invariant.is
 
-pub Joining::turn_shown-returns-in-Some-clause-found : goal.Joining::turn_shown-returns-in-Some-clause-found
-Joining::turn_shown-returns-in-Some-clause-found t c =
+pub JoinState::turn_shown-returns-in-Some-clause-found : goal.JoinState::turn_shown-returns-in-Some-clause-found
+JoinState::turn_shown-returns-in-Some-clause-found t c =
     let is = c.loop-batch.invariant in
     let pick = pick_of c.args.picker.now in
     let joiner = c.loop-batch.self.joiner in
@@ -162,28 +162,28 @@ Joining::turn_shown-returns-in-Some-clause-found t c =
     shown_found pick (joined_at c.args.left.now c.args.self.now.joiner c.args.self.now.number) c.loop-batch.left joiner
     c.loop-batch.self.number c.in-Some.batch c.next_shown.new.self gives is.goes is.rows is.seen is.is c.requires.bare
 
-pub Joining::turn_shown-loop-batch-smaller : goal.Joining::turn_shown-loop-batch-smaller
-Joining::turn_shown-loop-batch-smaller t c =
+pub JoinState::turn_shown-loop-batch-smaller : goal.JoinState::turn_shown-loop-batch-smaller
+JoinState::turn_shown-loop-batch-smaller t c =
     let is = c.loop-batch.invariant in
     let joiner = c.loop-batch.self.joiner in
     let none : (joiner.ahead ≡ []) × (c.next_shown.new.self ≡ joiner) = rw (c.in_ok-batch.was, c.in_default.is) at c.next_shown.ensures in
     let first = joined_at c.args.left.now c.args.self.now.joiner c.args.self.now.number in
     let before = joined_at c.loop-batch.left joiner c.loop-batch.self.number in
     let after = joined_at c.feed_next.new.left c.feed_next.new.self.joiner c.feed_next.new.self.number in
-    let found = rw (none.1, c.in_ok-feed_next.was, c.in-Given.is) at c.feed_next.ensures.feeds in
-    let fewer : length c.feed_next.new.left.ahead < length c.loop-batch.left.ahead = rw (c.in_ok-feed_next.was, c.in-Given.is) at c.feed_next.ensures.fewer in
+    let found = rw (none.1, c.in_ok-given.was, c.in-Given.is) at c.feed_next.ensures.feeds in
+    let fewer : length c.feed_next.new.left.ahead < length c.loop-batch.left.ahead = rw (c.in_ok-given.was, c.in-Given.is) at c.feed_next.ensures.fewer in
     let same : length before.ahead ≡ length after.ahead = ap length found.same in
     omega (arith, fewer, same)
 
-pub Joining::turn_shown-loop-batch-preserved : goal.Joining::turn_shown-loop-batch-preserved
-Joining::turn_shown-loop-batch-preserved t c =
+pub JoinState::turn_shown-loop-batch-preserved : goal.JoinState::turn_shown-loop-batch-preserved
+JoinState::turn_shown-loop-batch-preserved t c =
     let is = c.loop-batch.invariant in
     let joiner = c.loop-batch.self.joiner in
     let none : (joiner.ahead ≡ []) × (c.next_shown.new.self ≡ joiner) = rw (c.in_ok-batch.was, c.in_default.is) at c.next_shown.ensures in
     let first = joined_at c.args.left.now c.args.self.now.joiner c.args.self.now.number in
     let before = joined_at c.loop-batch.left joiner c.loop-batch.self.number in
     let after = joined_at c.feed_next.new.left c.feed_next.new.self.joiner c.feed_next.new.self.number in
-    let found = rw (none.1, c.in_ok-feed_next.was, c.in-Given.is) at c.feed_next.ensures.feeds in
+    let found = rw (none.1, c.in_ok-given.was, c.in-Given.is) at c.feed_next.ensures.feeds in
     record {
       is = c.feed_next.ensures.joined;
       goes = on_and_on first before after is.goes found.on;
@@ -193,61 +193,61 @@ Joining::turn_shown-loop-batch-preserved t c =
       choice = λ e. is.choice (c.feed_next.ensures.choice e);
     }
 
-pub Joining::turn_shown-returns-in-Working-clause-found : goal.Joining::turn_shown-returns-in-Working-clause-found
-Joining::turn_shown-returns-in-Working-clause-found t c =
+pub JoinState::turn_shown-returns-in-Working-clause-found : goal.JoinState::turn_shown-returns-in-Working-clause-found
+JoinState::turn_shown-returns-in-Working-clause-found t c =
     let is = c.loop-batch.invariant in
     let joiner = c.loop-batch.self.joiner in
     let none : (joiner.ahead ≡ []) × (c.next_shown.new.self ≡ joiner) = rw (c.in_ok-batch.was, c.in_default.is) at c.next_shown.ensures in
     let first = joined_at c.args.left.now c.args.self.now.joiner c.args.self.now.number in
     let before = joined_at c.loop-batch.left joiner c.loop-batch.self.number in
     let after = joined_at c.feed_next.new.left c.feed_next.new.self.joiner c.feed_next.new.self.number in
-    let found = rw (none.1, c.in_ok-feed_next.was, c.in-Working.is) at c.feed_next.ensures.feeds in (
+    let found = rw (none.1, c.in_ok-given.was, c.in-Working.is) at c.feed_next.ensures.feeds in (
       picks_none (pick_of c.args.picker.now) first before after is.goes is.rows is.seen found.0,
       ((λ e. found.1.0 (is.endless e)), λ no. let fewer = found.1.1 (λ e. no (is.choice e)) in omega (arith, is.seen, fewer)),
     )
 
-pub Joining::turn_shown-returns-in-End-clause-found : goal.Joining::turn_shown-returns-in-End-clause-found
-Joining::turn_shown-returns-in-End-clause-found t c =
+pub JoinState::turn_shown-returns-in-End-clause-found : goal.JoinState::turn_shown-returns-in-End-clause-found
+JoinState::turn_shown-returns-in-End-clause-found t c =
     let is = c.loop-batch.invariant in
     let joiner = c.loop-batch.self.joiner in
     let none : (joiner.ahead ≡ []) × (c.next_shown.new.self ≡ joiner) = rw (c.in_ok-batch.was, c.in_default.is) at c.next_shown.ensures in
     let first = joined_at c.args.left.now c.args.self.now.joiner c.args.self.now.number in
     let before = joined_at c.loop-batch.left joiner c.loop-batch.self.number in
     let after = joined_at c.feed_next.new.left c.feed_next.new.self.joiner c.feed_next.new.self.number in
-    let found = rw (none.1, c.in_ok-feed_next.was, c.in-End.is) at c.feed_next.ensures.feeds in
+    let found = rw (none.1, c.in_ok-given.was, c.in-End.is) at c.feed_next.ensures.feeds in
     picks_end (pick_of c.args.picker.now) first before after is.goes is.rows found
 
 -- ---- a left batch
 
-pub Joining::feed_next-returns-then-is_over-clause-feeds : goal.Joining::feed_next-returns-then-is_over-clause-feeds
-Joining::feed_next-returns-then-is_over-clause-feeds t c =
+pub JoinState::feed_next-returns-then-is_over-clause-feeds : goal.JoinState::feed_next-returns-then-is_over-clause-feeds
+JoinState::feed_next-returns-then-is_over-clause-feeds t c =
     let left = c.args.left.now in
     let self = c.args.self.now in
-    let finds : FindsPiece left c.in-Given.piece c.turn.new.self = rw (c.in_ok-piece.was, c.in-Given.is) at c.turn.ensures.found in (
-      rw c.feed.ensures (fed_none left self.joiner self.number c.in-Given.piece c.turn.new.self c.requires.none finds),
+    let finds : FindsPiece left c.in-Given.given c.turn.new.self = rw (c.in_ok-given.was, c.in-Given.is) at c.turn.ensures.found in (
+      rw c.feed.ensures (fed_none left self.joiner self.number c.in-Given.given c.turn.new.self c.requires.none finds),
       (
         has_end c.args.looking.now.patience c.turn.new.looking.patience c.is_over.result c.turn.ensures.endless c.is_over.ensures.endless c.if-is_over.true,
-        λ _. rw c.feed.ensures (fed_looked left self.joiner self.number c.in-Given.piece c.turn.new.self c.requires.none finds),
+        λ _. rw c.feed.ensures (fed_looked left self.joiner self.number c.in-Given.given c.turn.new.self c.requires.none finds),
       ),
     )
 
-pub Joining::feed_next-returns-else-is_over-clause-feeds : goal.Joining::feed_next-returns-else-is_over-clause-feeds
-Joining::feed_next-returns-else-is_over-clause-feeds t c =
+pub JoinState::feed_next-returns-else-is_over-clause-feeds : goal.JoinState::feed_next-returns-else-is_over-clause-feeds
+JoinState::feed_next-returns-else-is_over-clause-feeds t c =
     let left = c.args.left.now in
     let self = c.args.self.now in
-    let finds : FindsPiece left c.in-Given.piece c.turn.new.self = rw (c.in_ok-piece.was, c.in-Given.is) at c.turn.ensures.found in
-    rw c.feed.ensures (fed_none left self.joiner self.number c.in-Given.piece c.turn.new.self c.requires.none finds)
+    let finds : FindsPiece left c.in-Given.given c.turn.new.self = rw (c.in_ok-given.was, c.in-Given.is) at c.turn.ensures.found in
+    rw c.feed.ensures (fed_none left self.joiner self.number c.in-Given.given c.turn.new.self c.requires.none finds)
 
-pub Joining::feed_next-returns-else-is_over-clause-fewer : goal.Joining::feed_next-returns-else-is_over-clause-fewer
-Joining::feed_next-returns-else-is_over-clause-fewer t c =
+pub JoinState::feed_next-returns-else-is_over-clause-fewer : goal.JoinState::feed_next-returns-else-is_over-clause-fewer
+JoinState::feed_next-returns-else-is_over-clause-fewer t c =
     let left = c.args.left.now in
     let self = c.args.self.now in
-    let finds : FindsPiece left c.in-Given.piece c.turn.new.self = rw (c.in_ok-piece.was, c.in-Given.is) at c.turn.ensures.found in
-    fed_fewer left self.joiner self.number c.in-Given.piece c.turn.new.self c.requires.none finds
+    let finds : FindsPiece left c.in-Given.given c.turn.new.self = rw (c.in_ok-given.was, c.in-Given.is) at c.turn.ensures.found in
+    fed_fewer left self.joiner self.number c.in-Given.given c.turn.new.self c.requires.none finds
 
-pub Joining::feed_next-returns-in-Working-clause-feeds : goal.Joining::feed_next-returns-in-Working-clause-feeds
-Joining::feed_next-returns-in-Working-clause-feeds t c =
-    let finds = rw (c.in_ok-piece.was, c.in-Working.is) at c.turn.ensures.found in
+pub JoinState::feed_next-returns-in-Working-clause-feeds : goal.JoinState::feed_next-returns-in-Working-clause-feeds
+JoinState::feed_next-returns-in-Working-clause-feeds t c =
+    let finds = rw (c.in_ok-given.was, c.in-Working.is) at c.turn.ensures.found in
     let left = c.args.left.now in
     let self = c.args.self.now in (
       left_none left self.joiner self.number c.turn.new.self c.requires.none finds.0,
@@ -282,9 +282,9 @@ pub Rows::turn-returns-in-Place-clause-found : goal.Rows::turn-returns-in-Place-
 Rows::turn-returns-in-Place-clause-found t c =
     let picker = arc_value c.self.inside.picker in
     let after = c.turn.new.self in
-    subst (λ (before : RowsAt). FindsTurn c.args.looking.now.patience before c.turn.result (picked_of (pick_of picker) (place_at after)))
+    subst (λ (before : RowsAt). FindsTurn c.args.looking.now.patience before c.turn.result (picked_of (pick_of picker) (rows_of_place after)))
     (ap (λ (source : Source). picked_of (pick_of picker) (source_at source)) (sym c.in-Place.is) ∙ c.self.view_is)
-    (subst (λ (p : Picker). FindsTurn c.args.looking.now.patience (picked_of (pick_of p) (place_at c.in-Place.place)) c.turn.result (picked_of (pick_of p) (place_at after)))
+    (subst (λ (p : Picker). FindsTurn c.args.looking.now.patience (picked_of (pick_of p) (rows_of_place c.in-Place.place)) c.turn.result (picked_of (pick_of p) (rows_of_place after)))
     c.deref.ensures c.turn.ensures.found)
 
 pub Rows::turn-returns-then-is_empty-clause-found : goal.Rows::turn-returns-then-is_empty-clause-found

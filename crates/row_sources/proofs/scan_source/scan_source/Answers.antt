@@ -1,19 +1,19 @@
 use Rattle.std.proofs.Common.{◌≡◌, ℕ, true, List, [], ◌∷◌, length, map, max, min, ap, sym, ◌∙◌, subst, arith}
 use Rattle.std.specs.List.{range_with_len}
-use Rattle.arrow_schema.specs.declared.schema.Field.{Field}
-use Rattle.arrow_schema.specs.declared.schema.Schema.{Schema}
+use Rattle.arrow_types.specs.declared.schema.Field.{Field}
+use Rattle.arrow_types.specs.declared.schema.Schema.{Schema}
 use Rattle.typed_plan.specs.Plan.{scan}
-use Rattle.typed_plan.specs.Typed.{has_columns, types_of, type_at}
-use Rattle.row_sources.specs.Begun.{IsBegun}
-use Rattle.batch_skipping.specs.Chosen.{are_within}
-use Rattle.row_sources.specs.Chosen.{numbers_at}
+use Rattle.typed_plan.specs.TypedPlans.{has_columns, types_of, type_at}
+use Rattle.row_sources.specs.BegunRows.{IsBegun}
+use Rattle.batch_skipping.specs.ChosenColumns.{are_within}
+use Rattle.row_sources.specs.ChosenColumns.{numbers_at}
 use Rattle.row_sources.specs.Picking.{PickAt, IsPick}
-use Rattle.row_sources.specs.Placed.{Begins}
+use Rattle.row_sources.specs.PlaceCursor.{Begins}
 use Rattle.row_sources.specs.Running.{picked_of}
 use Rattle.row_sources.proofs.Batched.{from_few}
 use Rattle.row_sources.proofs.BeginPick.{numbers_within}
 use Rattle.row_sources.proofs.BeginTree.{scan_begun, scan_pick, pick_is}
-use Rattle.batch_skipping.specs.Opened.{batches_in}
+use Rattle.batch_skipping.specs.OpenedBatches.{batches_in}
 use Rattle.row_sources.proofs.Opening.{in_clamped}
 use Rattle.row_sources.proofs.Piecing.{place_of}
 use Rattle.std.proofs.lemmas.List.FromFn.{length-range_with_len}

@@ -1,5 +1,5 @@
 use Rattle.std.proofs.Common.{◌≡◌, ◌<◌, length, List, subst, get_or, arith}
-use Rattle.arrow_schema.specs.declared.schema.Field.{Field}
+use Rattle.arrow_types.specs.declared.schema.Field.{Field}
 use Rattle.row_stream.proofs.Numbers.{numbered_next}
 use Rattle.row_stream.proofs.dresser.number.Goals as goal
 

@@ -1,6 +1,6 @@
 use Rattle.std.proofs.Common.{IfOk, IfSome, sym, subst, arith}
-use Rattle.arrow_schema.specs.declared.schema.Schema.{Schema}
-use Rattle.arrays.specs.Typed.{AreOfTypes}
+use Rattle.arrow_types.specs.declared.schema.Schema.{Schema}
+use Rattle.arrays.specs.TypedLayouts.{AreOfTypes}
 use Rattle.dictionary_answers.specs.Dress.{IsDressedBatch}
 use Rattle.row_stream.specs.inside.Cuts.{HasBodyWithin, SayBatch}
 use Rattle.row_stream.proofs.Dressed.{found_dressed}

@@ -1,7 +1,7 @@
 use Rattle.std.proofs.Common.{◌≡◌, ◌≤◌, ◌+◌, length, map, refl, subst, List}
 use Rattle.ipc_batch.specs.declared.writer.WrittenMessage.{WrittenMessage}
-use Rattle.ipc_batch.specs.Seen.{written_seen}
-use Rattle.ipc_batch.specs.Written.{SaysBatch}
+use Rattle.ipc_batch.specs.MessageView.{written_seen}
+use Rattle.ipc_batch.specs.WrittenMessages.{SaysBatch}
 use Rattle.dictionary_answers.specs.Lengths.{bodies_length}
 use Rattle.ipc_stream.specs.Stream.{IsMessage}
 use Rattle.row_stream.specs.Stream.{sent_in}

@@ -1,5 +1,5 @@
 use Rattle.std.proofs.Common.{◌≡◌, ◌+◌, map, drop}
-use Rattle.ipc_batch.specs.Seen.{written_seen}
+use Rattle.ipc_batch.specs.MessageView.{written_seen}
 use Rattle.dictionary_answers.specs.Lengths.{bodies_length}
 use Rattle.row_stream.proofs.message.room_beside.Given as goal
 

@@ -1,5 +1,5 @@
 use Rattle.std.proofs.Common.{ℕ, List, sym, subst}
-use Rattle.ipc_batch.specs.Written.{body_of}
+use Rattle.ipc_batch.specs.WrittenMessages.{body_of}
 use Rattle.ipc_stream.specs.Stream.{IsMessage}
 use Rattle.row_stream.specs.inside.Frames.{SaysSchema}
 use Rattle.row_stream.proofs.Messages.{schema_fits, schema_says}

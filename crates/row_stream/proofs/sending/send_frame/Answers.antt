@@ -1,7 +1,7 @@
 use Rattle.std.proofs.Common.{◌≡◌, length, rules}
 use Rattle.std.proofs.lemmas.Result.{err_from_is_err_and}
 use Rattle.grpc_frame.proofs.Sending.{head_not_sent, second_not_sent, sent_behind}
-use Rattle.ipc_batch.specs.Written.{body_of}
+use Rattle.ipc_batch.specs.WrittenMessages.{body_of}
 use Rattle.row_stream.proofs.Messages.{frame_parts}
 use Rattle.row_stream.proofs.sending.send_frame.Goals as goal
 

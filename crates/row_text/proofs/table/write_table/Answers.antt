@@ -1,7 +1,7 @@
 use Rattle.std.proofs.Common.{◌≡◌, List, ◌++◌, All, length, sym, subst}
 use Rattle.std.specs.List.{flat_map}
 use Rattle.std.proofs.lemmas.Result.{err_from_is_err_and}
-use Rattle.arrow_schema.specs.declared.schema.Field.{Field}
+use Rattle.arrow_types.specs.declared.schema.Field.{Field}
 use Rattle.arrays.specs.Batch.{BatchAt, rows_of}
 use Rattle.grpc_frame.proofs.Sending.{head_not_sent, second_not_sent, both_sent, flushed, begun_alone}
 use Rattle.row_text.specs.Rows.{names_row, values_row}

@@ -2,7 +2,7 @@ use Rattle.std.proofs.Common.{◌≡◌, ℕ, List, Option, ap, ◌∙◌, subst
 use Rattle.std.specs.Prelude.{unwrap_or}
 use Rattle.std.specs.Fmt.{signed_decimal}
 use Rattle.std.specs.Int.{w128}
-use Rattle.calendar.specs.Shown.{date_within}
+use Rattle.calendar.specs.DateText.{date_within}
 use Rattle.grpc_frame.specs.Sending.{Sends}
 use Rattle.row_text.proofs.value.send_plain_day.Goals as goal
 

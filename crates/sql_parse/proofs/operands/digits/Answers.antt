@@ -4,7 +4,7 @@ use Rattle.std.specs.Str.Parse.{digits_value}
 use Rattle.sql_text.specs.declared.token.TokenKind.{TokenKind}
 use Rattle.sql_text.specs.declared.token.TokenKind.TheVariants as kind
 use Rattle.sql_text.specs.Calls.{numeral}
-use Rattle.sql_text.specs.Values.{number_of, is_digits, is_small}
+use Rattle.sql_text.specs.Values.{number_of, are_digits, is_small}
 use Rattle.sql_parse.proofs.operands.digits.Goals as goal
 
 chosen : (b : Bool) (m : ℕ) (n : ℤ) → Some n ≡ (if b then Some (pos m) else None) → pos 0 ≤ℤ n
@@ -13,7 +13,7 @@ chosen false m n e = cc
 
 of_digits : (text : List ℕ) (n : ℤ) → Some n ≡ number_of text → pos 0 ≤ℤ n
 unfolding number_of
-of_digits text n e = chosen (is_digits text && is_small text) (digits_value 10 text) n e
+of_digits text n e = chosen (are_digits text && is_small text) (digits_value 10 text) n e
 
 not_negative : (k : TokenKind) (text : List ℕ) (n : ℤ) → Some n ≡ numeral k text → pos 0 ≤ℤ n
 not_negative kind.Digits text n e = of_digits text n e

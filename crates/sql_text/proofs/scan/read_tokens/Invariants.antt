@@ -1,6 +1,6 @@
 use Rattle.std.proofs.Common.{◌≡◌, ◌≤◌, ◌-◌, length, map}
 use Rattle.std.specs.Str.{IsUtf8}
-use Rattle.scan_base.specs.Lists.{behind}
+use Rattle.scan_base.proofs.ReadingLaws.{behind}
 use Rattle.sql_text.specs.Calls.{lexeme_of}
 use Rattle.sql_text.specs.Reading.{tokens_from}
 use Rattle.sql_text.proofs.scan.read_tokens.Given as goal

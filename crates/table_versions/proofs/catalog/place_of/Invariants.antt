@@ -1,6 +1,6 @@
 use Rattle.std.proofs.Common.{◌≡◌, ◌++◌, map, take, drop}
 use Rattle.std.specs.Arc.{arc_value}
-use Rattle.table_versions.specs.Stored.{TableAt}
+use Rattle.table_versions.specs.StoredTables.{TableAt}
 use Rattle.table_versions.specs.Database.{with_table}
 use Rattle.table_versions.proofs.catalog.place_of.Given as goal
 

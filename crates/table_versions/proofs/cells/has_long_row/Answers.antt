@@ -5,7 +5,7 @@ use Rattle.std.proofs.lemmas.List.Elements.{All-more}
 use Rattle.std.proofs.lemmas.List.Folds.{list_any-append}
 use Rattle.std.proofs.lemmas.Option.{slice_get_read}
 use Rattle.arrays.specs.Batch.{rows_of}
-use Rattle.table_versions.specs.Kept.{Stands}
+use Rattle.table_versions.specs.KeptTables.{Stands}
 use Rattle.table_versions.specs.Table.{is_long_text}
 use Rattle.table_versions.proofs.Places.{split_at}
 use Rattle.table_versions.proofs.cells.has_long_row.Goals as goal

@@ -1,7 +1,7 @@
 use Rattle.std.proofs.Common.{◌≡◌, drop, take, All}
 use Rattle.std.specs.List.{list_any, flat_map}
 use Rattle.arrays.specs.Batch.{rows_of}
-use Rattle.table_versions.specs.Kept.{Stands}
+use Rattle.table_versions.specs.KeptTables.{Stands}
 use Rattle.table_versions.specs.Table.{is_long_text}
 use Rattle.table_versions.proofs.cells.has_long_row.Given as goal
 

@@ -2,9 +2,9 @@ use Rattle.std.proofs.Common.{◌≡◌, ◌≤◌, ◌∙◌, Ok, length, rules
 use Rattle.std.specs.Option.{option_copied}
 use Rattle.scan_base.specs.Reading.{first_fault}
 use Rattle.table_versions.specs.Database.{table_at, with_table, faults_at}
-use Rattle.table_versions.specs.Stored.{plain, put_of, stored_after, CatalogAt}
+use Rattle.table_versions.specs.StoredTables.{plain, put_of, stored_after, CatalogAt}
 use Rattle.scan_base.specs.Limits.{most_tables}
-use Rattle.table_versions.specs.Kept.{IsStorable}
+use Rattle.table_versions.specs.KeptTables.{IsStorable}
 use Rattle.table_versions.specs.Order.{IsInOrder}
 use Rattle.table_versions.proofs.Counted.{named_after, room_after}
 use Rattle.table_versions.proofs.RowTypes.{put_typed}

@@ -1,7 +1,7 @@
 use Rattle.std.proofs.Common.{◌≡◌, [], ◌∷◌, ◌++◌, ap, sym, ◌∙◌, arith, rules}
 use Rattle.std.proofs.lemmas.List.Elements.{All-append, All-cons, All-nil}
 use Rattle.version_cell.specs.Seats.{Seat, seat}
-use Rattle.version_cell.specs.Signed.{log_of}
+use Rattle.version_cell.specs.SignedEntries.{log_of}
 use Rattle.version_cell.proofs.Counts.{numbered_last}
 use Rattle.version_cell.proofs.cell.seat_all.Goals as goal
 

@@ -1,5 +1,5 @@
 use Rattle.std.proofs.Common.{◌≡◌, ◌++◌, ◌+◌, drop, length}
-use Rattle.arrays.specs.Written.{texts_joined, offsets_from}
+use Rattle.arrays.specs.WrittenSlots.{texts_joined, offsets_from}
 use Rattle.array_select.specs.inside.GatheredMany.{values_at}
 use Rattle.array_select.proofs.many_places.SlotPlaces.gather_offsets.Given as goal
 

@@ -1,6 +1,6 @@
 use Rattle.std.proofs.Common.{length, refl}
 use Rattle.std.proofs.lemmas.List.{length-map}
-use Rattle.arrow_schema.specs.declared.data_type.DataType.TheVariants as type
+use Rattle.arrow_types.specs.declared.data_type.DataType.TheVariants as type
 use Rattle.array_select.specs.GatherMany.{value_in}
 use Rattle.array_select.specs.inside.GatheredMany.{columns_of, values_at}
 use Rattle.array_select.proofs.FilledSlots.{texts_fill}

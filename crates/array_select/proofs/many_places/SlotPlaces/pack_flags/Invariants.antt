@@ -1,5 +1,5 @@
 use Rattle.std.proofs.Common.{◌≡◌, map, take}
-use Rattle.array_select.specs.inside.Filled.{flag_of}
+use Rattle.array_select.specs.inside.SlotFilling.{flag_of}
 use Rattle.array_select.specs.inside.GatheredMany.{values_at}
 use Rattle.array_select.proofs.many_places.SlotPlaces.pack_flags.Given as goal
 

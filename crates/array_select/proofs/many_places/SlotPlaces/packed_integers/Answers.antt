@@ -1,9 +1,9 @@
 use Rattle.std.proofs.Common.{sym, ap, subst, map, arith}
 use Rattle.std.proofs.lemmas.List.{length-map}
-use Rattle.arrow_schema.specs.declared.data_type.DataType.TheVariants as type
+use Rattle.arrow_types.specs.declared.data_type.DataType.TheVariants as type
 use Rattle.arrays.specs.Number.{byte_width, number_from}
 use Rattle.arrays.specs.Column.{ColumnAt}
-use Rattle.arrays.specs.Typed.{IsOfType}
+use Rattle.arrays.specs.TypedLayouts.{IsOfType}
 use Rattle.array_select.specs.inside.GatheredMany.{columns_of}
 use Rattle.array_select.proofs.GatheredMany.{have_none, have_next, item_at}
 use Rattle.array_select.proofs.many_places.SlotPlaces.packed_integers.Goals as goal

@@ -2,7 +2,7 @@ use Rattle.std.proofs.Common.{◌≡◌, ◌≤◌, ◌+◌, ◌∙◌, length, 
 use Rattle.arrays.specs.declared.layout.Layout.{Layout}
 use Rattle.arrays.specs.declared.layout.Layout.TheVariants as layout
 use Rattle.arrays.specs.Layout.{layout_slot}
-use Rattle.arrays.specs.Written.{text_bytes}
+use Rattle.arrays.specs.WrittenSlots.{text_bytes}
 use Rattle.arrays.proofs.ShortTexts.{column_short, slot_texts_short, slot_indices_short, slot_no_text}
 use Rattle.arrays.proofs.column.Column.longest_text.Goals as goal
 

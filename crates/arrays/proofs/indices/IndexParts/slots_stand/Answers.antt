@@ -1,7 +1,7 @@
 use Rattle.std.proofs.Common.{◌≡◌, ◌∙◌, length, sym, ap, subst, true, arith}
 use Rattle.arrays.specs.Indices.{IndicesAt, index_stands}
 use Rattle.arrays.specs.Number.{integer_at}
-use Rattle.arrays.specs.inside.Placed.{IsPlaced}
+use Rattle.arrays.specs.inside.PlacedIndices.{IsPlaced}
 use Rattle.arrays.proofs.EachSlot.{slots_more, all_pass}
 use Rattle.arrays.proofs.Placed.{placed_stands}
 use Rattle.arrays.proofs.indices.IndexParts.slots_stand.Goals as goal

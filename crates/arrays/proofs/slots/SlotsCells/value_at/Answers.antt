@@ -1,4 +1,4 @@
-use Rattle.std.proofs.Common.{◌∙◌, sym, ap, rules}
+use Rattle.std.proofs.Common.{◌∙◌, sym, ap, rules, arith}
 use Rattle.std.specs.Int.{w128}
 use Rattle.std.proofs.lemmas.Int.{to_z-of_z}
 use Rattle.scan_base.specs.declared.value.Value.TheVariants.{Int, Text, Bool as Truth}
@@ -7,7 +7,7 @@ use Rattle.arrays.proofs.ValidSlots.{validity_long, told, invalid_null, valid_in
 use Rattle.arrays.proofs.slots.SlotsCells.value_at.Goals as goal
 
 pub is_valid-requires : goal.is_valid-requires
-is_valid-requires c = (layout_count c.args.self.now, c.requires, rw c.validity.ensures (validity_long c.args.self.now c.len-count.ensures.stands))
+is_valid-requires c = (layout_count c.args.self.now, omega (arith, c.requires), rw c.validity.ensures (validity_long c.args.self.now c.len-count.ensures.stands))
 
 pub returns-then-not-is_valid : goal.returns-then-not-is_valid
 returns-then-not-is_valid c =

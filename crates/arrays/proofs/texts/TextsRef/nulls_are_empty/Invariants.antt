@@ -1,6 +1,6 @@
 use Rattle.std.proofs.Common.{◌≡◌, ◌≤◌, ◌<◌, ℕ, true}
 use Rattle.arrays.specs.Texts.{text_at, texts_slot}
-use Rattle.arrays.specs.Written.{text_bytes}
+use Rattle.arrays.specs.WrittenSlots.{text_bytes}
 use Rattle.arrays.proofs.texts.TextsRef.nulls_are_empty.Given as goal
 
 abbrev pub invariant-loop-place : goal.invariant-loop-place

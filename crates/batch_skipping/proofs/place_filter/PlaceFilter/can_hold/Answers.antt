@@ -2,16 +2,16 @@ use Rattle.std.proofs.Common.{◌≡◌, ◌-◌, ◌&&◌, ℕ, Bool, true, Bor
 use Rattle.std.specs.List.{list_all}
 use Rattle.std.proofs.lemmas.Bool.{and_from, lt-ltb}
 use Rattle.std.proofs.lemmas.List.Folds.{list_all-map}
-use Rattle.batch_skipping.specs.Can.{can}
+use Rattle.batch_skipping.specs.PredicateTruths.{can}
 use Rattle.batch_stats.specs.Columns.{stats_in}
 use Rattle.rewrite.proofs.Naming.{weaker}
 use Rattle.rewrite.specs.Conjuncts.{is_between}
 use Rattle.scan_base.specs.declared.predicate.Predicate.{Predicate}
 use Rattle.scan_base.specs.Predicate.{Pred, names_only}
 use Rattle.scan_base.specs.View.{pred_of}
-use Rattle.typed_plan.specs.Typed.{has_columns}
-use Rattle.batch_skipping.specs.Opened.{given_columns, given_width}
-use Rattle.batch_skipping.specs.inside.Judged.{batch_columns}
+use Rattle.typed_plan.specs.TypedPlans.{has_columns}
+use Rattle.batch_skipping.specs.OpenedBatches.{given_columns, given_width}
+use Rattle.batch_skipping.specs.inside.JudgedBatches.{batch_columns}
 use Rattle.batch_skipping.proofs.Judging.{all_next, passes_at}
 use Rattle.batch_skipping.proofs.place_filter.PlaceFilter.can_hold.Goals as goal
 

@@ -1,7 +1,7 @@
 use Rattle.std.proofs.Common.{◌≡◌, drop, map}
 use Rattle.scan_base.specs.View.{pred_of}
-use Rattle.batch_skipping.specs.Opened.{given_columns}
-use Rattle.batch_skipping.specs.inside.Judged.{all_can, batch_columns}
+use Rattle.batch_skipping.specs.OpenedBatches.{given_columns}
+use Rattle.batch_skipping.specs.inside.JudgedBatches.{all_can, batch_columns}
 use Rattle.batch_skipping.proofs.place_filter.PlaceFilter.can_hold.Given as goal
 
 -- the conjuncts before this one can be true

@@ -1,7 +1,7 @@
 use Rattle.std.proofs.Common.{◌≡◌, ◌∙◌, ap, arith, length, sym, List, ℕ, Bool}
 use Rattle.std.specs.Simd.Lanes.{zip2}
 use Rattle.bitmap.specs.Bits.{bits_of}
-use Rattle.bitmap.specs.inside.Joined.{joined}
+use Rattle.bitmap.specs.inside.JoinedBits.{joined}
 use Rattle.bitmap.proofs.Masks.{length-bits_of}
 use Rattle.bitmap.proofs.bits.Bits.join.Goals as goal
 

@@ -1,6 +1,6 @@
 use Rattle.std.proofs.Common.{Err}
 use Rattle.client_calls.specs.declared.failure.Failure.TheVariants.{Found}
-use Rattle.client_calls.specs.Answers.{AnswersStream}
+use Rattle.client_calls.specs.StreamAnswers.{AnswersStream}
 use Rattle.client_calls.proofs.Calling.{few_reads, received, stopped_by}
 use Rattle.client_calls.proofs.connection.Connection.receive_stream.Goals as goal
 

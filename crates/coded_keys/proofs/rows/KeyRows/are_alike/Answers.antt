@@ -1,13 +1,13 @@
 use Rattle.std.proofs.Common.{get_or, arith}
 use Rattle.arrays.specs.Batch.{row_of}
-use Rattle.coded_keys.specs.Keys.{key_at}
+use Rattle.coded_keys.specs.Keys.{key_at_place}
 use Rattle.coded_keys.proofs.Parts.{same_parts, same_there}
 use Rattle.coded_keys.proofs.rows.KeyRows.are_alike.Goals as goal
 
 pub loop-part-preserved : goal.loop-part-preserved
 loop-part-preserved c =
     let keys = c.args.self.now in
-    same_there (key_at keys c.args.place) (key_at keys c.args.other) c.loop-part.part c.loop-part.invariant (c.is_alike.ensures c.if-not-is_alike.false)
+    same_there (key_at_place keys c.args.place) (key_at_place keys c.args.other) c.loop-part.part c.loop-part.invariant (c.is_alike.ensures c.if-not-is_alike.false)
 
 pub returns : goal.returns
 returns c =

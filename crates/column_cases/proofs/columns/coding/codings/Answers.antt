@@ -2,14 +2,14 @@ use Rattle.std.proofs.Common.{◌≡◌, ◌⊎◌, inl, inr, All, get_or, sym, 
 use Rattle.scan_base.specs.declared.value.Value.{Value}
 use Rattle.scan_base.specs.declared.value.Value.TheVariants.{Null, Bool as Flag, Int, Text}
 use Rattle.scan_base.specs.Value.{IsTextOrNull}
-use Rattle.arrow_schema.specs.declared.data_type.IntegerType.TheVariants.{Int32}
-use Rattle.arrow_schema.specs.declared.data_type.DictionaryEncoding.{DictionaryEncoding}
-use Rattle.arrow_schema.specs.declared.data_type.DataType.TheVariants.{Utf8, Dictionary}
+use Rattle.arrow_types.specs.declared.data_type.IntegerType.TheVariants.{Int32}
+use Rattle.arrow_types.specs.declared.data_type.DictionaryEncoding.{DictionaryEncoding}
+use Rattle.arrow_types.specs.declared.data_type.DataType.TheVariants.{Utf8, Dictionary}
 use Rattle.arrays.specs.declared.layout.Layout.TheVariants as layout
 use Rattle.arrays.specs.Column.{ColumnAt, IsColumn, values_of}
 use Rattle.arrays.specs.Indices.{IndicesAt}
 use Rattle.arrays.specs.Texts.{TextsAt}
-use Rattle.arrays.specs.Typed.{IsOfType, IsValueOf, ValuesAreOfTheirType}
+use Rattle.arrays.specs.TypedLayouts.{IsOfType, IsValueOf, ValuesAreOfTheirType}
 use Rattle.column_cases.proofs.columns.coding.codings.Goals as goal
 
 text_if : (value : Value) → IsValueOf Utf8 value → IsTextOrNull value
@@ -37,8 +37,4 @@ texts_held typed column stands (inr indices) =
 
 pub coded_batch-requires-clause-texts : goal.coded_batch-requires-clause-texts
 coded_batch-requires-clause-texts c =
-    texts_held c.values_are_of_their_type.ensures c.args.column.now c.len-rows.ensures.stands (rw c.layout.ensures.value at c.in-Texts.is)
-
-pub coded_alone-requires-clause-texts : goal.coded_alone-requires-clause-texts
-coded_alone-requires-clause-texts c =
     texts_held c.values_are_of_their_type.ensures c.args.column.now c.len-rows.ensures.stands (rw c.layout.ensures.value at c.in-Texts.is)

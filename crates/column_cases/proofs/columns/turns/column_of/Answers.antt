@@ -1,8 +1,8 @@
 use Rattle.std.proofs.Common.{◌≡◌, All, List, subst, sym}
-use Rattle.arrow_schema.specs.declared.data_type.DataType.{DataType}
+use Rattle.arrow_types.specs.declared.data_type.DataType.{DataType}
 use Rattle.array_select.specs.declared.of_slots.SlotRef.{SlotRef}
 use Rattle.arrays.specs.declared.layout.Layout.{Layout}
-use Rattle.arrays.specs.Typed.{IsOfType}
+use Rattle.arrays.specs.TypedLayouts.{IsOfType}
 use Rattle.array_select.specs.OfSlots.{IsSlotOf}
 use Rattle.column_cases.proofs.columns.turns.column_of.Goals as goal
 

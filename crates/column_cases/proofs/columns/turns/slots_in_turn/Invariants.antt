@@ -1,6 +1,6 @@
 use Rattle.std.proofs.Common.{All}
-use Rattle.arrow_schema.specs.declared.data_type.DataType.{DataType}
-use Rattle.arrays.specs.Typed.{IsOfType}
+use Rattle.arrow_types.specs.declared.data_type.DataType.{DataType}
+use Rattle.arrays.specs.TypedLayouts.{IsOfType}
 use Rattle.array_select.specs.OfSlots.{IsSlotOf}
 use Rattle.column_cases.proofs.columns.turns.slots_in_turn.Given as goal
 

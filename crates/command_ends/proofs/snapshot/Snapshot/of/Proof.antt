@@ -1,6 +1,6 @@
 -- `of` makes a value of no bytes of memory, at what its clause names.
 use mathlib.Core.Path.{◌≡◌, refl}
-use mathlib.Core.List.{List, [], ◌∷◌}
+use mathlib.Core.List.{[], ◌∷◌}
 use mir.Syntax.{a_type, dcons, dnil, named}
 use mir.Val.{Val, vptr, vstruct, vnil}
 use mir.MapTy.{inst_fn}

@@ -3,7 +3,7 @@ use Rattle.std.proofs.lemmas.Bool.{cases_Bool}
 use Rattle.std.specs.declared.alloc.AllocError.{AllocError}
 use Rattle.csv.specs.Reading.{error_kind, has_failed}
 use Rattle.csv.specs.Records.{fields_of}
-use Rattle.csv_columns.specs.Left.{TakesRecord}
+use Rattle.csv_columns.specs.TextRecords.{TakesRecord}
 use Rattle.csv_columns.specs.inside.Reading.{records_left}
 use Rattle.csv_columns.proofs.Taken.{finds_none, no_failure, none_behind, same_found, stops, takes}
 use Rattle.csv_columns.proofs.records.Records.next.Goals.{in-Ok, in-Err}

@@ -5,7 +5,7 @@ use Rattle.arrays.specs.Column.{ColumnAt, cut}
 use Rattle.dictionary_answers.specs.Lengths.{dressed_length}
 use Rattle.fetch_stream.specs.Streams.{most_body_bytes}
 use Rattle.fetch_stream.specs.declared.cutter.Cutter.{Cutter}
-use Rattle.fetch_stream.specs.inside.Ahead.{AnsweredAs}
+use Rattle.fetch_stream.specs.inside.RowsAhead.{AnsweredAs}
 use Rattle.fetch_stream.proofs.Stepping.{one_fits, more_than_one, half_reaches}
 use Rattle.fetch_stream.proofs.Streaming.{cut_answered}
 use Rattle.fetch_stream.proofs.cutter.Cutter.next.Goals as goal

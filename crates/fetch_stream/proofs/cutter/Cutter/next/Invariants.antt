@@ -1,5 +1,5 @@
 use Rattle.std.proofs.Common.{◌≡◌, ◌≤◌, ◌<◌, ◌+◌}
-use Rattle.fetch_stream.specs.inside.Cut.{ReachesFar}
+use Rattle.fetch_stream.specs.inside.BatchCuts.{ReachesFar}
 use Rattle.fetch_stream.proofs.cutter.Cutter.next.Given as goal
 
 abbrev pub invariant-loop-slice : goal.invariant-loop-slice

@@ -1,5 +1,5 @@
 use Rattle.std.proofs.Common.{◌≡◌, false, Ok, refl, ap, subst, ◌∙◌, arith}
-use Rattle.arrow_schema.specs.declared.schema.Schema.{Schema}
+use Rattle.arrow_types.specs.declared.schema.Schema.{Schema}
 use Rattle.fetch_stream.specs.Morsels.{GivesSchema, MorselsAt}
 use Rattle.fetch_stream.proofs.Going.{gives_schema}
 use Rattle.fetch_stream.proofs.morsels.Morsels.first_payload.Goals as goal

@@ -1,6 +1,6 @@
 use Rattle.std.proofs.Common.{◌≡◌, ap, sym, arith}
 use Rattle.fetch_stream.specs.Streams.{RunningAt}
-use Rattle.fetch_stream.specs.inside.Ahead.{rows_cut, rows_taken}
+use Rattle.fetch_stream.specs.inside.RowsAhead.{rows_cut, rows_taken}
 use Rattle.fetch_stream.proofs.stream.FetchStream.given.Goals as goal
 
 pub returns : goal.returns

@@ -1,6 +1,6 @@
 use Rattle.std.proofs.Common.{◌≡◌, ◌≤◌, [], None, ap, sym, ◌∙◌, arith}
 use Rattle.fetch_stream.specs.Streams.{RunningAt}
-use Rattle.fetch_stream.specs.inside.Ahead.{uncut}
+use Rattle.fetch_stream.specs.inside.RowsAhead.{uncut}
 use Rattle.fetch_stream.proofs.Falling.{source_of, whole_of}
 use Rattle.fetch_stream.proofs.Stepping.{all_cut}
 use Rattle.fetch_stream.proofs.stream.FetchStream.morsels.Goals as goal

@@ -1,5 +1,5 @@
 use Rattle.arrays.specs.Batch.{rows_of}
-use Rattle.fetch_stream.specs.inside.Ahead.{schema_behind, left_behind}
+use Rattle.fetch_stream.specs.inside.RowsAhead.{schema_behind, left_behind}
 use Rattle.fetch_stream.proofs.Stepping.{none_cut, none_taken}
 use Rattle.fetch_stream.proofs.Going.{starts}
 use Rattle.fetch_stream.proofs.stream.FetchStream.of.Goals as goal

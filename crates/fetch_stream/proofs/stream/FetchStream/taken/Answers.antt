@@ -1,6 +1,6 @@
 use Rattle.std.proofs.Common.{◌≡◌, length, ap, sym, length-append, arith}
 use Rattle.fetch_stream.specs.Streams.{RunningAt}
-use Rattle.fetch_stream.specs.inside.Ahead.{left_behind, rows_cut, rows_taken, uncut}
+use Rattle.fetch_stream.specs.inside.RowsAhead.{left_behind, rows_cut, rows_taken, uncut}
 use Rattle.fetch_stream.proofs.Parts.{length_cut}
 use Rattle.fetch_stream.proofs.stream.FetchStream.taken.Goals as goal
 

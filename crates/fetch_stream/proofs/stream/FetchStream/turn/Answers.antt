@@ -1,9 +1,9 @@
 use Rattle.std.proofs.Common.{◌≡◌, ℕ, true, Result, Ok, refl, ap, sym, subst, ◌∙◌}
 use Rattle.scan_base.specs.declared.fault.Fault.{Fault}
 use Rattle.row_sources.specs.declared.turn.Turn.{Turn}
-use Rattle.arrow_schema.specs.declared.schema.Schema.{Schema}
+use Rattle.arrow_types.specs.declared.schema.Schema.{Schema}
 use Rattle.fetch_stream.specs.Streams.{StreamAt, RunningAt, LooksFor, Parcel}
-use Rattle.fetch_stream.specs.inside.Ahead.{schema_behind, rows_cut, unseen_behind}
+use Rattle.fetch_stream.specs.inside.RowsAhead.{schema_behind, rows_cut, unseen_behind}
 use Rattle.fetch_stream.specs.inside.Steps.{GivesFirst, rows_left}
 use Rattle.fetch_stream.proofs.Going.{cut_few, goes_on, gives_so, gives_next, gives_first, looks_first, looks_next}
 use Rattle.fetch_stream.proofs.stream.FetchStream.turn.Goals as goal

@@ -1,7 +1,7 @@
 use Rattle.std.proofs.Common.{◌≡◌, ◌+◌, ◌*◌, ◌%◌, ℕ, length, map, ap, arith}
 use Rattle.std.proofs.lemmas.List.{length-append, length-map}
 use Rattle.flatbuf.specs.Block.{entries, fields}
-use Rattle.flatbuf.specs.Given.{given_of}
+use Rattle.flatbuf.specs.GivenSlots.{given_of}
 use Rattle.flatbuf.proofs.Standing.{length-little, length_padding}
 use Rattle.flatbuf.proofs.Written.{length-numbers, length-entries, length-fields, length-table}
 use Rattle.flatbuf.proofs.build.Builder.table.Goals as goal

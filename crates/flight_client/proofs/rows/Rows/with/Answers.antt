@@ -1,5 +1,5 @@
 use Rattle.std.proofs.Common.{◌≡◌, ◌++◌, sym, subst, rules}
-use Rattle.flight_client.specs.inside.Typed.{HaveColumns, HasSchema}
+use Rattle.flight_client.specs.inside.TypedColumns.{HaveColumns, HasSchema}
 use Rattle.flight_client.proofs.Typed.{rows_begun, rows_more}
 use Rattle.flight_client.proofs.rows.Rows.with.Goals as goal
 

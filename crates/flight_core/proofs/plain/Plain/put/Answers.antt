@@ -2,7 +2,7 @@ use Rattle.std.proofs.Common.{◌≡◌, ◌+◌, Ok, rules, arith, subst, sym, 
 use Rattle.std.proofs.lemmas.Result.{err_from_is_err_and}
 use Rattle.table_versions.specs.Database.{after}
 use Rattle.version_log.specs.Log.{Log, added, puts_in, database_of}
-use Rattle.table_versions.specs.Stored.{VersionAt, put_of, tables_of}
+use Rattle.table_versions.specs.StoredTables.{VersionAt, put_of, tables_of}
 use Rattle.flight_info.proofs.Results.{first_for}
 use Rattle.flight_core.proofs.Versions.{stored_more}
 use Rattle.flight_core.proofs.plain.Plain.put.Goals as goal

@@ -1,5 +1,5 @@
 use Rattle.std.proofs.Common.{◌≡◌, ◌<◌, ◌^◌, ◌/◌, ◌-◌, ℕ, None, length, ap, arith}
-use Rattle.flight_info.specs.inside.Listed.{text_values, HoldTexts}
+use Rattle.flight_info.specs.inside.ListedTables.{text_values, HoldTexts}
 use Rattle.flight_info.proofs.Listed.{text_slots, read_same, never_refused}
 use Rattle.flight_info.proofs.tables.TextBuilder.into_column.Goals as goal
 

@@ -1,4 +1,4 @@
-use Rattle.group_slots.specs.Held.{tallies_in}
+use Rattle.group_slots.specs.HeldTallies.{tallies_in}
 use Rattle.group_slots.proofs.Padded.{padded_blank}
 use Rattle.group_slots.proofs.item_tallies.ItemTallies.blank.Goals as goal
 

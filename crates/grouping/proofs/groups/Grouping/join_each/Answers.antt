@@ -1,5 +1,5 @@
 use Rattle.std.proofs.Common.{sym, subst, ◌∙◌, arith}
-use Rattle.typed_plan.specs.Grouped.{same_key}
+use Rattle.typed_plan.specs.GroupedRows.{same_key}
 use Rattle.first_rows.specs.RowKeys.{key_of}
 use Rattle.first_rows.specs.Numbers.{text_number}
 use Rattle.grouping.specs.inside.Placing.{IsFirst}

@@ -1,6 +1,6 @@
 use Rattle.coded_keys.specs.Numbers.{AreNumbers}
 use Rattle.first_rows.specs.Numbers.{text_number}
-use Rattle.grouping.specs.Fed.{batch_at}
+use Rattle.grouping.specs.FedRows.{batch_at}
 use Rattle.grouping.proofs.JoinedKeys.{IsJoining}
 use Rattle.grouping.proofs.groups.Grouping.join_each.Given as goal
 

@@ -1,7 +1,7 @@
 use Rattle.std.proofs.Common.{◌≡◌, ◌<◌, ℕ, ◌+◌, All, List, length, get_or, refl, sym, ap, ◌∙◌, subst, arith}
 use Rattle.arrays.specs.Batch.{BatchAt}
 use Rattle.first_rows.specs.Numbers.{text_number}
-use Rattle.grouping.specs.Fed.{GroupsAt, batch_at}
+use Rattle.grouping.specs.FedRows.{GroupsAt, batch_at}
 use Rattle.grouping.specs.inside.Seeing.{AreSeenOf}
 use Rattle.grouping.proofs.Feeding.{IsFed, can_count_all, keys_there, feeds_all, fed_batch}
 use Rattle.grouping.proofs.groups.Groups.feed.Goals as goal

@@ -1,6 +1,6 @@
 use Rattle.std.proofs.Common.{◌≡◌, length, List, All, refl, sym, ap, ◌∙◌, subst, arith}
 use Rattle.arrays.specs.Batch.{BatchAt}
-use Rattle.grouping.specs.Fed.{GroupsAt}
+use Rattle.grouping.specs.FedRows.{GroupsAt}
 use Rattle.grouping.specs.inside.Placing.{IsFirst, found_by}
 use Rattle.grouping.proofs.Merging.{merges_all}
 use Rattle.grouping.proofs.groups.Groups.merge.Given.{Over}

@@ -1,6 +1,6 @@
 use Rattle.std.proofs.Common.{◌≤◌, ◌-◌, length}
-use Rattle.hash_join.specs.Seen.{AreOpen}
-use Rattle.work_watch.specs.Told.{ToldAtLeast}
+use Rattle.hash_join.specs.RowCache.{AreOpen}
+use Rattle.work_watch.specs.WatchedWork.{ToldAtLeast}
 use Rattle.hash_join.proofs.chains.OpenChains.link_all.Given as goal
 
 -- the watch was told of the rows that are linked

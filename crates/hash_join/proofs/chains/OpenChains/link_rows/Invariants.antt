@@ -1,5 +1,5 @@
 use Rattle.std.proofs.Common.{◌≤◌}
-use Rattle.hash_join.specs.Seen.{AreOpen}
+use Rattle.hash_join.specs.RowCache.{AreOpen}
 use Rattle.hash_join.proofs.chains.OpenChains.link_rows.Given as goal
 
 abbrev pub invariant-loop-row : goal.invariant-loop-row

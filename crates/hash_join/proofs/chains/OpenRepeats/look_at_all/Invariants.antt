@@ -1,6 +1,6 @@
 use Rattle.std.proofs.Common.{◌≤◌, ◌-◌, length}
-use Rattle.hash_join.specs.Seen.{AreOpenRepeats}
-use Rattle.work_watch.specs.Told.{ToldAtLeast}
+use Rattle.hash_join.specs.RowCache.{AreOpenRepeats}
+use Rattle.work_watch.specs.WatchedWork.{ToldAtLeast}
 use Rattle.hash_join.proofs.chains.OpenRepeats.look_at_all.Given as goal
 
 -- the watch was told of the rows that were looked at

@@ -1,4 +1,4 @@
-use Rattle.hash_join.specs.Seen.{AreOpenRepeats}
+use Rattle.hash_join.specs.RowCache.{AreOpenRepeats}
 use Rattle.hash_join.proofs.chains.OpenRepeats.look_at_rows.Given as goal
 
 abbrev pub invariant-loop-row : goal.invariant-loop-row

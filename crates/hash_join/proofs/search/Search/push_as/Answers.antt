@@ -1,9 +1,9 @@
 use Rattle.std.proofs.Common.{◌≡◌, ◌+◌, ◌&&◌, true, false, if◌then◌else◌, sym, subst}
-use Rattle.arrow_schema.specs.declared.data_type.IntegerType.{IntegerType}
+use Rattle.arrow_types.specs.declared.data_type.IntegerType.{IntegerType}
 use Rattle.arrays.specs.Number.{integer_at}
 use Rattle.arrays.specs.Validity.{is_valid}
-use Rattle.hash_join.specs.declared.look.Told.TheVariants as known
-use Rattle.hash_join.specs.Searches.{IsHead, IsTold}
+use Rattle.hash_join.specs.declared.number_look.BucketKind.TheVariants as known
+use Rattle.hash_join.specs.Searches.{IsHead, IsBucketKind}
 use Rattle.hash_join.proofs.Sieving.{row_head, row_stopped, row_told}
 use Rattle.hash_join.proofs.search.Search.push_as.Goals as goal
 
@@ -23,7 +23,7 @@ push_pieces-requires-clause-told g c row h =
     let keys = c.args.keys in
     let look = keys.look.now in
     let told = g.L.Look.told look in
-    subst (λ (kind : IntegerType). IsTold search row (if is_valid keys.cells.validity (keys.first + row)
+    subst (λ (kind : IntegerType). IsBucketKind search row (if is_valid keys.cells.validity (keys.first + row)
     then told (integer_at kind keys.cells.values (keys.first + row)) else known.Nothing)) (sym c.requires.kind)
     (row_told search c.requires.whole keys.cells keys.first c.requires.keys row h (g.L.Look.passes look) told (g.L.Look.head look) (g.L.Look.own look) c.requires.look)
 

@@ -1,5 +1,5 @@
 use Rattle.std.proofs.Common.{◌≤◌, ◌++◌, ℕ, length, get_or, sym, ap, ◌∙◌, arith}
-use Rattle.hash_join.specs.declared.pieces.Start.{Start}
+use Rattle.hash_join.specs.declared.left_pieces.Start.{Start}
 use Rattle.hash_join.specs.Searches.{ahead_of, first_left, probe_at}
 use Rattle.hash_join.proofs.Piecing.{next_start, start_passed, start_stopped}
 use Rattle.hash_join.proofs.search.Search.push_piece.Goals as goal

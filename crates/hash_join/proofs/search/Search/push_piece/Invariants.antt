@@ -1,6 +1,6 @@
 use Rattle.std.proofs.Common.{◌≡◌, ◌≤◌, ◌++◌, length, drop}
 use Rattle.hash_join.specs.Searches.{ahead_of, first_left, probe_at, walk_at, AreStarts}
-use Rattle.hash_join.specs.Compared.{HasCompared}
+use Rattle.hash_join.specs.PairCache.{HasCompared}
 use Rattle.hash_join.proofs.search.Search.push_piece.Given as goal
 
 abbrev pub invariant-loop-start : goal.invariant-loop-start

@@ -1,7 +1,7 @@
 use Rattle.std.proofs.Common.{◌≡◌, ◌≤◌, ◌<◌, ◌-◌, ◌++◌, length}
 use Rattle.hash_join.specs.Searches.{ahead_of, probe_at, walk_at}
-use Rattle.hash_join.specs.Compared.{HasCompared}
-use Rattle.hash_join.specs.Seen.{AreKept}
+use Rattle.hash_join.specs.PairCache.{HasCompared}
+use Rattle.hash_join.specs.RowCache.{AreKept}
 use Rattle.hash_join.proofs.search.Search.push_rows.Given as goal
 
 abbrev pub invariant-pieces : goal.invariant-pieces

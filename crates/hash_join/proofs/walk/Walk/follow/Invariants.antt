@@ -1,7 +1,8 @@
 use Rattle.std.proofs.Common.{◌≡◌, ◌<◌, ◌-◌, ◌++◌, length}
-use Rattle.hash_join.specs.Compared.{HasCompared}
+use Rattle.hash_join.specs.PairCache.{HasCompared}
 use Rattle.hash_join.specs.Rights.{place_at}
-use Rattle.hash_join.specs.Walks.{joins_at, pairs_past, Follows}
+use Rattle.hash_join.specs.Walks.{joins_at, pairs_past}
+use Rattle.hash_join.proofs.Walking.{Follows}
 use Rattle.hash_join.proofs.walk.Walk.follow.Given as goal
 
 abbrev pub invariant-chain : goal.invariant-chain

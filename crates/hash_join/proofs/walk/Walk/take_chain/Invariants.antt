@@ -1,5 +1,6 @@
 use Rattle.std.proofs.Common.{◌-◌, ◌++◌, length}
-use Rattle.hash_join.specs.Walks.{pairs_past, Follows}
+use Rattle.hash_join.specs.Walks.{pairs_past}
+use Rattle.hash_join.proofs.Walking.{Follows}
 use Rattle.hash_join.proofs.walk.Walk.take_chain.Given as goal
 
 abbrev pub invariant-chain : goal.invariant-chain

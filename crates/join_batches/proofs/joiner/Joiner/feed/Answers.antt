@@ -3,7 +3,7 @@ use Rattle.scan_base.specs.declared.value.Value.{Value}
 use Rattle.hash_join.specs.declared.pair.Pair.{Pair}
 use Rattle.hash_join.specs.declared.build.Probe.{Probe}
 use Rattle.hash_join.specs.Pairs.{pairs_ahead}
-use Rattle.join_batches.specs.Held.{joiner_of, sides_of}
+use Rattle.join_batches.specs.HeldRows.{joiner_of, sides_of}
 use Rattle.join_batches.specs.Rows.{pair_row}
 use Rattle.join_batches.proofs.Looping.{pairs_are_loops}
 use Rattle.join_batches.proofs.joiner.Joiner.feed.Goals as goal

@@ -3,8 +3,8 @@ use Rattle.std.proofs.lemmas.List.{take_all}
 use Rattle.join_batches.specs.declared.joiner.BuiltSides.{BuiltSides}
 use Rattle.join_batches.specs.declared.joiner.Joiner.TheInside.{Inside}
 use Rattle.join_batches.specs.Joiner.{JoinerAt, GivesShown}
-use Rattle.join_batches.specs.Held.{joiner_of, sides_of, IsJoiner}
-use Rattle.join_batches.specs.Left.{KeepsPairs}
+use Rattle.join_batches.specs.HeldRows.{joiner_of, sides_of, IsJoiner}
+use Rattle.join_batches.specs.LeftPairs.{KeepsPairs}
 use Rattle.join_batches.proofs.Made.{batch_of_first}
 use Rattle.join_batches.proofs.Giving.{gives_shown, same_rows, shown_there, sides_are, with_left}
 use Rattle.join_batches.proofs.joiner.Joiner.next_shown.Goals as goal

@@ -1,7 +1,7 @@
 use Rattle.std.proofs.Common.{ℕ, ◌+◌, Bool, false, get_or, if◌then◌else◌, ap, ◌∙◌}
 use Rattle.arrays.specs.Validity.{is_valid}
 use Rattle.kernels.specs.Words.{bit, by_bits}
-use Rattle.kernels.proofs.Lanes.{bit_of_taken}
+use Rattle.arrays.proofs.ValidWords.{bit_of_taken}
 use Rattle.kernels.proofs.TruthBits.{known_bits}
 use Rattle.kernels.proofs.flags.FlagTestsKernel.word.Goals as goal
 

@@ -2,12 +2,8 @@ use Rattle.std.proofs.Common.{◌+◌, Bool, ap, ◌∙◌}
 use Rattle.arrays.specs.Validity.{is_valid}
 use Rattle.kernels.specs.TextTests.{is_text_at}
 use Rattle.kernels.specs.Words.{bit, by_bits}
-use Rattle.kernels.proofs.NullTruths.{word_there}
 use Rattle.kernels.proofs.TruthBits.{known_bits}
 use Rattle.kernels.proofs.texts.EqualTextsKernel.word.Goals as goal
-
-pub valid_word-requires : goal.valid_word-requires
-valid_word-requires c = word_there c.args.self.now.validity.now c.args.self.now.count c.args.from c.args.self.now.long c.requires
 
 pub returns : goal.returns
 returns c = λ row lt.

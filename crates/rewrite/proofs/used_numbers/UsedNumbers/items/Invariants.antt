@@ -1,5 +1,5 @@
 use Rattle.std.proofs.Common.{◌≡◌, map, take}
-use Rattle.rewrite.specs.Pruned.{item_in}
+use Rattle.rewrite.specs.PrunedColumns.{item_in}
 use Rattle.rewrite.proofs.used_numbers.UsedNumbers.items.Given as goal
 
 abbrev pub invariant-loop-item : goal.invariant-loop-item

@@ -1,5 +1,5 @@
 use Rattle.std.proofs.Common.{◌≡◌, ◌<◌, ◌+◌, ◌⊎◌, ℕ, max, refl, sym, ap, subst, ◌∙◌, inl, inr, arith}
-use Rattle.row_sources.specs.Placed.{IsPlaced, Opens}
+use Rattle.row_sources.specs.PlaceCursor.{IsPlaced, Opens}
 use Rattle.row_sources.specs.declared.cursor.Cursor.{Cursor}
 use Rattle.row_sources.proofs.Stepping.{opened_few, placed_after, opens}
 use Rattle.row_sources.proofs.cursor.Cursor.open.Goals as goal

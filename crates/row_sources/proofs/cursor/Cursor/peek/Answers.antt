@@ -1,6 +1,6 @@
 use Rattle.std.proofs.Common.{◌≡◌, ◌≤◌, ◌-◌, ◌+◌, ℕ, length, min, refl, ap, ◌∙◌, arith}
 use Rattle.scan_base.specs.Limits.{most_rows}
-use Rattle.table_versions.specs.Stored.{table_of}
+use Rattle.table_versions.specs.StoredTables.{table_of}
 use Rattle.row_sources.proofs.Shown.{of_types}
 use Rattle.row_sources.proofs.Stepping.{is_part}
 use Rattle.row_sources.proofs.cursor.Cursor.peek.Goals as goal

@@ -1,5 +1,5 @@
 use Rattle.std.proofs.Common.{◌≡◌, ◌<◌, ℕ, length, get_or, slice_get, sym, ap, ◌∙◌, arith, rules}
-use Rattle.table_versions.specs.Stored.{TableAt}
+use Rattle.table_versions.specs.StoredTables.{TableAt}
 use Rattle.batch_skipping.specs.Narrow.{CanNarrow, narrowed}
 use Rattle.row_sources.proofs.Cells.{within_at}
 use Rattle.row_sources.proofs.Narrowing.{at_any, at_many, at_number}

@@ -1,5 +1,5 @@
 use Rattle.std.proofs.Common.{◌≡◌, length, vec_len, ap, arith, rules}
-use Rattle.table_versions.specs.Stored.{TableAt}
+use Rattle.table_versions.specs.StoredTables.{TableAt}
 use Rattle.row_sources.proofs.Narrowing.{at_many}
 use Rattle.row_sources.proofs.opened_table.OpenedTable.batch_count.Goals as goal
 

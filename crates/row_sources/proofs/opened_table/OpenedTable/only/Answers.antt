@@ -3,7 +3,7 @@ use Rattle.std.specs.List.{flat_map}
 use Rattle.std.specs.Option.{option_to_list}
 use Rattle.std.proofs.lemmas.Bool.{and_from, lt-ltb}
 use Rattle.arrays.specs.Batch.{BatchAt, rows_of}
-use Rattle.table_versions.specs.Stored.{TableAt}
+use Rattle.table_versions.specs.StoredTables.{TableAt}
 use Rattle.table_versions.proofs.Rowing.{rows-cons}
 use Rattle.batch_skipping.specs.Narrow.{CanNarrow, batches_at, narrowed}
 use Rattle.row_sources.proofs.Cells.{within_at}

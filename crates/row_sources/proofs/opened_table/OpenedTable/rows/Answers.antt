@@ -1,6 +1,6 @@
 use Rattle.std.proofs.Common.{subst}
-use Rattle.table_versions.specs.Kept.{IsKept}
-use Rattle.table_versions.specs.Stored.{TableAt}
+use Rattle.table_versions.specs.KeptTables.{IsKept}
+use Rattle.table_versions.specs.StoredTables.{TableAt}
 use Rattle.row_sources.proofs.Narrowing.{narrowed_kept}
 use Rattle.row_sources.proofs.opened_table.OpenedTable.rows.Goals as goal
 

@@ -5,7 +5,7 @@ use Rattle.arrays.specs.Column.{ColumnAt}
 use Rattle.scan_base.specs.declared.predicate.Predicate.{Predicate}
 use Rattle.scan_base.specs.Predicate.{names_only}
 use Rattle.scan_base.specs.View.{pred_of}
-use Rattle.kernels.specs.Kept.{all_keep}
+use Rattle.kernels.specs.KeptRows.{all_keep}
 use Rattle.row_sources.proofs.Passing.{all_named}
 use Rattle.row_sources.proofs.picker.Picker.select.Goals as goal
 

@@ -2,7 +2,7 @@ use Rattle.std.proofs.Common.{◌≡◌, ◌<◌, ◌≤◌, ◌-◌, ◌+◌, �
 use Rattle.std.specs.List.{range_with_len}
 use Rattle.arrays.specs.Batch.{row_of}
 use Rattle.array_select.specs.Selection.{AreRising}
-use Rattle.row_sources.specs.declared.part.Part.{Part}
+use Rattle.row_sources.specs.declared.batch_slice.BatchSlice.{BatchSlice}
 use Rattle.row_sources.specs.Picking.{PickAt, holds, chosen_rows, pick_of}
 use Rattle.row_sources.proofs.Giving.{gives, gives_none}
 use Rattle.row_sources.proofs.Selecting.{chosen_below, next_to_each_other}
@@ -13,7 +13,7 @@ no_rows [] e = refl
 no_rows (row ∷ rows) e = absurd (omega (arith, e))
 
 -- the rows that are chosen are rows of the batch
-below : (pick : PickAt) (part : Part) (rows : List ℕ) (most : ℕ) → part.from + (part.to - part.from) ≤ most → rows ≡ chosen_rows pick part →
+below : (pick : PickAt) (part : BatchSlice) (rows : List ℕ) (most : ℕ) → part.from + (part.to - part.from) ≤ most → rows ≡ chosen_rows pick part →
     All (λ (row : ℕ). row < most) rows
 below pick part rows most high e =
     subst (λ (some : List ℕ). All (λ (row : ℕ). row < most) some) (sym e)

@@ -1,8 +1,8 @@
 use Rattle.std.proofs.Common.{◌≡◌, [], ◌∙◌, subst, arith}
 use Rattle.std.proofs.lemmas.Result.{err_from_is_err_and}
-use Rattle.table_versions.specs.Stored.{TableAt}
+use Rattle.table_versions.specs.StoredTables.{TableAt}
 use Rattle.row_sources.specs.Picking.{pick_of}
-use Rattle.row_sources.specs.Picked.{given_of_part}
+use Rattle.row_sources.specs.PickedRows.{given_of_part}
 use Rattle.row_sources.specs.Running.{GoesOn, FindsPiece, FindsNone, Ends, picked_of}
 use Rattle.row_sources.proofs.Piecing.{place_of, none_yet, goes, looked, over, over_is, found, ends_is}
 use Rattle.row_sources.proofs.Turns.{has_end}

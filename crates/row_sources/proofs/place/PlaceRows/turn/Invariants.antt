@@ -1,7 +1,7 @@
 use Rattle.std.proofs.Common.{◌≡◌, ◌≤◌, ◌-◌}
 use Rattle.row_sources.specs.Choices.{IsChoice}
 use Rattle.row_sources.specs.Picking.{pick_of, given_numbered}
-use Rattle.row_sources.specs.Placed.{IsPlaced, rows_ahead}
+use Rattle.row_sources.specs.PlaceCursor.{IsPlaced, rows_ahead}
 use Rattle.row_sources.specs.declared.turn.Patience.TheVariants.{Endless, Choice}
 use Rattle.row_sources.proofs.place.PlaceRows.turn.Given as goal
 

@@ -1,7 +1,7 @@
 use Rattle.std.proofs.Common.{◌≡◌, ℕ, length, sym, subst, true}
 use Rattle.std.proofs.lemmas.List.{length-map}
-use Rattle.typed_plan.specs.Typed.{has_columns, type_at}
-use Rattle.row_sources.specs.Joined.{source_at}
+use Rattle.typed_plan.specs.TypedPlans.{has_columns, type_at}
+use Rattle.row_sources.specs.JoinedRows.{source_at}
 use Rattle.row_sources.specs.RowSource.{SourceAt}
 use Rattle.row_sources.proofs.row_source.RowSource.project.Goals as goal
 

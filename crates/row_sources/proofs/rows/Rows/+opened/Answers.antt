@@ -1,7 +1,7 @@
 use Rattle.std.proofs.Common.{sym, subst}
 use Rattle.std.specs.Arc.{arc_value}
 use Rattle.row_sources.specs.declared.rows.Source.{Source}
-use Rattle.row_sources.specs.Joined.{source_at}
+use Rattle.row_sources.specs.JoinedRows.{source_at}
 use Rattle.row_sources.specs.Parting.{ComeInOrder}
 use Rattle.row_sources.specs.Picking.{pick_of}
 use Rattle.row_sources.proofs.PartPlace.{place_in_order}

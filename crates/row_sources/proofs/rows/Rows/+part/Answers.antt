@@ -3,11 +3,11 @@ use Rattle.std.specs.Arc.{arc_value}
 use Rattle.join_batches.specs.Joiner.{JoinerAt}
 use Rattle.row_sources.specs.declared.picker.Picker.{Picker}
 use Rattle.row_sources.specs.declared.rows.Source.{Source}
-use Rattle.row_sources.specs.Joined.{joined_at, source_at}
+use Rattle.row_sources.specs.JoinedRows.{joined_at, source_at}
 use Rattle.row_sources.specs.Parting.{part_of}
 use Rattle.row_sources.specs.Picking.{pick_of}
 use Rattle.row_sources.specs.Running.{RowsAt, picked_of}
-use Rattle.row_sources.specs.Sources.{place_at}
+use Rattle.row_sources.specs.Sources.{rows_of_place}
 use Rattle.row_sources.proofs.PartRows.{own_unseen, part_joined, part_picked}
 use Rattle.row_sources.proofs.rows.Rows.+part.Goals as goal
 
@@ -15,12 +15,12 @@ pub returns-in_ok-try_clone-in-Place : goal.returns-in_ok-try_clone-in-Place
 returns-in_ok-try_clone-in-Place t c =
     let pick = pick_of (arc_value c.self.inside.picker) in
     let number = c.args.number in
-    let unseen = (place_at c.in_ok-part-in-Place.field-0).unseen in
+    let unseen = (rows_of_place c.in_ok-part-in-Place.field-0).unseen in
     own_unseen c.new.result c.args.self.now number unseen
     (c.new.ensures
-    ∙ ap (λ (p : Picker). picked_of (pick_of p) (place_at c.in_ok-part-in-Place.field-0)) c.in_ok-try_clone-in-Place.ensures
+    ∙ ap (λ (p : Picker). picked_of (pick_of p) (rows_of_place c.in_ok-part-in-Place.field-0)) c.in_ok-try_clone-in-Place.ensures
     ∙ ap (picked_of pick) c.in_ok-part-in-Place.ensures.part
-    ∙ part_picked pick number unseen (place_at c.in-Place.place)
+    ∙ part_picked pick number unseen (rows_of_place c.in-Place.place)
     ∙ ap (λ (source : Source). part_of number unseen (picked_of pick (source_at source))) (sym c.in-Place.is)
     ∙ ap (part_of number unseen) c.self.view_is)
 

@@ -1,6 +1,6 @@
 use Rattle.std.proofs.Common.{[], ℕ, List, sym, subst, ◌∙◌}
 use Rattle.std.proofs.lemmas.Result.{err_from_is_err_and}
-use Rattle.arrow_schema.specs.declared.schema.Schema.{Schema}
+use Rattle.arrow_types.specs.declared.schema.Schema.{Schema}
 use Rattle.row_stream.specs.Stream.{WritesBeginning}
 use Rattle.row_stream.specs.Writing.{SoFar}
 use Rattle.row_stream.proofs.SoFar.{begun, not_begun}

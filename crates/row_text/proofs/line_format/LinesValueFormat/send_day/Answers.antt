@@ -1,6 +1,6 @@
 use Rattle.std.proofs.Common.{◌≡◌, ℕ, List, ap, ◌∙◌, subst, to_z, of_z, to_z-of_z}
 use Rattle.std.specs.Int.{w128}
-use Rattle.calendar.specs.Shown.{date_shown}
+use Rattle.calendar.specs.DateText.{date_shown}
 use Rattle.grpc_frame.specs.Sending.{Sends}
 use Rattle.row_text.proofs.line_format.LinesValueFormat.send_day.Goals as goal
 

@@ -1,6 +1,6 @@
 use Rattle.std.proofs.Common.{◌≡◌, ◌≤◌, ◌<◌, ℕ, ◌+◌, ◌-◌, sym, ap, subst, arith}
 use Rattle.std.specs.Prelude.{slice_index_or}
-use Rattle.scan_exec.specs.GroupWork.{IsPartFed, PartAt, rows_between, work_at}
+use Rattle.scan_exec.specs.GroupWork.{IsPartFed, PartAt, row_count_between, work_at}
 use Rattle.scan_exec.proofs.Feeding.{fed_whole, fed_within, is_more, left_whole, left_within, next_few, next_is, next_number, next_pick, next_row, next_small}
 use Rattle.scan_exec.proofs.group_work.FedPart.feed_next.Goals.{then-end-rows, else-end-rows}
 use Rattle.scan_exec.proofs.group_work.FedPart.feed_next.Goals as goal
@@ -95,12 +95,12 @@ returns-clause-less c =
     let has = ap (slice_index_or work.batches s.at) c.index-work-at.is in
     let ordered : s.row ≤ c.min-end.result = omega (arith, c.min-end.ensures, c.rows.ensures, next_row work s.from s.at s.row s.to s.groups is more batch has) in
     let within : c.min-end.result ≤ batch.rows = omega (arith, c.min-end.ensures, c.rows.ensures) in
-    let moved : rows_between s.at s.to work.batches - s.row ≡ (rows_between c.if-end-rows.at.0 s.to work.batches - c.if-end-rows.at.1) + (c.min-end.result - s.row) = elim c.if-end-rows.branch [
+    let moved : row_count_between s.at s.to work.batches - s.row ≡ (row_count_between c.if-end-rows.at.0 s.to work.batches - c.if-end-rows.at.1) + (c.min-end.result - s.row) = elim c.if-end-rows.branch [
       | then-end-rows w ↦
-          subst (λ (p : ℕ × ℕ). rows_between s.at s.to work.batches - s.row ≡ (rows_between p.0 s.to work.batches - p.1) + (c.min-end.result - s.row)) (sym w.at-is)
+          subst (λ (p : ℕ × ℕ). row_count_between s.at s.to work.batches - s.row ≡ (row_count_between p.0 s.to work.batches - p.1) + (c.min-end.result - s.row)) (sym w.at-is)
           (left_within work s.from s.at s.row s.to s.groups is more batch has c.min-end.result ordered within)
       | else-end-rows w ↦
-          subst (λ (p : ℕ × ℕ). rows_between s.at s.to work.batches - s.row ≡ (rows_between p.0 s.to work.batches - p.1) + (c.min-end.result - s.row)) (sym w.at-is)
+          subst (λ (p : ℕ × ℕ). row_count_between s.at s.to work.batches - s.row ≡ (row_count_between p.0 s.to work.batches - p.1) + (c.min-end.result - s.row)) (sym w.at-is)
           (left_whole work s.from s.at s.row s.to s.groups is more batch has c.min-end.result (omega (arith, w.if-end-rows, c.rows-2.ensures, within)))
     ] in
     omega (arith, moved, ap (λ (p : PartAt). p.left) c.self.view_is, c.min-end.ensures, c.rows.ensures, next_row work s.from s.at s.row s.to s.groups is more batch has, c.self.invariant.1.some)
@@ -115,12 +115,12 @@ returns-clause-counted c =
     let has = ap (slice_index_or work.batches s.at) c.index-work-at.is in
     let ordered : s.row ≤ c.min-end.result = omega (arith, c.min-end.ensures, c.rows.ensures, next_row work s.from s.at s.row s.to s.groups is more batch has) in
     let within : c.min-end.result ≤ batch.rows = omega (arith, c.min-end.ensures, c.rows.ensures) in
-    let moved : rows_between s.at s.to work.batches - s.row ≡ (rows_between c.if-end-rows.at.0 s.to work.batches - c.if-end-rows.at.1) + (c.min-end.result - s.row) = elim c.if-end-rows.branch [
+    let moved : row_count_between s.at s.to work.batches - s.row ≡ (row_count_between c.if-end-rows.at.0 s.to work.batches - c.if-end-rows.at.1) + (c.min-end.result - s.row) = elim c.if-end-rows.branch [
       | then-end-rows w ↦
-          subst (λ (p : ℕ × ℕ). rows_between s.at s.to work.batches - s.row ≡ (rows_between p.0 s.to work.batches - p.1) + (c.min-end.result - s.row)) (sym w.at-is)
+          subst (λ (p : ℕ × ℕ). row_count_between s.at s.to work.batches - s.row ≡ (row_count_between p.0 s.to work.batches - p.1) + (c.min-end.result - s.row)) (sym w.at-is)
           (left_within work s.from s.at s.row s.to s.groups is more batch has c.min-end.result ordered within)
       | else-end-rows w ↦
-          subst (λ (p : ℕ × ℕ). rows_between s.at s.to work.batches - s.row ≡ (rows_between p.0 s.to work.batches - p.1) + (c.min-end.result - s.row)) (sym w.at-is)
+          subst (λ (p : ℕ × ℕ). row_count_between s.at s.to work.batches - s.row ≡ (row_count_between p.0 s.to work.batches - p.1) + (c.min-end.result - s.row)) (sym w.at-is)
           (left_whole work s.from s.at s.row s.to s.groups is more batch has c.min-end.result (omega (arith, w.if-end-rows, c.rows-2.ensures, within)))
     ] in
     omega (arith, moved, ap (λ (p : PartAt). p.left) c.self.view_is, c.weighted_rows-counted.ensures)

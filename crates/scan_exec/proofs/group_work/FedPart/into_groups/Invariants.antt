@@ -1,5 +1,5 @@
 use Rattle.std.specs.Prelude.{◌-◌}
-use Rattle.work_watch.specs.Told.{ToldAtLeast}
+use Rattle.work_watch.specs.WatchedWork.{ToldAtLeast}
 use Rattle.scan_exec.specs.GroupWork.{IsSamePart}
 use Rattle.scan_exec.proofs.group_work.FedPart.into_groups.Given as goal
 

@@ -1,7 +1,7 @@
 use Rattle.std.proofs.Common.{◌≡◌, ◌<◌, ℕ, List, [], ◌∷◌, ◌++◌, length, take, drop, refl, sym, ap, ◌∙◌, subst}
 use Rattle.std.specs.Arc.{arc_value}
-use Rattle.scan_exec.specs.declared.answer.Answer.{Answer}
-use Rattle.scan_exec.specs.Answering.{IsScan, giving_at, number_in, scan_at}
+use Rattle.scan_exec.specs.declared.scan_answer.ScanAnswer.{ScanAnswer}
+use Rattle.scan_exec.specs.Answering.{IsScan, giving_at, table_number, scan_at}
 use Rattle.scan_exec.specs.Giving.{of_rows}
 use Rattle.scan_exec.specs.Morsels.{morsel_of, of_first}
 use Rattle.row_sources.specs.Running.{RowsAt}
@@ -14,15 +14,15 @@ pub part-requires-clause-unopened : goal.part-requires-clause-unopened
 part-requires-clause-unopened c =
     let s = c.self.inside in
     let rows = c.in-Rows.rows in
-    let is = subst (λ (answer : Answer). IsScan (giving_at answer) s.batches.items s.further s.given) c.in-Rows.is c.self.invariant.1 in
-    let view = ap (λ (answer : Answer). scan_at (arc_value s.schema) (giving_at answer) s.batches.items s.further s.given s.refused) (sym c.in-Rows.is) ∙ c.self.view_is in
+    let is = subst (λ (answer : ScanAnswer). IsScan (giving_at answer) s.batches.items s.further s.given) c.in-Rows.is c.self.invariant.1 in
+    let view = ap (λ (answer : ScanAnswer). scan_at (arc_value s.schema) (giving_at answer) s.batches.items s.further s.given s.refused) (sym c.in-Rows.is) ∙ c.self.view_is in
     none_opened (of_rows rows) s.batches.items s.further s.given is (ap (λ (scan : ScanAt). of_first scan.opened) view ∙ c.requires.unopened)
 
 pub part-requires-clause-there : goal.part-requires-clause-there
 part-requires-clause-there c =
     let s = c.self.inside in
     let rows = c.in-Rows.rows in
-    let is = subst (λ (answer : Answer). IsScan (giving_at answer) s.batches.items s.further s.given) c.in-Rows.is c.self.invariant.1 in
+    let is = subst (λ (answer : ScanAnswer). IsScan (giving_at answer) s.batches.items s.further s.given) c.in-Rows.is c.self.invariant.1 in
     let listed = subst (λ (scan : ScanAt). c.args.number < length (of_first scan.batches)) (sym c.self.view_is) c.requires.there in
     batch_there rows s.batches.items s.further s.given is c.args.number listed
 
@@ -31,10 +31,10 @@ invariant_of-result c =
     let s = c.self.inside in
     let rows = c.in-Rows.rows in
     let part = c.in_ok-rows.rows in
-    let is = subst (λ (answer : Answer). IsScan (giving_at answer) s.batches.items s.further s.given) c.in-Rows.is c.self.invariant.1 in
+    let is = subst (λ (answer : ScanAnswer). IsScan (giving_at answer) s.batches.items s.further s.given) c.in-Rows.is c.self.invariant.1 in
     let listed = subst (λ (scan : ScanAt). c.args.number < length (of_first scan.batches)) (sym c.self.view_is) c.requires.there in
     let pair = c.index.result.now in
-    let batch = number_in (drop s.further s.batches.items) c.args.number in
+    let batch = table_number (drop s.further s.batches.items) c.args.number in
     let pairs : c.push.new.self.items ≡ (0, batch) ∷ [] =
     c.in_ok-push.ensures.items ∙ ap (λ (some : List (ℕ × ℕ)). some ++ pair ∷ []) c.in_ok-batches.ensures.items
     ∙ ap (λ (one : ℕ × ℕ). one ∷ []) (pair_is rows s.batches.items s.further s.given is c.args.number listed pair c.index.ensures) in (
@@ -46,12 +46,12 @@ pub returns : goal.returns
 returns c =
     let s = c.self.inside in
     let rows = c.in-Rows.rows in
-    let is = subst (λ (answer : Answer). IsScan (giving_at answer) s.batches.items s.further s.given) c.in-Rows.is c.self.invariant.1 in
-    let view = ap (λ (answer : Answer). scan_at (arc_value s.schema) (giving_at answer) s.batches.items s.further s.given s.refused) (sym c.in-Rows.is) ∙ c.self.view_is in
+    let is = subst (λ (answer : ScanAnswer). IsScan (giving_at answer) s.batches.items s.further s.given) c.in-Rows.is c.self.invariant.1 in
+    let view = ap (λ (answer : ScanAnswer). scan_at (arc_value s.schema) (giving_at answer) s.batches.items s.further s.given s.refused) (sym c.in-Rows.is) ∙ c.self.view_is in
     let none = none_opened (of_rows rows) s.batches.items s.further s.given is (ap (λ (scan : ScanAt). of_first scan.opened) view ∙ c.requires.unopened) in
     let listed = subst (λ (scan : ScanAt). c.args.number < length (of_first scan.batches)) (sym c.self.view_is) c.requires.there in
     let pair = c.index.result.now in
-    let batch = number_in (drop s.further s.batches.items) c.args.number in
+    let batch = table_number (drop s.further s.batches.items) c.args.number in
     let pairs : c.push.new.self.items ≡ (0, batch) ∷ [] =
     c.in_ok-push.ensures.items ∙ ap (λ (some : List (ℕ × ℕ)). some ++ pair ∷ []) c.in_ok-batches.ensures.items
     ∙ ap (λ (one : ℕ × ℕ). one ∷ []) (pair_is rows s.batches.items s.further s.given is c.args.number listed pair c.index.ensures) in

@@ -1,30 +1,30 @@
 use Rattle.std.proofs.Common.{All, ◌≡◌, ◌<◌, ◌++◌, ◌∷◌, [], ℕ, true, false, List, length, map, drop, get_or, Option, None, ap, sym, ◌∙◌, subst, refl, arith, rules}
 use Rattle.std.specs.Arc.{arc_value}
 use Rattle.std.specs.List.{flat_map, list_any, range_with_len}
-use Rattle.arrow_schema.specs.declared.schema.Schema.{Schema}
+use Rattle.arrow_types.specs.declared.schema.Schema.{Schema}
 use Rattle.arrays.specs.Batch.{rows_of}
 use Rattle.std.proofs.lemmas.List.Elements.{All-nil, All-cons, All-head, All-tail}
-use Rattle.table_versions.specs.Kept.{IsKept}
-use Rattle.table_versions.specs.Stored.{TableAt, table_of}
+use Rattle.table_versions.specs.KeptTables.{IsKept}
+use Rattle.table_versions.specs.StoredTables.{TableAt, table_of}
 use Rattle.table_versions.specs.Table.{Row, is_long_text}
 use Rattle.typed_plan.specs.declared.plan.Output.{Output}
 use Rattle.typed_plan.specs.declared.plan.Plan.{Plan}
-use Rattle.typed_plan.specs.Held.{tree_schemas}
-use Rattle.typed_plan.specs.Typed.{HasOutput, IsTyped, is_grouping, is_place}
+use Rattle.typed_plan.specs.HeldTables.{tree_schemas}
+use Rattle.typed_plan.specs.TypedPlans.{HasOutput, IsTyped, is_grouping, is_place}
 use Rattle.typed_plan.specs.View.{BoundAt, plan_of, tree_of}
 use Rattle.rewrite.specs.Laws.{SkippingKeepsRows}
-use Rattle.batch_skipping.specs.declared.opened.OpenedList.{OpenedList}
+use Rattle.batch_skipping.specs.declared.opened_batches.OpenedList.{OpenedList}
 use Rattle.scan_exec.specs.Answering.{IsScan, answer_for, giving_at, scan_at}
-use Rattle.row_sources.specs.Begun.{IsBegun}
+use Rattle.row_sources.specs.BegunRows.{IsBegun}
 use Rattle.row_sources.specs.Running.{RowsAt}
 use Rattle.scan_exec.specs.Giving.{GivingAt}
 use Rattle.row_sources.specs.Parts.{first_batches}
-use Rattle.batch_skipping.specs.Listed.{AreLists}
+use Rattle.batch_skipping.specs.PlaceLists.{AreLists}
 use Rattle.batch_skipping.specs.Narrow.{BeginsInFirst}
-use Rattle.batch_skipping.specs.Opened.{batches_in, first_opened, further_opened, opened_numbers, numbered_batches, where_parts}
+use Rattle.batch_skipping.specs.OpenedBatches.{batches_in, first_opened, further_opened, opened_numbers, numbered_batches, where_parts}
 use Rattle.row_sources.specs.OpenedTables.{CanAll, narrow_all}
-use Rattle.rewrite.specs.Pruned.{IsPruned}
-use Rattle.rewrite.specs.Same.{StandsFor}
+use Rattle.rewrite.specs.PrunedColumns.{IsPruned}
+use Rattle.rewrite.specs.SameRows.{StandsFor}
 use Rattle.scan_exec.specs.Scan.{IsBeginning}
 use Rattle.scan_exec.proofs.Beginning.{begins_is, is_scan}
 use Rattle.scan_exec.proofs.Hopeless.{holds}

@@ -1,9 +1,9 @@
 use Rattle.std.proofs.Common.{rules, ◌≡◌, ◌≤◌, map, length, subst}
 use Rattle.std.specs.Arc.{arc_value}
 use Rattle.table_versions.specs.Table.{Name}
-use Rattle.table_versions.specs.Stored.{TableAt}
+use Rattle.table_versions.specs.StoredTables.{TableAt}
 use Rattle.table_versions.specs.Database.{with_table}
-use Rattle.table_versions.specs.Kept.{IsCatalog}
+use Rattle.table_versions.specs.KeptTables.{IsCatalog}
 use Rattle.table_versions.specs.Valid.{IsName}
 use Rattle.table_versions.proofs.Order.{in_order-with_table}
 use Rattle.table_versions.proofs.Tables.{all_with_table}

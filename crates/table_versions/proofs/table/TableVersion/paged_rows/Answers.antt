@@ -2,7 +2,7 @@ use Rattle.std.specs.Prelude.{IfSome}
 use Rattle.std.proofs.Common.{◌≡◌, ◌%◌, ℕ, List, length, Option, Some, sym, subst, slice_get, option_map}
 use Rattle.std.specs.Slice.{IsItemAt}
 use Rattle.arrays.specs.Batch.{BatchAt}
-use Rattle.table_versions.specs.Stored.{table_of}
+use Rattle.table_versions.specs.StoredTables.{table_of}
 use Rattle.table_versions.proofs.Paging.{paged_rows, rows_all_filled}
 use Rattle.table_versions.proofs.table.TableVersion.paged_rows.Goals as goal
 

@@ -1,7 +1,7 @@
 use Rattle.std.proofs.Common.{◌%◌, List, length, Some, Vec, Global, subst}
 use Rattle.std.specs.Slice.{IsItemAt}
-use Rattle.batch_stats.specs.declared.owned.OwnedStats.{OwnedStats}
-use Rattle.table_versions.specs.Stored.{table_of}
+use Rattle.batch_stats.specs.declared.owned_stats.OwnedStats.{OwnedStats}
+use Rattle.table_versions.specs.StoredTables.{table_of}
 use Rattle.table_versions.proofs.Paging.{columns_wide, lent_at, of_any, paged_stats}
 use Rattle.table_versions.proofs.table.TableVersion.paged_stats.Goals as goal
 

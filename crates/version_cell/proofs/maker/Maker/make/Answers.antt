@@ -1,6 +1,6 @@
 use Rattle.std.proofs.Common.{◌≡◌, ◌++◌, ◌∷◌, ◌^◌, [], length, ap, arith, length-append, rules}
-use Rattle.version_cell.specs.Placed.{Placed}
-use Rattle.version_cell.specs.Signed.{MakerAt, signed}
+use Rattle.version_cell.specs.PlacedEntries.{Placed}
+use Rattle.version_cell.specs.SignedEntries.{MakerAt, signed}
 use Rattle.version_cell.proofs.Parts.{among_made, few_made, one_counted}
 use Rattle.version_cell.proofs.maker.Maker.make.Goals as goal
 

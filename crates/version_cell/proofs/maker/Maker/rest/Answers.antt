@@ -1,5 +1,5 @@
 use Rattle.std.proofs.Common.{◌≡◌, ap, rules, sym, ◌∙◌}
-use Rattle.version_cell.specs.Signed.{MakerAt, own}
+use Rattle.version_cell.specs.SignedEntries.{MakerAt, own}
 use Rattle.version_cell.proofs.Merging.{among_whole}
 use Rattle.version_cell.proofs.maker.Maker.rest.Goals as goal
 

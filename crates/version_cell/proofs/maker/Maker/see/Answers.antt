@@ -1,5 +1,5 @@
 use Rattle.std.proofs.Common.{◌≡◌, rules}
-use Rattle.version_cell.specs.Signed.{GoesOn}
+use Rattle.version_cell.specs.SignedEntries.{GoesOn}
 use Rattle.version_cell.proofs.Parts.{among_on}
 use Rattle.version_cell.proofs.maker.Maker.see.Goals as goal
 

@@ -1,7 +1,7 @@
 use Rattle.std.proofs.Common.{◌≡◌, true, [], ◌++◌, sym, ap, ◌∙◌, append-nil, rules}
 use Rattle.version_log.specs.Log.{Log}
 use Rattle.version_cell.specs.Seats.{Seat}
-use Rattle.version_cell.specs.Signed.{MakerAt, log_of}
+use Rattle.version_cell.specs.SignedEntries.{MakerAt, log_of}
 use Rattle.version_cell.proofs.Logs.{begins_of}
 use Rattle.version_cell.proofs.scanner.Scanner.enter.Goals as goal
 

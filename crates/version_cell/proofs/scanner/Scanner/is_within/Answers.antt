@@ -1,6 +1,6 @@
 use Rattle.std.proofs.Common.{◌≡◌, ap, ◌∙◌}
 use Rattle.version_cell.specs.Seats.{Seat}
-use Rattle.version_cell.specs.Signed.{log_of}
+use Rattle.version_cell.specs.SignedEntries.{log_of}
 use Rattle.version_cell.proofs.Logs.{either_begins_of}
 use Rattle.version_cell.proofs.scanner.Scanner.is_within.Goals as goal
 

@@ -1,7 +1,7 @@
 use Rattle.std.proofs.Common.{◌≡◌, ap, subst}
 use Rattle.version_log.specs.Log.{Log, Begins}
 use Rattle.version_cell.specs.Seats.{Seat}
-use Rattle.version_cell.specs.Signed.{log_of}
+use Rattle.version_cell.specs.SignedEntries.{log_of}
 use Rattle.version_cell.proofs.Logs.{begins_of}
 use Rattle.version_cell.proofs.scanner.Scanner.learn.Goals as goal
 

@@ -1,0 +1,67 @@
+-- Which layouts hold the values of a type.
+use Rattle.std.specs.Prelude.{◌≡◌, ℤ, true, FitsSigned, List, [], ◌∷◌, All}
+use Rattle.std.specs.Int.{w8, w16, w32, w64, w128, FitsUnsigned}
+use Rattle.std.specs.Str.{is_utf8}
+use Rattle.scan_base.specs.declared.value.Value.{Value}
+use Rattle.scan_base.specs.declared.value.Value.TheVariants as value
+use Rattle.arrow_types.specs.declared.data_type.IntegerType.{IntegerType}
+use Rattle.arrow_types.specs.declared.data_type.IntegerType.TheVariants as integer
+use Rattle.arrow_types.specs.declared.data_type.DataType.{DataType}
+use Rattle.arrow_types.specs.declared.data_type.DataType.TheVariants.{Integer, Utf8, Bool}
+use Rattle.arrow_types.specs.declared.data_type.DataType.TheVariants.{Decimal128, Date, Dictionary}
+use Rattle.arrow_types.specs.declared.schema.Field.{Field}
+use Rattle.arrays.specs.declared.layout.Layout.{Layout}
+use Rattle.arrays.specs.declared.layout.Layout.TheVariants as layout
+use Rattle.arrays.specs.Column.{ColumnAt, IsColumn, values_of}
+
+-- The slots are of this type: those of dates are integers of 32 signed bits. Columns of a
+-- dictionary may differ in the type of their indices.
+abbrev pub IsOfType : DataType → Layout → Type 0
+IsOfType (Integer integer) (layout.Integers cells) = cells.integer ≡ integer
+IsOfType Utf8 (layout.Texts cells) = Unit {0}
+IsOfType Bool (layout.Bools cells) = Unit {0}
+IsOfType Decimal128 (layout.Decimals cells) = Unit {0}
+IsOfType Date (layout.Integers cells) = cells.integer ≡ integer.Int32
+IsOfType (Dictionary encoding) (layout.Indices cells) = Unit {0}
+IsOfType _ _ = ⊥
+
+-- there is a column for each field, of its type
+abbrev pub AreOfTypes : List Field → List ColumnAt → Type 0
+AreOfTypes [] [] = Unit {0}
+AreOfTypes (field ∷ fields) (column ∷ columns) =
+    IsOfType field.data_type column.layout × AreOfTypes fields columns
+AreOfTypes _ _ = ⊥
+
+-- there is a column for each type, of that type
+abbrev pub AreOf : List DataType → List ColumnAt → Type 0
+AreOf [] [] = Unit {0}
+AreOf (data_type ∷ types) (column ∷ columns) =
+    IsOfType data_type column.layout × AreOf types columns
+AreOf _ _ = ⊥
+
+-- the number is one of an integer type: -128 to 127 of Int8, 0 to 255 of UInt8, and so on
+abbrev pub IsInteger : IntegerType → ℤ → Type 0
+IsInteger integer.Int8 number = FitsSigned w8 number
+IsInteger integer.Int16 number = FitsSigned w16 number
+IsInteger integer.Int32 number = FitsSigned w32 number
+IsInteger integer.Int64 number = FitsSigned w64 number
+IsInteger integer.UInt8 number = FitsUnsigned w8 number
+IsInteger integer.UInt16 number = FitsUnsigned w16 number
+IsInteger integer.UInt32 number = FitsUnsigned w32 number
+IsInteger integer.UInt64 number = FitsUnsigned w64 number
+
+-- a value that a column of a type may hold; a null stands in each
+abbrev pub IsValueOf : DataType → Value → Type 0
+IsValueOf _ value.Null = Unit {0}
+IsValueOf (Integer integer) (value.Int number) = IsInteger integer number
+IsValueOf Utf8 (value.Text bytes) = is_utf8 bytes ≡ true
+IsValueOf Bool (value.Bool flag) = Unit {0}
+IsValueOf Decimal128 (value.Int number) = FitsSigned w128 number
+IsValueOf Date (value.Int number) = FitsSigned w32 number
+IsValueOf (Dictionary encoding) (value.Text bytes) = is_utf8 bytes ≡ true
+IsValueOf _ _ = ⊥
+
+-- the values of a column of a type are of that type
+abbrev pub ValuesAreOfTheirType : Type 0
+ValuesAreOfTheirType = (data_type : DataType) (column : ColumnAt) → IsColumn column →
+    IsOfType data_type column.layout → All (IsValueOf data_type) (values_of column)

@@ -1,5 +1,0 @@
-use Rattle.arrow_schema.proofs.Plain.{plain_is_schema}
-use Rattle.arrow_schema.proofs.laws.plain_schemas_are_schemas.Goals as goal
-
-pub returns : goal.returns
-returns c = plain_is_schema

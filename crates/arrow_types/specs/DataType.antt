@@ -1,0 +1,33 @@
+-- What the types of columns are.
+use Rattle.std.specs.Prelude.{ℕ, Bool, true, false, Option, Some, None}
+use Rattle.arrow_types.specs.declared.data_type.IntegerType.{IntegerType}
+use Rattle.arrow_types.specs.declared.data_type.IntegerType.TheVariants.{Int8, Int16, Int32, Int64}
+use Rattle.arrow_types.specs.declared.data_type.IntegerType.TheVariants.{UInt8, UInt16, UInt32}
+use Rattle.arrow_types.specs.declared.data_type.IntegerType.TheVariants.{UInt64}
+use Rattle.arrow_types.specs.declared.data_type.DataType.{DataType}
+use Rattle.arrow_types.specs.declared.data_type.DataType.TheVariants.{Dictionary}
+use Rattle.arrow_types.specs.declared.data_type.DictionaryEncoding.{DictionaryEncoding}
+
+-- whether the numbers have a sign, and how many bits a number has
+abbrev pub integer_form : IntegerType → Bool × ℕ
+integer_form Int8 = (true, 8)
+integer_form Int16 = (true, 16)
+integer_form Int32 = (true, 32)
+integer_form Int64 = (true, 64)
+integer_form UInt8 = (false, 8)
+integer_form UInt16 = (false, 16)
+integer_form UInt32 = (false, 32)
+integer_form UInt64 = (false, 64)
+
+-- how many bits a number has
+abbrev pub bit_width : IntegerType → ℕ
+bit_width integer = (integer_form integer).1
+
+-- whether the numbers have a sign
+abbrev pub is_signed : IntegerType → Bool
+is_signed integer = (integer_form integer).0
+
+-- the dictionary of a type, where it has one
+abbrev pub encoding_of : DataType → Option DictionaryEncoding
+encoding_of (Dictionary encoding) = Some encoding
+encoding_of _ = None

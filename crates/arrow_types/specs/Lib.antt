@@ -1,0 +1,3 @@
+pub mod Answer
+pub mod DataType
+pub mod Schema

@@ -1,0 +1,92 @@
+//! The types of columns.
+
+ghost use Rattle.std.specs.Prelude.{◌≡◌};
+ghost use Rattle.arrow_types.specs.Answer.{answered_at, copied_type};
+ghost use Rattle.arrow_types.specs.DataType.{bit_width, is_signed};
+
+/// The whole numbers of fixed width.
+#[derive(Clone, Copy, Debug, PartialEq, Eq)]
+pub enum IntegerType {
+    Int8,
+    Int16,
+    Int32,
+    Int64,
+    UInt8,
+    UInt16,
+    UInt32,
+    UInt64,
+}
+
+/// How a column of texts is kept by indices into a dictionary: the dictionary's id, and the type of
+/// the indices.
+#[derive(Clone, Copy, Debug, PartialEq, Eq)]
+pub struct DictionaryEncoding {
+    pub id: u64,
+    pub index: IntegerType,
+}
+
+/// The type of a column's values. A dictionary's values are Utf8, a decimal is one of 38 digits
+/// with none after the point, and a date is a number of whole days from 1970-01-01 on, in 32 signed
+/// bits.
+#[derive(Clone, Copy, Debug, PartialEq, Eq)]
+pub enum DataType {
+    Integer(IntegerType),
+    Utf8,
+    Bool,
+    Decimal128,
+    Date,
+    Dictionary(DictionaryEncoding),
+}
+
+impl IntegerType {
+    /// How many bits a number has.
+    pub fn bit_width(self) -> u32
+        ensures { result ≡ bit_width self }
+    {
+        match self {
+            IntegerType::Int8 | IntegerType::UInt8 => 8,
+            IntegerType::Int16 | IntegerType::UInt16 => 16,
+            IntegerType::Int32 | IntegerType::UInt32 => 32,
+            IntegerType::Int64 | IntegerType::UInt64 => 64,
+        }
+    }
+
+    /// Whether the numbers have a sign.
+    pub fn is_signed(self) -> bool
+        ensures { result ≡ is_signed self }
+    {
+        match self {
+            IntegerType::Int8 | IntegerType::Int16 | IntegerType::Int32 | IntegerType::Int64 =>
+                true,
+            IntegerType::UInt8 | IntegerType::UInt16 | IntegerType::UInt32 | IntegerType::UInt64 =>
+                false,
+        }
+    }
+}
+
+impl DataType {
+    /// The type in which slots lie that are copied from columns of this type: those of a dictionary
+    /// lie as texts.
+    pub fn copied(self) -> DataType
+        ensures { result ≡ copied_type self }
+    {
+        match self {
+            DataType::Dictionary(_) => DataType::Utf8,
+            other => other,
+        }
+    }
+
+    /// The type of the result's column of this number, counted from 0, for values of this type. A
+    /// dictionary of texts is answered as the one of that id, with indices of 32 bits.
+    pub fn answered(self, number: u64) -> DataType
+        ensures { result ≡ answered_at number self }
+    {
+        match self {
+            DataType::Dictionary(_) => DataType::Dictionary(DictionaryEncoding {
+                id: number,
+                index: IntegerType::Int32,
+            }),
+            other => other,
+        }
+    }
+}

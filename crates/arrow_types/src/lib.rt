@@ -1,0 +1,9 @@
+//! Arrow's types, fields and schemas.
+#![tactic(auto)]
+
+pub mod data_type;
+pub mod laws;
+pub mod schema;
+
+pub use crate::data_type::{DataType, DictionaryEncoding, IntegerType};
+pub use crate::schema::{Field, MAX_COLUMNS, MAX_NAME_BYTES, Schema};

@@ -1,2 +1,0 @@
-pub mod Light
-pub mod Shares

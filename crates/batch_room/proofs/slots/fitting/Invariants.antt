@@ -1,8 +1,0 @@
-use Rattle.std.proofs.Common.{◌≤◌, ◌<◌, length}
-use Rattle.batch_room.proofs.slots.fitting.Given as goal
-
-abbrev pub invariant-loop-share : goal.invariant-loop-share
-invariant-loop-share l = (0 < l.count) × (l.count ≤ length l.slots)
-
-abbrev pub decreases-loop-share : goal.decreases-loop-share
-decreases-loop-share l = l.count

@@ -1,8 +1,0 @@
-use Rattle.std.proofs.Common.{◌≡◌, drop}
-use Rattle.batch_skipping.specs.Can.{can_be_among}
-use Rattle.batch_stats.specs.Sides.{side_at}
-use Rattle.batch_skipping.proofs.can.sides_among.Given as goal
-
--- what the items from this one on give
-abbrev pub invariant-loop-index : goal.invariant-loop-index
-invariant-loop-index g l = l.found ≡ can_be_among (g.M.Measured.stats l.batch) (side_at l.side) (drop l.index l.items)

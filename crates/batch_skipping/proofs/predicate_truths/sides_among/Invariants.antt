@@ -1,0 +1,8 @@
+use Rattle.std.proofs.Common.{◌≡◌, drop}
+use Rattle.batch_skipping.specs.PredicateTruths.{can_be_among}
+use Rattle.batch_stats.specs.Sides.{side_at}
+use Rattle.batch_skipping.proofs.predicate_truths.sides_among.Given as goal
+
+-- what the items from this one on give
+abbrev pub invariant-loop-index : goal.invariant-loop-index
+invariant-loop-index g l = l.found ≡ can_be_among (g.M.ColumnStats.stats l.batch) (side_at l.side) (drop l.index l.items)

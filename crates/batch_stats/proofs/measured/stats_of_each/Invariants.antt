@@ -1,6 +1,0 @@
-use Rattle.std.proofs.Common.{take}
-use Rattle.batch_stats.specs.inside.Measured.{AreStatsOf}
-use Rattle.batch_stats.proofs.measured.stats_of_each.Given as goal
-
-abbrev pub invariant-loop-column : goal.invariant-loop-column
-invariant-loop-column l = AreStatsOf (take l.column-index l.columns) l.stats.items

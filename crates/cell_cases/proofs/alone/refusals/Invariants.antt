@@ -1,8 +1,0 @@
-use Rattle.cell_cases.proofs.alone.refusals.Given as goal
-
--- the cell that was just opened
-abbrev pub ghosts-refuses-C-CellName : goal.ghosts-refuses-C-CellName
-ghosts-refuses-C-CellName g a = record { book = a.blank.book; asks = a.blank.asks; numbers = a.blank.numbers }
-
-abbrev pub ghosts-refuses-C-Ledger : goal.ghosts-refuses-C-Ledger
-ghosts-refuses-C-Ledger g a = record { name = a.blank.ledger; parts = a.blank.seats }

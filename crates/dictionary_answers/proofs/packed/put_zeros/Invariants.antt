@@ -1,7 +1,0 @@
-use Rattle.byteorder.proofs.Slices.{MappedTo}
-use Rattle.dictionary_answers.specs.inside.Packed.{numbers_in, shown}
-use Rattle.dictionary_answers.proofs.packed.put_zeros.Given as goal
-
--- the numbers so far are shown, and the rest are as they were
-abbrev pub invariant-loop-slot : goal.invariant-loop-slot
-invariant-loop-slot l = MappedTo shown (numbers_in l.initial.bytes) (numbers_in l.bytes) l.slot

@@ -1,4 +1,0 @@
-use Rattle.flight_proto.proofs.wanted.put_wanted.Goals as goal
-
-pub returns-in-Tables-clause-ok : goal.returns-in-Tables-clause-ok
-returns-in-Tables-clause-ok c = rw c.in-Tables.is c.put_command.ensures.ok

@@ -1,5 +1,0 @@
-use Rattle.grouping.specs.inside.Finishing.{AllFit, groups_in}
-use Rattle.grouping.proofs.batches.Answer.how_many_fit.Given as goal
-
-abbrev pub invariant-loop-item : goal.invariant-loop-item
-invariant-loop-item l = AllFit (groups_in l.self) l.from l.most l.item l.count

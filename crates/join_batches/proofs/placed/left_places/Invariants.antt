@@ -1,6 +1,0 @@
-use Rattle.std.proofs.Common.{◌≡◌, map, take}
-use Rattle.join_batches.specs.Sides.{left_place}
-use Rattle.join_batches.proofs.placed.left_places.Given as goal
-
-abbrev pub invariant-loop-pair : goal.invariant-loop-pair
-invariant-loop-pair l = l.places.items ≡ map left_place (take l.pair-index l.pairs)

@@ -1,6 +1,0 @@
-use Rattle.std.proofs.Common.{◌+◌, length, take}
-use Rattle.join_batches.specs.Sides.{HoldCells}
-use Rattle.join_batches.proofs.sides.Sides.right_slots.Given as goal
-
-abbrev pub invariant-loop-pair : goal.invariant-loop-pair
-invariant-loop-pair l = HoldCells l.self (length l.self.left_types.now + l.number) (take l.pair-index l.pairs) l.slots.items

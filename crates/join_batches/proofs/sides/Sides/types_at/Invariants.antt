@@ -1,7 +1,0 @@
-use Rattle.std.proofs.Common.{◌≡◌, map, take}
-use Rattle.join_batches.specs.Sides.{type_in}
-use Rattle.join_batches.proofs.sides.Sides.types_at.Given as goal
-
--- the types so far
-abbrev pub invariant-loop-number : goal.invariant-loop-number
-invariant-loop-number l = l.types.items ≡ map (type_in l.self) (take l.number-index l.shown)

@@ -1,5 +1,0 @@
-use Rattle.std.proofs.Common.{length}
-use Rattle.progress.proofs.beginning.header_of.Given as goal
-
-abbrev pub decreases-loop-field : goal.decreases-loop-field
-decreases-loop-field l = length l.fields

@@ -1,5 +1,0 @@
-use Rattle.std.proofs.Common.{length}
-use Rattle.progress.proofs.counting.RowCounter.pass.Given as goal
-
-abbrev pub decreases-loop-left : goal.decreases-loop-left
-decreases-loop-left l = length l.left

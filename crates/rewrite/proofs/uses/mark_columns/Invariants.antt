@@ -1,7 +1,0 @@
-use Rattle.std.proofs.Common.{◌≡◌, drop}
-use Rattle.rewrite.specs.Uses.{with_columns}
-use Rattle.rewrite.proofs.uses.mark_columns.Given as goal
-
--- what is marked, and then what is still to be marked
-abbrev pub invariant-loop-column : goal.invariant-loop-column
-invariant-loop-column l = with_columns (drop l.column-index l.columns) l.uses ≡ with_columns l.columns l.fn.uses

@@ -1,7 +1,0 @@
-use Rattle.std.proofs.Common.{◌≡◌, map, take}
-use Rattle.scan_exec.specs.Different.{item_by}
-use Rattle.scan_exec.proofs.different_keys.DifferentKeys.items.Given as goal
-
--- the items so far
-abbrev pub invariant-loop-item : goal.invariant-loop-item
-invariant-loop-item l = l.made.items ≡ map (item_by l.self.places.items) (take l.item-index l.items)

@@ -1,4 +1,0 @@
-use Rattle.scan_workers.proofs.beside.in_order.Given as goal
-
-abbrev pub ghosts-in_order_of : goal.ghosts-in_order_of
-ghosts-in_order_of g a = record { right = g.W.Work.answers a.work.now }

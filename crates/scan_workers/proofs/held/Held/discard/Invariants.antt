@@ -1,5 +1,0 @@
-use Rattle.std.proofs.Common.{length}
-use Rattle.scan_workers.proofs.held.Held.discard.Given as goal
-
-abbrev pub decreases-loop-slot : goal.decreases-loop-slot
-decreases-loop-slot g l = length l.slots.items

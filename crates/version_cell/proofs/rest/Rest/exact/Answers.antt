@@ -1,5 +1,0 @@
-use Rattle.std.proofs.Common.{refl}
-use Rattle.version_cell.proofs.rest.Rest.exact.Goals as goal
-
-pub returns : goal.returns
-returns c = rw (← c.self.view_is) refl

@@ -1,4 +1,0 @@
-use Rattle.worker_cases.proofs.turns.ManyTurnsReadsMade.read.Given as goal
-
-abbrev pub invariant-loop : goal.invariant-loop
-invariant-loop g l = g.P.Answers.ready l.answers
