@@ -4,6 +4,10 @@ use Rattle.arrow_types.specs.declared.data_type.IntegerType.{IntegerType}
 use Rattle.arrow_types.specs.declared.data_type.IntegerType.TheVariants.{Int8, Int16, Int32, Int64}
 use Rattle.arrow_types.specs.declared.data_type.IntegerType.TheVariants.{UInt8, UInt16, UInt32}
 use Rattle.arrow_types.specs.declared.data_type.IntegerType.TheVariants.{UInt64}
+use Rattle.arrow_types.specs.declared.data_type.NumberType.{NumberType}
+use Rattle.arrow_types.specs.declared.data_type.NumberType.TheVariants as number
+use Rattle.arrow_types.specs.declared.data_type.Cell.{Cell}
+use Rattle.arrow_types.specs.declared.data_type.Cell.TheVariants as cell
 use Rattle.arrow_types.specs.declared.data_type.DataType.{DataType}
 use Rattle.arrow_types.specs.declared.data_type.DataType.TheVariants.{Dictionary}
 use Rattle.arrow_types.specs.declared.data_type.DictionaryEncoding.{DictionaryEncoding}
@@ -26,6 +30,12 @@ bit_width integer = (integer_form integer).1
 -- whether the numbers have a sign
 abbrev pub is_signed : IntegerType → Bool
 is_signed integer = (integer_form integer).0
+
+-- how a number of a type lies in a slot: a date in 32 bits with a sign, a decimal in 16 bytes
+abbrev pub cell_of : NumberType → Cell
+cell_of (number.Integer integer) = cell.Integer integer
+cell_of number.Decimal = cell.Wide
+cell_of number.Date = cell.Integer Int32
 
 -- the dictionary of a type, where it has one
 abbrev pub encoding_of : DataType → Option DictionaryEncoding
