@@ -1,5 +1,6 @@
 -- What the types of columns are.
-use Rattle.std.specs.Prelude.{ℕ, Bool, true, false, Option, Some, None}
+use Rattle.std.specs.Prelude.{ℕ, ◌==◌, ◌&&◌, Bool, true, false, Option, Some, None}
+use Rattle.scan_base.specs.Value.{same_flag}
 use Rattle.arrow_types.specs.declared.data_type.IntegerType.{IntegerType}
 use Rattle.arrow_types.specs.declared.data_type.IntegerType.TheVariants.{Int8, Int16, Int32, Int64}
 use Rattle.arrow_types.specs.declared.data_type.IntegerType.TheVariants.{UInt8, UInt16, UInt32}
@@ -36,6 +37,14 @@ abbrev pub cell_of : NumberType → Cell
 cell_of (number.Integer integer) = cell.Integer integer
 cell_of number.Decimal = cell.Wide
 cell_of number.Date = cell.Integer Int32
+
+-- whether two are one type
+abbrev pub same_number : NumberType → NumberType → Bool
+same_number (number.Integer one) (number.Integer other) =
+    bit_width one == bit_width other && same_flag (is_signed one) (is_signed other)
+same_number number.Decimal number.Decimal = true
+same_number number.Date number.Date = true
+same_number _ _ = false
 
 -- the dictionary of a type, where it has one
 abbrev pub encoding_of : DataType → Option DictionaryEncoding

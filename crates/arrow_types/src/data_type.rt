@@ -2,7 +2,7 @@
 
 ghost use Rattle.std.specs.Prelude.{◌≡◌};
 ghost use Rattle.arrow_types.specs.Answer.{answered_at, copied_type};
-ghost use Rattle.arrow_types.specs.DataType.{bit_width, cell_of, is_signed};
+ghost use Rattle.arrow_types.specs.DataType.{bit_width, cell_of, is_signed, same_number};
 
 /// The whole numbers of fixed width.
 #[derive(Clone, Copy, Debug, PartialEq, Eq)]
@@ -86,6 +86,20 @@ impl NumberType {
             NumberType::Integer(integer) => Cell::Integer(integer),
             NumberType::Decimal => Cell::Wide,
             NumberType::Date => Cell::Integer(IntegerType::Int32),
+        }
+    }
+
+    /// Whether two are one type.
+    pub fn is_same(self, other: NumberType) -> bool
+        ensures { result ≡ same_number self other }
+    {
+        match (self, other) {
+            (NumberType::Integer(one), NumberType::Integer(other)) => {
+                one.bit_width() == other.bit_width() && one.is_signed() == other.is_signed()
+            }
+            (NumberType::Decimal, NumberType::Decimal) => true,
+            (NumberType::Date, NumberType::Date) => true,
+            (_, _) => false,
         }
     }
 }
