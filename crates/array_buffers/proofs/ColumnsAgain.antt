@@ -45,7 +45,8 @@ numbers_again kind (cell.Integer integer) is dictionary (layout.Integers cells) 
     let long = length-elements (byte_width cells.integer) cells.values first len cells.len stands.stands.values stands.within in
     let room : nat_le (byte_width cells.integer * len) (length packed) ≡ true = le-leb (byte_width cells.integer * len) (length packed) (omega (arith, long)) in
     let read : IntegersAt = record { integer = cells.integer; validity = validity_again column; values = packed; len = len } in
-    rw (is, ← of) (
+    let same : cells.integer ≡ integer = of in
+    rw (is, ← same) (
       layout.Integers read,
       rw (read_validity column, room) refl,
       values_again column (layout.Integers read) refl (λ j low. slot_again column (λ at. Int (integer_at cells.integer packed at)) j low

@@ -154,15 +154,15 @@ slot_filled validity f k (Text bytes) valid same = rw valid (same refl)
 pub numbers_filled : (kind : NumberType) (cell : Cell) (kept packed : List ℕ) (values : List Value) (count : ℕ) → cell ≡ cell_of kind → kept ≡ packed → AreBytes kept → length packed ≡ cell_width cell * count → length values ≡ count →
     ((k : ℕ) → k < length values → is_null (get_or values k Null) ≡ false → Int (number_in cell (element_at (cell_width cell) packed k)) ≡ get_or values k Null) →
     FillSlots (kept_numbers cell kept) (type.Number kind) values
-numbers_filled kind (cell.Integer integer) kept packed values count is e bytes long many same = λ validity valid. record {
-  stand = record { validity = valid.long; values = rw many (omega (arith, long, ap length e)); bytes = bytes };
+numbers_filled kind (cell.Integer integer) kept packed values count is e bytes long many same = λ validity valid. let wide : length packed ≡ byte_width integer * count = long in record {
+  stand = record { validity = valid.long; values = rw many (omega (arith, wide, ap length e)); bytes = bytes };
   count = refl;
   slots = λ k low. slot_filled validity (λ at. Int (integer_at integer kept at)) k (get_or values k Null) (valid.each k low)
       (λ some. ap (λ (xs : List ℕ). Int (integer_at integer xs k)) e ∙ same k low some);
   typed = rw (← is) refl;
 }
-numbers_filled kind cell.Wide kept packed values count is e bytes long many same = λ validity valid. record {
-  stand = record { validity = valid.long; values = rw many (omega (arith, long, ap length e)); bytes = bytes };
+numbers_filled kind cell.Wide kept packed values count is e bytes long many same = λ validity valid. let wide : length packed ≡ 16 * count = long in record {
+  stand = record { validity = valid.long; values = rw many (omega (arith, wide, ap length e)); bytes = bytes };
   count = refl;
   slots = λ k low. slot_filled validity (λ at. Int (decimal_at kept at)) k (get_or values k Null) (valid.each k low)
       (λ some. ap (λ (xs : List ℕ). Int (decimal_at xs k)) e ∙ same k low some);

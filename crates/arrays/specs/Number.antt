@@ -45,5 +45,5 @@ cell_width (cell.Integer integer) = byte_width integer
 cell_width cell.Wide = 16
 
 abbrev pub number_in : Cell → ℕ → ℤ
-number_in (cell.Integer integer) bits = number_from integer bits
-number_in cell.Wide bits = signed_from 128 bits
+number_in (cell.Integer integer) = number_from integer
+number_in cell.Wide = signed_from 128

@@ -29,7 +29,7 @@ use Rattle.arrow_schema.specs.Header.{MessageAt, message_of, field_at, fields_of
 use Rattle.arrow_schema.specs.Message.{message_part}
 use Rattle.arrow_schema.specs.WrittenHeader.{dictionary_part, dictionary_given, field_slots, field_part, schema_part, schema_bytes, SchemasReadBack}
 use Rattle.arrow_schema.proofs.Messages.{messages_read, short_message}
-use Rattle.arrow_schema.proofs.TypeTables.{low_flag, flag_again, whole_integer, short_integer, integer_again, values, row, whole_type}
+use Rattle.arrow_schema.proofs.TypeTables.{low_flag, flag_again, whole_integer, short_integer, integer_again, values, row, is_kind, whole_type}
 
 -- ---- types
 
@@ -43,7 +43,7 @@ field_there width bytes default n (Ok (Some at)) ne e = (at, refl)
 pub kind_there : (t : DataType) (table : TableAt) → scalar_of 1 table 2 0 ≡ Ok (type_number t) → (at : ℕ) × (field_of table 2 ≡ Ok (Some at))
 unfolding scalar_of
 kind_there t table number =
-    let some = (row t).some in
+    let some = (is_kind t).0 in
     let ne : type_number t ≢ 0 = λ (same : type_number t ≡ 0). omega arith in
     field_there 1 table.bytes 0 (type_number t) (field_of table 2) ne number
 
@@ -175,7 +175,7 @@ field_again field bytes at is s =
     let text = led_text table 0 field.name is.named.utf8 (omega arith) (reads 0) in
     let name = name_again table field.name is.named text.0 in
     let low = low_flag field.nullable in
-    let small = (row t).low in
+    let small = (is_kind t).1 in
     let nullable : scalar_of 1 table 1 0 ≡ Ok (flag field.nullable) = reads 1 1 0 (omega arith) (omega arith) in
     let number : scalar_of 1 table 2 0 ≡ Ok (type_number t) = reads 2 1 0 (omega arith) (omega arith) in
     let d = encodes table t is.typed (reads 4) in

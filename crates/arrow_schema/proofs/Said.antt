@@ -250,7 +250,13 @@ IsSchemaKind number kind = is_schema kind ≡ true → (number ≡ 1) × (kind �
 
 kind_again : (number : ℕ) (kind : HeaderKind) → header_kind number ≡ Ok kind → IsSchemaKind number kind
 kind_again number kind e =
-    meaning_told IsSchemaKind header_kinds number kind (λ schema. (refl, refl), (λ schema. absurd (let no : ⊥ = cc in no), (λ schema. absurd (let no : ⊥ = cc in no), tt))) e
+    meaning_told IsSchemaKind header_kinds number kind (here, (other, (other, tt))) e
+  where
+    here : IsSchemaKind 1 header.Schema
+    here schema = (refl, refl)
+
+    other : {P : Type 0} → false ≡ true → P
+    other schema = absurd (let no : ⊥ = cc in no)
 
 -- a message whose header is a schema
 record SaysMessage (bytes : List ℕ) (message : MessageAt) : Type 0 where

@@ -161,8 +161,6 @@ values t = t
 
 -- a type's table is short, and reads as the type where it is written and where it says the type
 pub record Row (t : DataType) : Type 0 where
-  pub some : 1 ≤ type_number t
-  pub low : type_number t < 256
   pub whole : AreWhole (type_written t).1
   pub short : length (type_part t).bytes ≤ 50
   pub reading : TableAt → Result DataType Fault
@@ -202,8 +200,6 @@ date_read table is says = rw (reads_scalar 2 table 0 1 0 is says.unit) refl
 pub row : (t : DataType) → Row t
 unfolding type_part integer_part
 row (Number (Integer integer)) = record {
-  some = omega arith;
-  low = omega arith;
   whole = tt;
   short = (let s = short_integer integer in omega arith);
   reading = λ table. integer_of table >>= λ integer. Ok (Number (Integer integer));
@@ -211,56 +207,18 @@ row (Number (Integer integer)) = record {
   again = λ bytes at s. rw (integer_again integer bytes at s) refl;
   read = λ table is says. rw (integer_read table integer is says) refl;
 }
-row (Number Decimal) = record {
-  some = omega arith;
-  low = omega arith;
-  whole = tt;
-  short = (let s = short_table (type_written (Number Decimal)).1 in omega arith);
-  reading = decimal_of;
-  known = refl;
-  again = decimal_again;
-  read = decimal_read;
-}
-row (Number Date) = record {
-  some = omega arith;
-  low = omega arith;
-  whole = tt;
-  short = (let s = short_table (type_written (Number Date)).1 in omega arith);
-  reading = date_of;
-  known = refl;
-  again = date_again;
-  read = date_read;
-}
-row Utf8 = record {
-  some = omega arith;
-  low = omega arith;
-  whole = tt;
-  short = (let s = short_table [] in omega arith);
-  reading = λ table. Ok Utf8;
-  known = refl;
-  again = λ bytes at s. refl;
-  read = λ table is says. refl;
-}
-row Flags = record {
-  some = omega arith;
-  low = omega arith;
-  whole = tt;
-  short = (let s = short_table [] in omega arith);
-  reading = λ table. Ok Flags;
-  known = refl;
-  again = λ bytes at s. refl;
-  read = λ table is says. refl;
-}
-row (Dictionary encoding) = record {
-  some = omega arith;
-  low = omega arith;
-  whole = tt;
-  short = (let s = short_table [] in omega arith);
-  reading = λ table. Ok Utf8;
-  known = refl;
-  again = λ bytes at s. refl;
-  read = λ table is says. absurd says;
-}
+row (Number Decimal) = record { whole = tt; short = (let s = short_table (type_written (Number Decimal)).1 in omega arith); reading = decimal_of; known = refl; again = decimal_again; read = decimal_read }
+row (Number Date) = record { whole = tt; short = (let s = short_table (type_written (Number Date)).1 in omega arith); reading = date_of; known = refl; again = date_again; read = date_read }
+row Utf8 = record { whole = tt; short = (let s = short_table [] in omega arith); reading = λ table. Ok Utf8; known = refl; again = λ bytes at s. refl; read = λ table is says. refl }
+row Flags = record { whole = tt; short = (let s = short_table [] in omega arith); reading = λ table. Ok Flags; known = refl; again = λ bytes at s. refl; read = λ table is says. refl }
+row (Dictionary encoding) = record { whole = tt; short = (let s = short_table [] in omega arith); reading = λ table. Ok Utf8; known = refl; again = λ bytes at s. refl; read = λ table is says. absurd says }
+
+-- the number of a kind is one of a byte that is not 0
+abbrev IsKind : ℕ → (TableAt → Result DataType Fault) → Type 0
+IsKind kind reading = (1 ≤ kind) × (kind < 256)
+
+pub is_kind : (t : DataType) → (1 ≤ type_number t) × (type_number t < 256)
+is_kind t = meaning_told IsKind type_readings (type_number t) (row t).reading ((omega arith, omega arith), ((omega arith, omega arith), ((omega arith, omega arith), ((omega arith, omega arith), ((omega arith, omega arith), tt))))) (row t).known
 
 pub whole_type : (t : DataType) → IsWhole (type_part t)
 unfolding type_part

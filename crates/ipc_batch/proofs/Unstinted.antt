@@ -9,6 +9,7 @@ use Rattle.scan_base.specs.Reading.{◌>>=◌, demand, wanted}
 use Rattle.scan_base.specs.Lists.{repeats}
 use Rattle.flatbuf.specs.Layout.{TableAt, VectorAt}
 use Rattle.flatbuf.specs.Place.{number_at, target_of, vtable_of, field_of, scalar_at, scalar_of, led_from, through, table_of, vector_of, element_of, items_at, text_of}
+use Rattle.arrow_types.specs.declared.data_type.NumberType.TheVariants.{Integer}
 use Rattle.arrow_types.specs.declared.data_type.DataType.{DataType}
 use Rattle.arrow_types.specs.declared.data_type.DataType.TheVariants.{Number, Utf8, Bool as Flags, Dictionary}
 use Rattle.arrow_types.specs.Schema.{same_dictionary}
@@ -165,11 +166,13 @@ value_type table =
     only_then IsOther (field_of table 2) _ (field table 2)
     (λ place. only_then IsOther (wanted place BadFlatbuffer) _ (only_wanted IsOther place BadFlatbuffer outside)
     (λ _. only_then IsOther (scalar_of 1 table 2 0) _ (scalar 1 table 2 0)
-    (λ number. meant type_readings number (λ (reading : TableAt → Result DataType Fault). table_wanted table 3 >>= reading)
-    (read (λ found. only_then IsOther (integer_of found) _ (integer found) (λ integer. tt)), (read (λ found. tt), (read (λ found. tt), (read decimal, (read date, tt))))))))
+    (λ number. meant type_readings number (λ (reading : TableAt → Result DataType Fault). table_wanted table 3 >>= reading) (
+      read (λ found. integer_of found >>= λ integer. Ok (Number (Integer integer))) (λ found. only_then IsOther (integer_of found) _ (integer found) (λ integer. tt)),
+      (read (λ found. Ok Utf8) (λ found. tt), (read (λ found. Ok Flags) (λ found. tt), (read decimal_of decimal, (read date_of date, tt)))),
+    ))))
   where
-    read : {reading : TableAt → Result DataType Fault} → ((found : TableAt) → Only IsOther (reading found)) → Only IsOther (table_wanted table 3 >>= reading)
-    read {reading} each = only_then IsOther (table_wanted table 3) reading (table_has table 3) each
+    read : (reading : TableAt → Result DataType Fault) → ((found : TableAt) → Only IsOther (reading found)) → Only IsOther (table_wanted table 3 >>= reading)
+    read reading each = only_then IsOther (table_wanted table 3) reading (table_has table 3) each
 
 children : (field : TableAt) → Only IsOther (childless field)
 unfolding childless

@@ -11,5 +11,5 @@ returns g c =
     let values = map g.S.Source.held slots in
     let made = c.in_ok-pack_numbers.field-0.items in
     rw c.kept_numbers.ensures
-    (numbers_fill c.args.number c.cell.result c.in_ok-packed.packed made values (length slots) c.cell.ensures c.in_ok-packed.ensures.ok (subst AreBytes c.as_slice.ensures c.are_bytes.ensures) (length-map slots g.S.Source.held)
+    (numbers_fill c.args.number c.cell-cell.result c.in_ok-packed.packed made values (length slots) c.cell-cell.ensures c.in_ok-packed.ensures.ok (subst AreBytes c.as_slice.ensures c.are_bytes.ensures) (length-map slots g.S.Source.held)
     (subst (λ (width : ℕ). AreNumbersOf width made values (length slots)) c.cell_width.ensures.width c.in_ok-pack_numbers.ensures) c.requires.typed)

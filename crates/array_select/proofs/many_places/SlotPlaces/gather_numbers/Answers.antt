@@ -11,13 +11,13 @@ use Rattle.array_select.proofs.many_places.SlotPlaces.gather_numbers.Goals as go
 
 pub packed_numbers-requires : goal.packed_numbers-requires
 packed_numbers-requires c =
-    subst (λ (cell : Cell). All (λ column. LieIn cell column.layout) (columns_of c.args.self.now)) (sym c.cell.ensures) c.requires.typed
+    subst (λ (cell : Cell). All (λ column. LieIn cell column.layout) (columns_of c.args.self.now)) (sym c.cell-cell.ensures) c.requires.typed
 
 pub gather_width-requires-clause-room : goal.gather_width-requires-clause-room
 gather_width-requires-clause-room c =
     let slots = c.args.self.now in
     rw c.as_slice.ensures.value
-    (room_there (number_in c.cell.result) (cell_width c.cell.result) (map (λ one. one.now) c.in_ok-sources.sources.items) (columns_of slots) slots.places.now _ (length-map slots.columns.now (λ one. one.now))
+    (room_there (number_in c.cell-cell.result) (cell_width c.cell-cell.result) (map (λ one. one.now) c.in_ok-sources.sources.items) (columns_of slots) slots.places.now _ (length-map slots.columns.now (λ one. one.now))
     c.in_ok-sources.ensures c.requires.there)
 
 pub gather_width-requires-clause-valid : goal.gather_width-requires-clause-valid
@@ -26,10 +26,10 @@ gather_width-requires-clause-valid c = valid_long (columns_of c.args.self.now) c
 pub returns : goal.returns
 returns c =
     let slots = c.args.self.now in
-    let cell = c.cell.result in
+    let cell = c.cell-cell.result in
     let made = c.in_ok-made.made.items in
     rw c.kept_numbers.ensures
-    (numbers_filled c.args.number cell c.in_ok-packed.packed made (map (value_in (columns_of slots)) slots.places.now) (length slots.places.now) c.cell.ensures c.in_ok-packed.ensures.ok
+    (numbers_filled c.args.number cell c.in_ok-packed.packed made (map (value_in (columns_of slots)) slots.places.now) (length slots.places.now) c.cell-cell.ensures c.in_ok-packed.ensures.ok
     (subst AreBytes c.as_slice-2.ensures c.are_bytes.ensures) c.in_ok-made.ensures.long (length-map slots.places.now (value_in (columns_of slots)))
     (number_at (number_in cell) (cell_width cell) made (map (λ one. one.now) c.in_ok-sources.sources.items) (columns_of slots) slots.places.now c.args.validity.now _
     (length-map slots.columns.now (λ one. one.now)) c.in_ok-sources.ensures c.requires.there c.requires.valid (rw c.as_slice.ensures.value at c.in_ok-made.ensures)))
