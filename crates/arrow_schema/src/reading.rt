@@ -14,7 +14,7 @@ ghost use Rattle.arrow_schema.specs.Header.{is_schema, schema_message_of, schema
 ghost use Rattle.arrow_schema.specs.MessageView.{message_seen};
 
 use crate::borrowed_fields::{BorrowedField, owned};
-use crate::header::{HeaderKind, Message, read_message, table_wanted};
+use crate::header::{HeaderKind, Message, read_message};
 use crate::type_tables::{integer, type_from};
 use arrayvec::ArrayVec;
 use arrow_types::{DataType, DictionaryEncoding, IntegerType, MAX_COLUMNS, MAX_NAME_BYTES, Schema};
@@ -55,7 +55,7 @@ fn value_type(field: &Table<'_>) -> Result<DataType, Fault>
         return Err(Fault::BadFlatbuffer);
     }
     let kind = field.scalar(2, Width::One, 0)?;
-    type_from(kind, table_wanted(field, 3))
+    type_from(kind, field)
 }
 
 #[tactic(auto, unfolding(crate::specs::Fields::childless))]

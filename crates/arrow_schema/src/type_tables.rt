@@ -4,9 +4,11 @@
 ghost use Rattle.std.specs.Prelude.{◌≡◌, IfOk};
 ghost use Rattle.scan_base.specs.Reading.{Gives};
 ghost use Rattle.arrow_types.specs.Schema.{IsType};
+ghost use Rattle.arrow_schema.specs.Fields.{table_wanted};
 ghost use Rattle.arrow_schema.specs.TypeTables.{integer_type, integer_of, decimal_of, date_of};
 ghost use Rattle.arrow_schema.specs.TypeTables.{type_of, integer_part, type_number, type_part};
 
+use crate::header::table_wanted;
 use arrow_types::{DataType, IntegerType, NumberType};
 use flatbuf::{Block, Builder, Slot, Table, Width};
 use scan_base::Fault;
@@ -63,15 +65,24 @@ fn date(table: &Table<'_>) -> Result<DataType, Fault>
     Ok(DataType::Number(NumberType::Date))
 }
 
-/// The type that a kind names, with its table, which is looked for where the kind is one of these.
-pub(crate) fn type_from(kind: u64, table: Result<Table<'_>, Fault>) -> Result<DataType, Fault>
-    ensures value { Gives (λ data_type. data_type) result (type_of kind table) }
+/// The type of a field's values, by the number of its kind. It refuses an unknown kind before an
+/// absent table.
+pub(crate) fn type_from(kind: u64, field: &Table<'_>) -> Result<DataType, Fault>
+    ensures value { Gives (λ data_type. data_type) result
+        (type_of kind (table_wanted field.now 3)) }
     ensures valid { IfOk result IsType }
 {
+    let table = table_wanted(field, 3);
     match kind {
         2 => Ok(DataType::Number(NumberType::Integer(integer(&table?)?))),
-        5 => table.map(|_| DataType::Utf8),
-        6 => table.map(|_| DataType::Bool),
+        5 => {
+            table?;
+            Ok(DataType::Utf8)
+        }
+        6 => {
+            table?;
+            Ok(DataType::Bool)
+        }
         7 => decimal(&table?),
         8 => date(&table?),
         _ => Err(Fault::UnsupportedArrow),
