@@ -13,8 +13,8 @@ use itoa::Buffer;
 /// Room for the text of a number. It takes no memory.
 pub struct NumberText {
     decimal: Buffer,
-    form: ArrayString<10>,
-    literal: ArrayString<56>,
+    form: Option<ArrayString<10>>,
+    literal: Option<ArrayString<56>>,
 }
 
 impl NumberText {
@@ -22,8 +22,8 @@ impl NumberText {
     pub fn new() -> NumberText {
         NumberText {
             decimal: Buffer::new(),
-            form: ArrayString::new(),
-            literal: ArrayString::new(),
+            form: None,
+            literal: None,
         }
     }
 
@@ -33,10 +33,7 @@ impl NumberText {
         ensures { result.now ≡ shown kind number }
     {
         match form_of(kind, number) {
-            Some(form) => {
-                self.form = form;
-                self.form.as_str()
-            }
+            Some(form) => self.form.insert(form).as_str(),
             None => self.decimal.format(number),
         }
     }
@@ -47,10 +44,7 @@ impl NumberText {
         ensures { result.now ≡ literal kind number }
     {
         match keyword(kind) {
-            Some(word) => {
-                self.literal = worded(word, kind, number);
-                self.literal.as_str()
-            }
+            Some(word) => self.literal.insert(worded(word, kind, number)).as_str(),
             None => self.shown(kind, number),
         }
     }

@@ -12,8 +12,9 @@ loop-place-preserved c fields was =
     let kind = get_or types_tried place Decimal in
     let low : place < length types_tried = omega (arith, c.loop-place-test.true) in
     let so_far = c.loop-place.invariant fields was in
-    one_tried (taken fields) (taken (fields ++ field ∷ [])) types_tried place kind c.loop-place.numbers _ low refl so_far
-    (takes_more (Number kind) fields field _ _ c.still_takes.ensures (tried_at (taken fields) (taken (fields ++ field ∷ [])) types_tried place kind c.loop-place.numbers low refl so_far))
+    let here = tried_at (taken fields) (taken (fields ++ field ∷ [])) types_tried place kind c.loop-place.numbers low refl _ so_far in
+    one_tried (taken fields) (taken (fields ++ field ∷ [])) types_tried place kind c.loop-place.numbers low refl _ so_far
+    (takes_more (Number kind) fields field _ _ c.still_takes.ensures here)
 
 pub returns : goal.returns
 returns c fields was = c.loop-place.invariant fields was
