@@ -8,7 +8,7 @@ use Rattle.std.proofs.lemmas.List.Sums.{AllPass-from_list_all}
 use Rattle.arrow_types.specs.declared.schema.Field.{Field}
 use Rattle.csv_columns.specs.SpelledColumns.{mark_of, spelled, word_of}
 use Rattle.csv_columns.specs.inside.Marks.{IsUnmarked}
-use Rattle.number_words.proofs.Words.{is_plain}
+use Rattle.number_words.proofs.TypeWords.{is_plain}
 use Rattle.csv_columns.proofs.Words.{no_colon, no_mark, word_plain}
 
 -- what stands before the mark of a column

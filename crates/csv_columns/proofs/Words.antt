@@ -6,7 +6,7 @@ use Rattle.arrow_types.specs.declared.data_type.DataType.{DataType}
 use Rattle.arrow_types.specs.declared.data_type.DataType.TheVariants.{Number, Utf8, Bool, Dictionary}
 use Rattle.arrow_types.specs.declared.data_type.NumberType.{NumberType}
 use Rattle.number_words.specs.NumberTexts.{word}
-use Rattle.number_words.proofs.Words.{is_plain, plain_word}
+use Rattle.number_words.proofs.TypeWords.{is_plain, plain_word}
 use Rattle.csv_columns.specs.SpelledColumns.{word_of}
 
 -- each byte of a word is a letter or a digit

@@ -4,5 +4,5 @@ pub mod Numbers
 pub mod Texts
 pub mod Printed
 pub mod Signs
-pub mod Words
+pub mod TypeWords
 pub mod Back

@@ -1,5 +1,5 @@
 use Rattle.std.proofs.Common.{arith}
-use Rattle.number_words.proofs.Words.{none_named}
+use Rattle.number_words.proofs.TypeWords.{none_named}
 use Rattle.number_words.proofs.words.type_named.Goals as goal
 
 pub returns : goal.returns
