@@ -8,7 +8,7 @@ use Rattle.arrow_types.specs.declared.data_type.DataType.{DataType}
 use Rattle.arrow_types.specs.declared.data_type.DataType.TheVariants.{Number, Utf8, Bool as Truth}
 use Rattle.arrow_types.specs.declared.data_type.DataType.TheVariants.{Dictionary}
 use Rattle.arrow_types.specs.declared.schema.Field.{Field}
-use Rattle.number_words.specs.NumberTexts.{read}
+use Rattle.number_words.specs.NumberTexts.{number_read}
 
 -- a truth value
 abbrev pub flag_in : List ℕ → Option Bool
@@ -18,7 +18,7 @@ flag_in text =
 
 -- what a text says as a value of a type
 abbrev pub said_as : DataType → List ℕ → Option Value
-said_as (Number kind) text = option_map Int (read kind text)
+said_as (Number kind) text = option_map Int (number_read kind text)
 said_as Truth text = option_map Flag (flag_in text)
 said_as Utf8 text = Some (Text text)
 said_as (Dictionary encoding) text = Some (Text text)

@@ -16,7 +16,7 @@ use Rattle.arrow_types.specs.declared.data_type.NumberType.TheVariants.{Integer,
 use Rattle.arrow_types.specs.DataType.{cell_of}
 use Rattle.sql_text.specs.Values.{number_of}
 use Rattle.number_words.specs.DateText.{DayReadsBack}
-use Rattle.number_words.specs.WholeNumbers.{holds, kept_in, number_in}
+use Rattle.number_words.specs.WholeNumbers.{holds, kept_in, decimal_in}
 use Rattle.number_words.specs.NumberTexts.{ReadsBack}
 use Rattle.number_words.proofs.Parts.{both}
 
@@ -41,7 +41,7 @@ no_sign n low =
     let numeral = decimal_is_IsNumeral_wide n (omega arith) in
     ne_eqb _ 45 (not_in_digits own (decimal n) 45 (own.from (decimal n) numeral.0.1) (λ inside. omega (arith, inside)) 0 numeral.0.0)
 
-number_back : (number : ℤ) → nat_lt (unsigned_abs number) (10 ^ 38) ≡ true → number_in (signed_decimal number) ≡ Some number
+number_back : (number : ℤ) → nat_lt (unsigned_abs number) (10 ^ 38) ≡ true → decimal_in (signed_decimal number) ≡ Some number
 number_back (pos n) low = rw (no_sign n low) (digits_back n low)
 number_back (negsuc n) low = ap (option_map neg_ℤ) (digits_back (suc n) low)
 

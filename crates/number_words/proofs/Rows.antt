@@ -10,7 +10,7 @@ use Rattle.arrow_types.specs.declared.data_type.NumberType.TheVariants.{Integer,
 use Rattle.sql_text.specs.Values.{number_of}
 use Rattle.number_words.specs.DateText.{date_of}
 use Rattle.number_words.specs.WholeNumbers.{kept_in}
-use Rattle.number_words.specs.NumberTexts.{form_of, literal, read, shown, worded}
+use Rattle.number_words.specs.NumberTexts.{form_of, literal, number_read, shown, worded}
 use Rattle.number_words.proofs.Texts.{texts_are_dates}
 
 -- ---- texts that are a date
@@ -107,27 +107,27 @@ number_literal = refl
 
 -- ---- what is read
 
-day_read : read Date (codes "1994-01-01") ≡ Some (pos 8766)
+day_read : number_read Date (codes "1994-01-01") ≡ Some (pos 8766)
 day_read = ap (kept_in (cell.Integer Int32)) row
 
 -- the least number of a type, the one before it, and a plus
-least : read (Integer Int8) (codes "-128") ≡ Some (negsuc 127)
+least : number_read (Integer Int8) (codes "-128") ≡ Some (negsuc 127)
 unfolding number_of
 least = refl
 
-too_small : read (Integer Int8) (codes "-129") ≡ None
+too_small : number_read (Integer Int8) (codes "-129") ≡ None
 unfolding number_of
 too_small = refl
 
-plus : read (Integer Int8) (codes "+1") ≡ None
+plus : number_read (Integer Int8) (codes "+1") ≡ None
 unfolding number_of
 plus = refl
 
 -- zeros in front, and a number of 39 digits
-zeros : read Decimal (codes "-007") ≡ Some (negsuc 6)
+zeros : number_read Decimal (codes "-007") ≡ Some (negsuc 6)
 unfolding number_of
 zeros = refl
 
-too_long : read Decimal (codes "100000000000000000000000000000000000000") ≡ None
+too_long : number_read Decimal (codes "100000000000000000000000000000000000000") ≡ None
 unfolding number_of
 too_long = refl

@@ -10,7 +10,7 @@ use Rattle.arrow_types.specs.declared.data_type.NumberType.TheVariants.{Integer,
 use Rattle.arrow_types.specs.DataType.{cell_of}
 use Rattle.number_words.specs.Dates.{day_in}
 use Rattle.number_words.specs.DateText.{date_within, has_date}
-use Rattle.number_words.specs.WholeNumbers.{holds, kept_in, number_in}
+use Rattle.number_words.specs.WholeNumbers.{holds, kept_in, decimal_in}
 
 -- ---- words
 
@@ -63,11 +63,11 @@ literal kind number =
 -- the number that a text says: a day, or a whole number
 abbrev pub number_said : NumberType → List ℕ → Option ℤ
 number_said Date text = day_in text
-number_said _ text = number_in text
+number_said _ text = decimal_in text
 
 -- the number that a text says, if a cell of the type holds it
-abbrev pub read : NumberType → List ℕ → Option ℤ
-read kind text = kept_in (cell_of kind) (number_said kind text)
+abbrev pub number_read : NumberType → List ℕ → Option ℤ
+number_read kind text = kept_in (cell_of kind) (number_said kind text)
 
 -- ---- laws
 
@@ -79,4 +79,4 @@ is_sayable _ number = nat_lt (unsigned_abs number) (10 ^ 38)
 -- what is printed of a number that fits its type reads as that number
 abbrev pub ReadsBack : NumberType → ℤ → Type 0
 ReadsBack kind number = IsTrue (holds (cell_of kind) number && is_sayable kind number) →
-    read kind (shown kind number) ≡ Some number
+    number_read kind (shown kind number) ≡ Some number

@@ -12,8 +12,8 @@ use Rattle.sql_text.specs.Values.{number_of}
 use Rattle.number_words.specs.Dates.{is_from_to}
 
 -- a whole number below 10^38: digits, and a minus may stand in front of them
-abbrev pub number_in : List ℕ → Option ℤ
-number_in text = if slice_index text 0 == byte "-" then option_map neg_ℤ (number_of (drop 1 text))
+abbrev pub decimal_in : List ℕ → Option ℤ
+decimal_in text = if slice_index text 0 == byte "-" then option_map neg_ℤ (number_of (drop 1 text))
     else number_of text
 
 -- the least and the greatest number that a cell holds

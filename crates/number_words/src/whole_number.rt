@@ -1,7 +1,7 @@
 //! Whole numbers in decimal, and which of them a cell holds.
 
 ghost use Rattle.std.specs.Prelude.{◌≡◌, ◌≤ℤ◌, IfSome, IsTrue, neg_ℤ, option_map, pos};
-ghost use Rattle.number_words.specs.WholeNumbers.{greatest_in, holds, kept_in, least_in, number_in};
+ghost use Rattle.number_words.specs.WholeNumbers.{greatest_in, holds, kept_in, least_in, decimal_in};
 ghost use Rattle.sql_text.specs.Values.{number_of};
 
 use arrow_types::{Cell, IntegerType};
@@ -32,8 +32,8 @@ fn negated(size: Option<i128>) -> Option<i128>
 }
 
 /// A whole number below 10^38: digits, and a minus may stand in front of them.
-pub(crate) fn number_in(text: &str) -> Option<i128>
-    ensures { result ≡ number_in text.now }
+pub(crate) fn decimal_in(text: &str) -> Option<i128>
+    ensures { result ≡ decimal_in text.now }
 {
     match text.strip_prefix('-') {
         Some(digits) => negated(digits_in(digits)),

@@ -3,7 +3,7 @@ use Rattle.std.specs.Prelude.{option_map}
 use Rattle.std.proofs.lemmas.Str.Pattern.{strip_prefix_char}
 use Rattle.sql_text.specs.Values.{number_of}
 use Rattle.number_words.proofs.Signs.{no_minus}
-use Rattle.number_words.proofs.whole_number.number_in.Goals as goal
+use Rattle.number_words.proofs.whole_number.decimal_in.Goals as goal
 
 pub returns-in-None : goal.returns-in-None
 returns-in-None c =
