@@ -1,7 +1,8 @@
 //! Whole numbers in decimal, and which of them a cell holds.
 
 ghost use Rattle.std.specs.Prelude.{◌≡◌, ◌≤ℤ◌, IfSome, IsTrue, neg_ℤ, option_map, pos};
-ghost use Rattle.number_words.specs.WholeNumbers.{greatest_in, holds, kept_in, least_in, decimal_in};
+ghost use Rattle.number_words.specs.WholeNumbers.{decimal_in, greatest_in, holds, kept_in};
+ghost use Rattle.number_words.specs.WholeNumbers.{least_in};
 ghost use Rattle.sql_text.specs.Values.{number_of};
 
 use arrow_types::{Cell, IntegerType};
