@@ -11,6 +11,7 @@ use arrow_types::NumberType;
 use itoa::Buffer;
 
 /// Room for the text of a number. It takes no memory.
+#[derive(Clone, Copy)]
 pub struct NumberText {
     decimal: Buffer,
     form: Option<ArrayString<10>>,

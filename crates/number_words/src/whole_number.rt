@@ -51,7 +51,10 @@ fn least_in(cell: Cell) -> i128
         Cell::Integer(IntegerType::Int16) => -32_768,
         Cell::Integer(IntegerType::Int32) => -2_147_483_648,
         Cell::Integer(IntegerType::Int64) => -9_223_372_036_854_775_808,
-        Cell::Integer(_) => 0,
+        Cell::Integer(IntegerType::UInt8) => 0,
+        Cell::Integer(IntegerType::UInt16) => 0,
+        Cell::Integer(IntegerType::UInt32) => 0,
+        Cell::Integer(IntegerType::UInt64) => 0,
         Cell::Wide => i128::MIN,
     }
 }
