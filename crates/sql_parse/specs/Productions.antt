@@ -10,7 +10,7 @@ use Rattle.sql_text.specs.declared.word.Keyword.TheVariants as word
 use Rattle.sql_text.specs.declared.symbol.Symbol.TheVariants as symbol
 use Rattle.grammar.specs.Rule.{one, empty, both, either, make}
 use Rattle.sql_query.specs.declared.query.ColumnName.{ColumnName}
-use Rattle.calendar.specs.Dates.{day_in}
+use Rattle.number_words.specs.Dates.{day_in}
 use Rattle.sql_text.specs.Words.{is_name}
 use Rattle.sql_parse.specs.Tokens.{is_string, is_digits}
 use Rattle.sql_parse.specs.Tokens.{name_token, string_token, digits_token, date_token}

@@ -13,7 +13,7 @@ use Rattle.sql_text.specs.declared.token.TokenKind.{TokenKind}
 use Rattle.grammar.specs.Reading.{begins, token}
 use Rattle.sql_query.specs.declared.query.ColumnName.{ColumnName}
 use Rattle.sql_parse.specs.declared.refusal.Refusal.TheVariants as refusal
-use Rattle.calendar.specs.Dates.{day_in}
+use Rattle.number_words.specs.Dates.{day_in}
 use Rattle.sql_text.specs.Words.{is_name}
 use Rattle.sql_parse.specs.Tokens.{Mark, is_word, is_symbol, is_string, is_digits, value_of}
 use Rattle.sql_parse.specs.Tokens.{number_in}

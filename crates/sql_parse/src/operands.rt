@@ -7,7 +7,7 @@ ghost use Rattle.sql_parse.specs.Steps as steps;
 
 use crate::refusal::Refusal;
 use crate::tokens::{Class, Rest};
-use calendar::day_in;
+use number_words::day_in;
 use scan_base::{Comparison, Operand, Text, Value};
 use sql_query::ColumnName;
 use sql_text::{Keyword, Symbol};

@@ -1,6 +1,5 @@
-use Rattle.std.proofs.Common.{arith}
 use Rattle.csv_columns.proofs.Words.{none_named}
 use Rattle.csv_columns.proofs.word.type_named.Goals as goal
 
-pub returns-clause-word : goal.returns-clause-word
-returns-clause-word c = none_named c.args.word.now (λ k d low. c.loop-data_type.invariant k d (omega (arith, low, c.loop-data_type-test.false)))
+pub returns-in-None-clause-word : goal.returns-in-None-clause-word
+returns-in-None-clause-word c = none_named c.args.word.now (λ e. _) (λ e. _) c.in-None.ensures

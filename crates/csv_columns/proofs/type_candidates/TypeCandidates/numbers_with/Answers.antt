@@ -1,0 +1,20 @@
+use Rattle.std.proofs.Common.{◌<◌, ◌+◌, ◌∷◌, [], ◌++◌, length, get_or, map, refl, sym, ap, ◌∙◌, append-nil, arith}
+use Rattle.arrow_types.specs.declared.data_type.DataType.TheVariants.{Number}
+use Rattle.arrow_types.specs.declared.data_type.NumberType.TheVariants.{Decimal}
+use Rattle.number_words.specs.NumberTexts.{types_tried}
+use Rattle.csv_columns.proofs.Tried.{one_tried, taken, takes_more, tried_at}
+use Rattle.csv_columns.proofs.type_candidates.TypeCandidates.numbers_with.Goals as goal
+
+pub loop-place-preserved : goal.loop-place-preserved
+loop-place-preserved c fields was =
+    let field = c.args.field.now in
+    let place = c.loop-place.place in
+    let kind = get_or types_tried place Decimal in
+    let low : place < length types_tried = omega (arith, c.loop-place-test.true) in
+    let so_far = c.loop-place.invariant fields was in
+    let here = tried_at (taken fields) (taken (fields ++ field ∷ [])) types_tried place kind c.loop-place.numbers low refl _ so_far in
+    one_tried (taken fields) (taken (fields ++ field ∷ [])) types_tried place kind c.loop-place.numbers low refl _ so_far
+    (takes_more (Number kind) fields field _ _ c.still_takes.ensures here)
+
+pub returns : goal.returns
+returns c fields was = c.loop-place.invariant fields was
