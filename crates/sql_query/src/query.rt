@@ -22,6 +22,33 @@ impl Drop for ColumnName {
     }
 }
 
+/// A side of a comparison as it is written: the name of a column, or a literal. Binding says which
+/// value a literal is.
+pub enum Term {
+    Name(ColumnName),
+    /// What stands between single quotes.
+    Text(Text),
+    /// `TRUE` or `FALSE`
+    Truth(bool),
+    /// What a sign and digits say.
+    Number(i128),
+    /// The day number of the date after `DATE`, where 1970-01-01 is 0.
+    Date(i32),
+}
+
+// Written out, so that dropping it is one call (docs/DECISIONS.md).
+impl Drop for Term {
+    fn drop(self) {
+        match self {
+            Term::Name(_) => {}
+            Term::Text(_) => {}
+            Term::Truth(_) => {}
+            Term::Number(_) => {}
+            Term::Date(_) => {}
+        }
+    }
+}
+
 /// What an item of the list gives: a column, or an aggregate of the rows of a group.
 pub enum Expression {
     Column(ColumnName),
@@ -121,7 +148,7 @@ pub struct Query {
     pub select: Select,
     pub first: Place,
     pub joins: Items<Join>,
-    pub filter: Option<Predicate<ColumnName>>,
+    pub filter: Option<Predicate<Term>>,
     pub group_by: Items<ColumnName>,
 }
 
