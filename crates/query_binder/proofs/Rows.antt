@@ -21,6 +21,8 @@ use Rattle.scan_base.specs.declared.value.Value.{Value}
 use Rattle.scan_base.specs.declared.value.Value.TheVariants.{Null, Bool, Int, Text}
 use Rattle.scan_base.specs.Predicate.{Pred, conjunction, negation, truth_test, comparing, membership}
 use Rattle.sql_query.specs.declared.query.ColumnName.{ColumnName}
+use Rattle.sql_query.specs.declared.query.Literal.{Literal}
+use Rattle.sql_query.specs.declared.query.Literal.TheVariants as literal
 use Rattle.sql_query.specs.declared.query.Term.{Term}
 use Rattle.sql_query.specs.declared.query.Term.TheVariants as term
 use Rattle.sql_query.specs.declared.query.Expression.{Expression}
@@ -54,11 +56,14 @@ a = named (codes "a")
 abbrev column : ColumnName → Operand Term
 column name = operand.Column (term.Name name)
 
+abbrev literally : Literal → Operand Term
+literally written = operand.Column (term.Literal written)
+
 abbrev whole : ℕ → Operand Term
-whole number = operand.Column (term.Number (pos number))
+whole number = literally (literal.Number (pos number))
 
 abbrev string : Name → Operand Term
-string bytes = operand.Column (term.Text bytes)
+string bytes = literally (literal.Text bytes)
 
 abbrev integer : IntegerType → DataType
 integer kind = Number (number.Integer kind)
@@ -329,7 +334,7 @@ sum_of_dates = refl
 
 -- a < DATE '1994-01-01', which is the day 8766
 abbrev before_1994 : Pred Term
-before_1994 = comparing Less (column a) (operand.Column (term.Date (pos 8766)))
+before_1994 = comparing Less (column a) (literally (literal.Date (pos 8766)))
 
 some_dates : whole_meaning (all_where before_1994) (t_of (Number number.Date) (int 8000 ∷ Null ∷ int 8766 ∷ [])) ≡ (int 8000 ∷ []) ∷ []
 some_dates = refl
@@ -341,10 +346,10 @@ date_of_numbers : fault_of (all_where before_1994) (t_of (integer Int32) []) ≡
 date_of_numbers = refl
 
 -- a date next to a date, and next to a number
-between_dates : fault_of (all_where (comparing Less (operand.Column (term.Date (pos 0))) (operand.Column (term.Date (pos 1))))) three ≡ None
+between_dates : fault_of (all_where (comparing Less (literally (literal.Date (pos 0))) (literally (literal.Date (pos 1))))) three ≡ None
 between_dates = refl
 
-date_of_number : fault_of (all_where (comparing Less (operand.Column (term.Date (pos 0))) (whole 1))) three ≡ Some TypeClash
+date_of_number : fault_of (all_where (comparing Less (literally (literal.Date (pos 0))) (whole 1))) three ≡ Some TypeClash
 date_of_number = refl
 
 text_of_dates : fault_of (all_where (comparing Equal (column a) (string (codes "1994-01-01")))) (t_of (Number number.Date) []) ≡ Some TypeClash

@@ -13,6 +13,8 @@ use Rattle.scan_base.specs.declared.fault.Fault.{Fault}
 use Rattle.scan_base.specs.declared.value.Value.{Value}
 use Rattle.scan_base.specs.declared.value.Value.TheVariants as value
 use Rattle.sql_query.specs.declared.query.ColumnName.{ColumnName}
+use Rattle.sql_query.specs.declared.query.Literal.{Literal}
+use Rattle.sql_query.specs.declared.query.Literal.TheVariants as literal
 use Rattle.sql_query.specs.declared.query.Term.{Term}
 use Rattle.sql_query.specs.declared.query.Term.TheVariants as term
 use Rattle.sql_query.specs.declared.query.Place.{Place}
@@ -20,8 +22,7 @@ use Rattle.sql_query.specs.Sentence.{place_name}
 use Rattle.table_versions.specs.Table.{Table}
 use Rattle.table_versions.specs.Database.{Database, table_at}
 use Rattle.typed_plan.specs.declared.class.Class.{Class}
-use Rattle.typed_plan.specs.declared.class.Class.TheVariants.{Number, Text, Truth, Date}
-use Rattle.typed_plan.specs.Class.{bound_class, value_class}
+use Rattle.typed_plan.specs.Class.{literal_class, literal_value, bound_class, value_class}
 use Rattle.typed_plan.specs.Scope.{Scope, ScopeColumn, stands_for, named_numbers, the_only, column_of, numbered, number_in}
 use Rattle.typed_plan.specs.Scope.{term_operand}
 use Rattle.typed_plan.specs.Faults.{fault_in, operand_class}
@@ -98,21 +99,21 @@ class_follows scope name class = of_result (column_of scope name) (meant_within 
         ∙ sym (ap (λ (column : Option ScopeColumn). Ok (bound_class (class_at column))) there)
         ∙ ap (λ (found : Class). Ok (bound_class found)) meant
 
--- the class of a literal is the one that it is bound with
-literal_follows : (own class : Class) → Ok own ≡ Ok class → Ok (bound_class own) ≡ Ok (bound_class class)
-literal_follows own class e =
-    let one : own ≡ class = cc in
-    ap (λ (found : Class). Ok (bound_class found)) one
+-- the value of a literal has its class
+literal_bound : (l : Literal) → value_class (literal_value l) ≡ bound_class (literal_class l)
+literal_bound (literal.Text bytes) = refl
+literal_bound (literal.Truth flag) = refl
+literal_bound (literal.Number number) = refl
+literal_bound (literal.Date day) = refl
 
 -- the class of a term is that of what stands for it
 pub term_follows : (scope : Scope) (written : Term) →
     Follows bound_class (class_of_term scope written)
     (operand_class (class_of_number (scope_types scope)) (term_operand scope written))
 term_follows scope (term.Name name) class e = class_follows scope name class e
-term_follows scope (term.Text bytes) class e = literal_follows Text class e
-term_follows scope (term.Truth flag) class e = literal_follows Truth class e
-term_follows scope (term.Number number) class e = literal_follows Number class e
-term_follows scope (term.Date day) class e = literal_follows Date class e
+term_follows scope (term.Literal l) class e =
+    let one : literal_class l ≡ class = cc in
+    ap (λ (found : Class). Ok found) (literal_bound l ∙ ap bound_class one)
 
 -- and that of a value stays
 pub value_bound : (v : Value) → bound_class (value_class v) ≡ value_class v

@@ -6,8 +6,8 @@ use Rattle.sql_query.specs.declared.query.ColumnName.{ColumnName}
 use Rattle.sql_query.specs.declared.query.Term.{Term}
 use Rattle.sql_query.specs.declared.query.Term.TheVariants as term
 use Rattle.typed_plan.specs.declared.class.Class.{Class}
-use Rattle.typed_plan.specs.declared.class.Class.TheVariants.{Number, Text, Truth, Date}
-use Rattle.typed_plan.specs.Class.{type_class, can_sum}
+use Rattle.typed_plan.specs.declared.class.Class.TheVariants.{Number}
+use Rattle.typed_plan.specs.Class.{type_class, literal_class, can_sum}
 use Rattle.typed_plan.specs.Faults.{predicate_fault}
 use Rattle.typed_plan.specs.Scope.{Scope, ScopeColumn, column_of}
 
@@ -33,10 +33,7 @@ class_of_name scope name = class_of_column scope (column_of scope name)
 -- the class of a term
 abbrev pub class_of_term : Scope → Term → Result Class Fault
 class_of_term scope (term.Name name) = class_of_name scope name
-class_of_term scope (term.Text bytes) = Ok Text
-class_of_term scope (term.Truth flag) = Ok Truth
-class_of_term scope (term.Number number) = Ok Number
-class_of_term scope (term.Date day) = Ok Date
+class_of_term scope (term.Literal literal) = Ok (literal_class literal)
 
 -- the fault of WHERE's predicate, where there is one
 abbrev pub filter_fault : Scope → Option (Pred Term) → Option Fault

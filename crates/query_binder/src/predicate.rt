@@ -1,8 +1,9 @@
 //! Predicates over numbers of columns, from those over the terms of a query.
 
-ghost use Rattle.std.specs.Prelude.{◌≡◌, Ok, map};
+ghost use Rattle.std.specs.Prelude.{◌≡◌, IfOk, Ok, map};
 ghost use Rattle.scan_base.specs.Predicate.{truth_test, comparing, between, membership, null_test};
 ghost use Rattle.scan_base.specs.View.{pred_of};
+ghost use Rattle.typed_plan.specs.Class.{literal_value};
 ghost use Rattle.typed_plan.specs.Scope.{term_operand};
 ghost use Rattle.typed_plan.specs.Faults.{operand_class, compare_fault, items_fault, fault_in};
 ghost use Rattle.query_binder.specs.NameClasses.{class_of_name, class_of_term};
@@ -13,8 +14,8 @@ ghost use Rattle.query_binder.specs.Outcome.{Binds, BindsPredicate};
 use crate::chain::{ChainLink, Connective, first_of};
 use crate::scope::Scope;
 use scan_base::{Comparison, Fault, Items, Operand, Predicate, Truth, Value};
-use sql_query::{ColumnName, Term};
-use std::alloc::Global;
+use sql_query::{ColumnName, Literal, Term};
+use std::alloc::{AllocError, Global};
 use typed_plan::Class;
 
 // The class of the column that a name means.
@@ -31,10 +32,7 @@ fn term_class(scope: &Scope<'_>, term: &Term) -> Result<Class, Fault>
 {
     match term {
         Term::Name(name) => name_class(scope, name),
-        Term::Text(_) => Ok(Class::Text),
-        Term::Truth(_) => Ok(Class::Truth),
-        Term::Number(_) => Ok(Class::Number),
-        Term::Date(_) => Ok(Class::Date),
+        Term::Literal(literal) => Ok(Class::of_literal(literal)),
     }
 }
 
@@ -58,6 +56,18 @@ fn agree(class: Class, other: Result<Class, Fault>) -> Result<(), Fault>
     }
 }
 
+// The value of a literal.
+fn bind_literal(literal: &Literal) -> Result<Value, AllocError>
+    ensures { IfOk result (λ value. value ≡ literal_value literal.now) }
+{
+    match literal {
+        Literal::Text(text) => Ok(Value::Text(text.clone()?)),
+        Literal::Truth(flag) => Ok(Value::Bool(*flag)),
+        Literal::Number(number) => Ok(Value::Int(*number)),
+        Literal::Date(day) => Ok(Value::Int(i128::from(*day))),
+    }
+}
+
 // The column that a term names, or the value of a literal.
 fn bind_term(scope: &Scope<'_>, term: &Term) -> Result<Operand<usize>, Fault>
     ensures { Binds (fault_in (class_of_term scope.now term.now))
@@ -65,10 +75,7 @@ fn bind_term(scope: &Scope<'_>, term: &Term) -> Result<Operand<usize>, Fault>
 {
     match term {
         Term::Name(name) => Ok(Operand::Column(scope.column_of(name)?)),
-        Term::Text(text) => Ok(Operand::Literal(Value::Text(text.clone()?))),
-        Term::Truth(flag) => Ok(Operand::Literal(Value::Bool(*flag))),
-        Term::Number(number) => Ok(Operand::Literal(Value::Int(*number))),
-        Term::Date(day) => Ok(Operand::Literal(Value::Int(i128::from(*day)))),
+        Term::Literal(literal) => Ok(Operand::Literal(bind_literal(literal)?)),
     }
 }
 

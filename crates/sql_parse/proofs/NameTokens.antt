@@ -14,8 +14,9 @@ use Rattle.sql_text.specs.declared.token.TokenKind.{TokenKind}
 use Rattle.sql_text.specs.declared.token.TokenKind.TheVariants as kind
 use Rattle.sql_text.specs.declared.symbol.Symbol.TheVariants as symbol
 use Rattle.sql_query.specs.declared.query.ColumnName.{ColumnName}
+use Rattle.sql_query.specs.declared.query.Literal.{Literal}
 use Rattle.sql_query.specs.declared.query.Term.{Term}
-use Rattle.sql_query.specs.declared.query.Term.TheVariants.{Name, Text, Truth, Number, Date}
+use Rattle.sql_query.specs.declared.query.Term.TheVariants as term
 use Rattle.sql_query.specs.declared.query.Expression.{Expression}
 use Rattle.sql_query.specs.declared.query.Expression.TheVariants as expression
 use Rattle.sql_query.specs.declared.query.Select.{Select}
@@ -26,13 +27,12 @@ use Rattle.sql_query.specs.declared.query.Join.{Join}
 use Rattle.sql_query.specs.Sentence.{Sentence}
 use Rattle.grammar.specs.Rule.{empty, both, either, many, make, Language, Spells, Any}
 use Rattle.sql_parse.specs.SentenceLimits.{column_names, expression_names, item_names, select_names, place_names}
-use Rattle.sql_parse.specs.SentenceLimits.{equality_names, join_names, term_names, operand_names, condition_names}
-use Rattle.sql_parse.specs.SentenceLimits.{filter_names}
+use Rattle.sql_parse.specs.SentenceLimits.{equality_names, join_names, operand_names, condition_names, filter_names}
 use Rattle.sql_parse.specs.SentenceLimits.{sentence_names}
 use Rattle.sql_parse.specs.Parse.{IsSentence}
 use Rattle.sql_parse.specs.Notation.{Condition, Of, a_word, a_symbol, word_for, symbol_for, ◌⊳◌, ◌⊲◌, maybe, listed}
 use Rattle.sql_parse.specs.Productions.{name, column_name, column, minus, digits, date, number}
-use Rattle.sql_parse.specs.Productions.{string, term, operand, compare}
+use Rattle.sql_parse.specs.Productions.{string, literal, operand, compare}
 use Rattle.sql_parse.specs.Productions.{negated}
 use Rattle.sql_parse.specs.PredicateProductions.{pred, comparison_of, range_of, membership_of}
 use Rattle.sql_parse.specs.PredicateProductions.{null_test_of, simple}
@@ -127,47 +127,19 @@ module _ (D : Language Mark Condition) where
 
   -- ---- operands
 
-  string_silent : Silent names_at D string
-  unfolding string
-  string_silent = silent string refl
-
-  number_silent : Silent names_at D number
-  unfolding number minus digits same_symbol
-  number_silent = silent number refl
-
-  date_silent : Silent names_at D date
-  unfolding date same_word
-  date_silent = silent date refl
-
-  -- a literal of one form
-  says_literal : {A : Type 0} (literal : A → Term) (g : Of A) → ((x : A) → term_names (literal x) ≡ []) →
-      Silent names_at D g → Names (make literal g) term_names
-  says_literal literal g none quiet = gathers_make names_at D literal g (λ x. []) term_names quiet none
-
-  says_truth : (w : Keyword) (flag : Bool) → Names (word_for w (Truth flag)) term_names
-  says_truth w flag = gathers_one names_at D (is_word w) (λ t. Some (Truth flag)) (word_token w) term_names
-      (λ t v p h. let same : Truth flag ≡ v = cc in nameless t (no_name w t.0 p) ∙ ap term_names same)
-
-  says_term : Names term term_names
-  unfolding term
-  says_term =
-      let truth : Bool → Keyword → Of Term = λ flag w. word_for w (Truth flag) in
-      let last : Of Term = either (truth false word.False) (make Number number) in
-      let truths : Of Term = either (truth true word.True) last in
-      let texts : Of Term = either (make Text string) truths in
-      gathers_either names_at D (make Name column) (either (make Date date) texts) term_names
-      (gathers_make names_at D Name column column_names term_names says_column (λ x. refl))
-      (gathers_either names_at D (make Date date) texts term_names
-      (says_literal Date date (λ x. refl) date_silent)
-      (gathers_either names_at D (make Text string) truths term_names
-      (says_literal Text string (λ x. refl) string_silent)
-      (gathers_either names_at D (truth true word.True) last term_names (says_truth word.True true)
-      (gathers_either names_at D (truth false word.False) (make Number number) term_names (says_truth word.False false)
-      (says_literal Number number (λ x. refl) number_silent)))))
+  literal_silent : Silent names_at D literal
+  unfolding literal date string number minus digits same_word same_symbol
+  literal_silent = silent literal refl
 
   says_operand : Names operand operand_names
   unfolding operand
-  says_operand = gathers_make names_at D Column term term_names operand_names says_term (λ x. refl)
+  says_operand =
+      gathers_either names_at D (make (λ (n : ColumnName). Column (term.Name n)) column)
+      (make (λ (l : Literal). Column (term.Literal l)) literal) operand_names
+      (gathers_make names_at D (λ (n : ColumnName). Column (term.Name n)) column column_names operand_names says_column
+      (λ x. refl))
+      (gathers_make names_at D (λ (l : Literal). Column (term.Literal l)) literal (λ l. []) operand_names literal_silent
+      (λ x. refl))
 
   -- ---- predicates
 

@@ -17,7 +17,7 @@ use Rattle.sql_text.specs.Words.{is_name}
 use Rattle.sql_text.specs.Calls.{said, SaysText, lexeme_of}
 use Rattle.sql_query.specs.declared.query.ColumnName.{ColumnName}
 use Rattle.sql_query.specs.declared.query.Term.{Term}
-use Rattle.sql_query.specs.declared.query.Term.TheVariants as written
+use Rattle.sql_query.specs.declared.query.Term.TheVariants as term
 use Rattle.sql_query.specs.declared.query.Expression.{Expression}
 use Rattle.sql_query.specs.declared.query.Expression.TheVariants as expression
 use Rattle.sql_query.specs.declared.query.Select.{Select}
@@ -27,15 +27,15 @@ use Rattle.sql_query.specs.declared.query.Equality.{Equality}
 use Rattle.sql_query.specs.declared.query.Join.{Join}
 use Rattle.sql_query.specs.Sentence.{Sentence}
 use Rattle.sql_query.specs.Names.{IsName, IsColumnName, ExpressionHasNames, ItemHasNames, SelectHasNames}
-use Rattle.sql_query.specs.Names.{PlaceHasNames, EqualityHasNames, JoinHasNames, TermHasNames, OperandHasNames}
-use Rattle.sql_query.specs.Names.{ConditionHasNames, QueryHasNames}
+use Rattle.sql_query.specs.Names.{PlaceHasNames, EqualityHasNames, JoinHasNames, OperandHasNames, ConditionHasNames}
+use Rattle.sql_query.specs.Names.{QueryHasNames}
 use Rattle.grammar.specs.Rule.{empty, both, either, many, make, Language, Spells, Any}
 use Rattle.grammar.proofs.Keeping.{Keeps, keeps_one, keeps_empty, keeps_both, keeps_either, keeps_many, keeps_make}
 use Rattle.grammar.proofs.Keeping.{keeps_opened, keeps_any}
 use Rattle.sql_parse.specs.Limits.{TallyAt, counted, is_past, is_long_name, passes_from, passes}
 use Rattle.sql_parse.specs.Parse.{IsSentence, Accepts, Answered}
 use Rattle.sql_parse.specs.Notation.{Condition, Of, a_word, a_symbol, symbol_for, ◌⊳◌, ◌⊲◌, maybe, listed, joined}
-use Rattle.sql_parse.specs.Productions.{name, column_name, column, term, operand, compare, negated}
+use Rattle.sql_parse.specs.Productions.{name, column_name, column, operand, compare, negated}
 use Rattle.sql_parse.specs.PredicateProductions.{inner, conj, pred}
 use Rattle.sql_parse.specs.PredicateProductions.{comparison_of, range_of, membership_of}
 use Rattle.sql_parse.specs.PredicateProductions.{null_test_of, simple, primary_of}
@@ -120,25 +120,12 @@ module _ (D : Language Mark Condition) where
       (if_there (a_symbol symbol.Period ⊳ name) IsName (behind (a_symbol symbol.Period) name IsName has_name)))
       (λ p n. column_named p.0 p.1 n.0 n.1)
 
-  has_term : Has term TermHasNames
-  unfolding term
-  has_term ts v (inl q) a =
-      keeps_make Named D written.Name column IsColumnName TermHasNames has_column (λ x n. n) ts v q a
-  has_term ts v (inr (inl q)) a = subst TermHasNames (sym q.1) tt
-  has_term ts v (inr (inr (inl q))) a = subst TermHasNames (sym q.1) tt
-  has_term ts v (inr (inr (inr (inl q)))) a =
-      let said = q.3 in
-      let same : written.Truth true ≡ v = cc in
-      subst TermHasNames same tt
-  has_term ts v (inr (inr (inr (inr (inl q))))) a =
-      let said = q.3 in
-      let same : written.Truth false ≡ v = cc in
-      subst TermHasNames same tt
-  has_term ts v (inr (inr (inr (inr (inr q))))) a = subst TermHasNames (sym q.1) tt
-
   has_operand : Has operand OperandHasNames
   unfolding operand
-  has_operand = keeps_make Named D Column term TermHasNames OperandHasNames has_term (λ x n. n)
+  has_operand ts v (inl q) a =
+      keeps_make Named D (λ (n : ColumnName). Column (term.Name n)) column IsColumnName OperandHasNames has_column (λ x n. n)
+      ts v q a
+  has_operand ts v (inr q) a = subst OperandHasNames (sym q.1) tt
 
   -- ---- predicates
 

@@ -21,8 +21,10 @@ use Rattle.sql_text.specs.Words.{word_kind}
 use Rattle.grammar.specs.Reading.{begins, token, reads, read}
 use Rattle.grammar.specs.Sentence.{Begins, Offends}
 use Rattle.sql_query.specs.declared.query.ColumnName.{ColumnName}
+use Rattle.sql_query.specs.declared.query.Literal.{Literal}
+use Rattle.sql_query.specs.declared.query.Literal.TheVariants as literals
 use Rattle.sql_query.specs.declared.query.Term.{Term}
-use Rattle.sql_query.specs.declared.query.Term.TheVariants as written
+use Rattle.sql_query.specs.declared.query.Term.TheVariants as term
 use Rattle.sql_query.specs.declared.query.Expression.TheVariants as expression
 use Rattle.sql_query.specs.declared.query.Select.{Select}
 use Rattle.sql_query.specs.declared.query.Select.TheVariants as select
@@ -34,7 +36,7 @@ use Rattle.sql_parse.specs.QuerySteps.{whole_at, ended}
 use Rattle.sql_parse.specs.FactoredGrammar.{compared, nulled, ranged, among, tail, forms, primary, test, factor_by_operand}
 use Rattle.sql_parse.specs.Limits.{counted, is_past, is_long_name, passes}
 use Rattle.sql_parse.specs.Parse.{IsSentence, IsShallow, fault_or, Refuses, Answered, Parsed}
-use Rattle.sql_parse.specs.Productions.{name, column, minus, digits, date, number, string, term, operand}
+use Rattle.sql_parse.specs.Productions.{name, column, minus, digits, date, number, string, literal, operand}
 use Rattle.sql_parse.specs.Productions.{compare, negated}
 use Rattle.sql_parse.specs.PredicateProductions.{conj}
 use Rattle.sql_parse.specs.PredicateProductions.{pred, truth_value}
@@ -79,7 +81,7 @@ answer_of end (Ok lexemes) = answered end (map mark_of lexemes) (outcome (map ma
 
 answer : List ℕ → Result Sentence Fault
 unfolding tokens_in tokens_from tokens_within front_at mark_front pair single word_kind number_of unquoted same_word
-    same_symbol begins token seen counted is_past is_long_name passes name column minus digits date number string term operand
+    same_symbol begins token seen counted is_past is_long_name passes name column minus digits date number string literal operand
     compare negated conj pred truth_value alias selection item list place equal join group filter source ending query
     compared nulled ranged among tail forms primary test factor_by_operand
 answer text = answer_of (length text) (tokens_in text)
@@ -340,16 +342,19 @@ abbrev filtered : Pred Term → Sentence
 filtered p = record (from_table (codes "t") (one_column (codes "a"))) { filter = Some p }
 
 abbrev a : Operand Term
-a = Column (written.Name (named (codes "a")))
+a = Column (term.Name (named (codes "a")))
 
 abbrev b : Operand Term
-b = Column (written.Name (named (codes "b")))
+b = Column (term.Name (named (codes "b")))
 
 abbrev c : Operand Term
-c = Column (written.Name (named (codes "c")))
+c = Column (term.Name (named (codes "c")))
+
+abbrev literally : Literal → Operand Term
+literally written = Column (term.Literal written)
 
 abbrev int : ℕ → Operand Term
-int value = Column (written.Number (pos value))
+int value = literally (literals.Number (pos value))
 
 abbrev equals : Operand Term → ℕ → Pred Term
 equals operand value = comparing Equal operand (int value)
@@ -368,17 +373,17 @@ unfolding answer
 quote_in_name = worked refl
 
 quote_in_string : Means (codes "SELECT a FROM t WHERE a = 'it''s'")
-    (Ok (filtered (comparing Equal a (Column (written.Text (codes "it's"))))))
+    (Ok (filtered (comparing Equal a (literally (literals.Text (codes "it's"))))))
 unfolding answer
 quote_in_string = worked refl
 
 -- a literal is what is written: 8766 is the day of this date
 before_1994 : Means (codes "SELECT a FROM t WHERE a < DATE '1994-01-01'")
-    (Ok (filtered (comparing Less a (Column (written.Date (pos 8766))))))
+    (Ok (filtered (comparing Less a (literally (literals.Date (pos 8766))))))
 unfolding answer
 before_1994 = worked refl
 
-a_truth : Means (codes "SELECT a FROM t WHERE a = TRUE") (Ok (filtered (comparing Equal a (Column (written.Truth true)))))
+a_truth : Means (codes "SELECT a FROM t WHERE a = TRUE") (Ok (filtered (comparing Equal a (literally (literals.Truth true)))))
 unfolding answer
 a_truth = worked refl
 
@@ -405,7 +410,7 @@ unfolding answer
 between_and = worked refl
 
 not_in : Means (codes "SELECT a FROM t WHERE a NOT IN (-1, b)")
-    (Ok (filtered (membership true a (Column (written.Number (negsuc 0)) ∷ b ∷ []))))
+    (Ok (filtered (membership true a (literally (literals.Number (negsuc 0)) ∷ b ∷ []))))
 unfolding answer
 not_in = worked refl
 

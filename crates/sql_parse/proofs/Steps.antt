@@ -18,7 +18,7 @@ use Rattle.scan_base.specs.Predicate.{conjunction, disjunction, negation}
 use Rattle.grammar.specs.Rule.{many, make}
 use Rattle.grammar.proofs.Deep.{flat_alike}
 use Rattle.sql_query.specs.declared.query.Term.{Term}
-use Rattle.sql_parse.specs.Productions.{name, column, minus, digits, date, number, string, term, operand}
+use Rattle.sql_parse.specs.Productions.{name, column, minus, digits, date, number, string, literal, operand}
 use Rattle.sql_parse.specs.Productions.{compare}
 use Rattle.sql_parse.specs.Notation.{Condition}
 use Rattle.sql_parse.specs.Productions.{negated}
@@ -26,7 +26,7 @@ use Rattle.sql_parse.specs.PredicateProductions.{truth_value, conj, pred, inner}
 use Rattle.sql_parse.specs.Notation.{a_word, a_symbol, ◌⊳◌, ◌⊲◌}
 use Rattle.sql_parse.specs.FactoredGrammar.{compared, nulled, ranged, among, tail, forms, primary, test, factor_by_operand}
 use Rattle.sql_parse.specs.Steps.{at, token_at, name_at, column_at, minus_at, numbered, digits_at, date_at, number_at}
-use Rattle.sql_parse.specs.Steps.{term_at, operand_at, compare_at}
+use Rattle.sql_parse.specs.Steps.{literal_at, operand_at, compare_at}
 use Rattle.sql_parse.specs.PredicateSteps.{negated_at, truth_at, compared_at, nulled_at, ranged_at}
 use Rattle.sql_parse.specs.PredicateSteps.{operands_at, among_at, tail_at, factor_at, ands_at, conj_at, ors_at, pred_at}
 use Rattle.sql_parse.specs.PredicateSteps.{inside_at, form_at, primary_at, tested_at, test_at, negation_at}
@@ -104,13 +104,13 @@ date_starts : (ts : List Mark) → begins (starts date) ts ≡ at (is_word word.
 unfolding date at
 date_starts ts = refl
 
-term_same : (D : Nest) (ts : List Mark) → seen (reads D term ts) ≡ term_at ts
-unfolding term term_at token_at at string
-term_same D ts = simp (flat, column_starts, date_starts, column_same, date_same, number_same)
+literal_same : (D : Nest) (ts : List Mark) → seen (reads D literal ts) ≡ literal_at ts
+unfolding literal literal_at token_at at string
+literal_same D ts = simp (flat, date_starts, date_same, number_same)
 
 pub operand_same : (D : Nest) (ts : List Mark) → seen (reads D operand ts) ≡ operand_at ts
 unfolding operand operand_at
-operand_same D ts = simp (flat, term_same)
+operand_same D ts = simp (flat, column_starts, column_same, literal_same)
 
 pub compare_same : (D : Nest) (ts : List Mark) → seen (reads D compare ts) ≡ compare_at ts
 unfolding compare compare_at token_at at
@@ -154,7 +154,7 @@ unfolding among at
 among_starts ts = refl
 
 among_flat : (D : Nest) (ts : List Mark) → reads D among ts ≡ reads None among ts
-unfolding among term operand column name number minus digits date string
+unfolding among literal operand column name number minus digits date string
 among_flat D ts = flat_alike D None among refl ts
 
 among_first : (n : Bool) (a : Operand Term) (ts : List Mark) →
@@ -258,12 +258,12 @@ pub nil_after : {A : Type 0} (xs ys : List A) (x : A) → (xs ++ x ∷ []) ++ ys
 nil_after xs ys x = append_assoc xs (x ∷ []) ys
 
 operand_made : well_made (a_symbol symbol.Comma ⊳ operand) ≡ true
-unfolding term operand column name number minus digits date string same_symbol same_word number_of unquoted
+unfolding literal operand column name number minus digits date string same_symbol same_word number_of unquoted
 operand_made = refl
 
 operands_flat : (D : Nest) (ts : List Mark) →
     reads D (many (a_symbol symbol.Comma ⊳ operand)) ts ≡ reads None (many (a_symbol symbol.Comma ⊳ operand)) ts
-unfolding term operand column name number minus digits date string
+unfolding literal operand column name number minus digits date string
 operands_flat D ts = flat_alike D None (many (a_symbol symbol.Comma ⊳ operand)) refl ts
 
 pub operands_step : (front : List (Operand Term)) (ts : List Mark) →

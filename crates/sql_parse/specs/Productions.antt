@@ -8,8 +8,10 @@ use Rattle.sql_text.specs.declared.word.Keyword.TheVariants as word
 use Rattle.sql_text.specs.declared.symbol.Symbol.TheVariants as symbol
 use Rattle.grammar.specs.Rule.{one, empty, both, either, make}
 use Rattle.sql_query.specs.declared.query.ColumnName.{ColumnName}
+use Rattle.sql_query.specs.declared.query.Literal.{Literal}
+use Rattle.sql_query.specs.declared.query.Literal.TheVariants.{Text, Truth, Number, Date}
 use Rattle.sql_query.specs.declared.query.Term.{Term}
-use Rattle.sql_query.specs.declared.query.Term.TheVariants.{Name, Text, Truth, Number, Date}
+use Rattle.sql_query.specs.declared.query.Term.TheVariants as term
 use Rattle.calendar.specs.Dates.{day_in}
 use Rattle.sql_text.specs.Words.{is_name}
 use Rattle.sql_parse.specs.Tokens.{is_string, is_digits}
@@ -58,15 +60,16 @@ string = one is_string (λ t. Some (said t.0 t.1.1)) string_token
 unfoldable pub date : Of ℤ
 date = a_word word.Date ⊳ one is_string (λ t. day_in (said t.0 t.1.1)) date_token
 
--- column | DATE string | string | TRUE | FALSE | number
-unfoldable pub term : Of Term
-term = either (make Name column) (either (make Date date) (either (make Text string)
+-- DATE string | string | TRUE | FALSE | number
+unfoldable pub literal : Of Literal
+literal = either (make Date date) (either (make Text string)
     (either (word_for word.True (Truth true)) (either (word_for word.False (Truth false))
-    (make Number number)))))
+    (make Number number))))
 
--- a term, on a side of a comparison
+-- column | literal
 unfoldable pub operand : Of (Operand Term)
-operand = make Column term
+operand = either (make (λ name. Column (term.Name name)) column)
+    (make (λ written. Column (term.Literal written)) literal)
 
 -- "=" | "<>" | "<" | "<=" | ">" | ">=", where "!=" is "<>"
 unfoldable pub compare : Of Comparison

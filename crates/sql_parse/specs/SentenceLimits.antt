@@ -19,7 +19,7 @@ use Rattle.sql_query.specs.declared.query.Place.{Place}
 use Rattle.sql_query.specs.declared.query.Equality.{Equality}
 use Rattle.sql_query.specs.declared.query.Join.{Join}
 use Rattle.sql_query.specs.declared.query.Term.{Term}
-use Rattle.sql_query.specs.declared.query.Term.TheVariants.{Name}
+use Rattle.sql_query.specs.declared.query.Term.TheVariants.{Name, Literal}
 use Rattle.sql_query.specs.Sentence.{Sentence}
 
 -- ---- the names in a sentence, of tables, columns and aliases, in their order
@@ -51,7 +51,7 @@ join_names join = place_names join.place ++ flat_map equality_names join.on
 
 abbrev pub term_names : Term → List (List ℕ)
 term_names (Name column) = column_names column
-term_names _ = []
+term_names (Literal written) = []
 
 abbrev pub operand_names : Operand Term → List (List ℕ)
 operand_names (operand.Column term) = term_names term

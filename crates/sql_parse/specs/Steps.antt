@@ -10,8 +10,10 @@ use Rattle.sql_text.specs.declared.symbol.Symbol.TheVariants as symbol
 use Rattle.sql_text.specs.declared.token.TokenKind.{TokenKind}
 use Rattle.grammar.specs.Reading.{begins, token}
 use Rattle.sql_query.specs.declared.query.ColumnName.{ColumnName}
+use Rattle.sql_query.specs.declared.query.Literal.{Literal}
+use Rattle.sql_query.specs.declared.query.Literal.TheVariants.{Text, Truth, Number, Date}
 use Rattle.sql_query.specs.declared.query.Term.{Term}
-use Rattle.sql_query.specs.declared.query.Term.TheVariants.{Name, Text, Truth, Number, Date}
+use Rattle.sql_query.specs.declared.query.Term.TheVariants as term
 use Rattle.sql_parse.specs.declared.refusal.Refusal.TheVariants as refusal
 use Rattle.calendar.specs.Dates.{day_in}
 use Rattle.sql_text.specs.Words.{is_name}
@@ -71,26 +73,27 @@ date_at ts = do
   t ← token_at is_string w.1
   numbered (day_in (value_of t.0)) w.1 t.1
 
-unfoldable pub term_at : List Mark → Answer Term
-term_at ts =
-    if at is_name ts then (do
-      c ← column_at ts
-      Ok (Name c.0, c.1)) else (if at (is_word word.Date) ts then (do
-        d ← date_at ts
-        Ok (Date d.0, d.1)) else (if at is_string ts then (do
-          t ← token_at is_string ts
-          Ok (Text (value_of t.0), t.1)) else (if at (is_word word.True) ts then (do
-            t ← token_at (is_word word.True) ts
-            Ok (Truth true, t.1)) else (if at (is_word word.False) ts then (do
-              t ← token_at (is_word word.False) ts
-              Ok (Truth false, t.1)) else (do
-                n ← number_at ts
-                Ok (Number n.0, n.1))))))
+unfoldable pub literal_at : List Mark → Answer Literal
+literal_at ts =
+    if at (is_word word.Date) ts then (do
+      d ← date_at ts
+      Ok (Date d.0, d.1)) else (if at is_string ts then (do
+        t ← token_at is_string ts
+        Ok (Text (value_of t.0), t.1)) else (if at (is_word word.True) ts then (do
+          t ← token_at (is_word word.True) ts
+          Ok (Truth true, t.1)) else (if at (is_word word.False) ts then (do
+            t ← token_at (is_word word.False) ts
+            Ok (Truth false, t.1)) else (do
+              n ← number_at ts
+              Ok (Number n.0, n.1)))))
 
 unfoldable pub operand_at : List Mark → Answer (Operand Term)
-operand_at ts = do
-  t ← term_at ts
-  Ok (Column t.0, t.1)
+operand_at ts =
+    if at is_name ts then (do
+      c ← column_at ts
+      Ok (Column (term.Name c.0), c.1)) else (do
+        l ← literal_at ts
+        Ok (Column (term.Literal l.0), l.1))
 
 unfoldable pub compare_at : List Mark → Answer Comparison
 compare_at ts =

@@ -9,7 +9,7 @@ use crate::refusal::Refusal;
 use crate::tokens::{Class, Rest};
 use calendar::day_in;
 use scan_base::{Comparison, Operand, Text};
-use sql_query::{ColumnName, Term};
+use sql_query::{ColumnName, Literal, Term};
 use sql_text::{Keyword, Symbol};
 use std::alloc::Global;
 
@@ -104,34 +104,31 @@ fn date<'t>(alloc: Global, tokens: Rest<'t>) -> Result<(i32, Rest<'t>), Refusal>
     }
 }
 
-// column | DATE string | string | TRUE | FALSE | number
-#[tactic(auto, unfolding(crate::specs::Steps::term_at))]
-fn term<'t>(alloc: Global, tokens: Rest<'t>) -> Result<(Term, Rest<'t>), Refusal>
-    ensures exact { Gives (λ x. (x.0, unread x.1)) result (steps.term_at (unread tokens.entry)) }
+// DATE string | string | TRUE | FALSE | number
+#[tactic(auto, unfolding(crate::specs::Steps::literal_at))]
+fn literal<'t>(alloc: Global, tokens: Rest<'t>) -> Result<(Literal, Rest<'t>), Refusal>
+    ensures exact { Gives (λ x. (x.0, unread x.1)) result (steps.literal_at (unread tokens.entry)) }
     ensures shorter { IfOk result (λ x. remaining x.1 < remaining tokens.entry) }
 {
-    if tokens.at(Class::Name) {
-        let (column, rest) = column(alloc, tokens)?;
-        Ok((Term::Name(column), rest))
-    } else if tokens.at(Class::Word(Keyword::Date)) {
+    if tokens.at(Class::Word(Keyword::Date)) {
         let (day, rest) = date(alloc, tokens)?;
-        Ok((Term::Date(day), rest))
+        Ok((Literal::Date(day), rest))
     } else if tokens.at(Class::String) {
         let (token, rest) = tokens.take(Class::String)?;
-        Ok((Term::Text(token.value(alloc)?), rest))
+        Ok((Literal::Text(token.value(alloc)?), rest))
     } else if tokens.at(Class::Word(Keyword::True)) {
         let (_, rest) = tokens.take(Class::Word(Keyword::True))?;
-        Ok((Term::Truth(true), rest))
+        Ok((Literal::Truth(true), rest))
     } else if tokens.at(Class::Word(Keyword::False)) {
         let (_, rest) = tokens.take(Class::Word(Keyword::False))?;
-        Ok((Term::Truth(false), rest))
+        Ok((Literal::Truth(false), rest))
     } else {
         let (number, rest) = signed_number(tokens)?;
-        Ok((Term::Number(number), rest))
+        Ok((Literal::Number(number), rest))
     }
 }
 
-// a term, on a side of a comparison
+// column | literal
 #[tactic(auto, unfolding(crate::specs::Steps::operand_at))]
 pub(crate) fn operand<'t>(
     alloc: Global,
@@ -140,8 +137,13 @@ pub(crate) fn operand<'t>(
     ensures exact { Gives (λ x. (x.0, unread x.1)) result (steps.operand_at (unread tokens.entry)) }
     ensures shorter { IfOk result (λ x. remaining x.1 < remaining tokens.entry) }
 {
-    let (term, rest) = term(alloc, tokens)?;
-    Ok((Operand::Column(term), rest))
+    if tokens.at(Class::Name) {
+        let (column, rest) = column(alloc, tokens)?;
+        Ok((Operand::Column(Term::Name(column)), rest))
+    } else {
+        let (literal, rest) = literal(alloc, tokens)?;
+        Ok((Operand::Column(Term::Literal(literal)), rest))
+    }
 }
 
 // "=" | "<>" | "<" | "<=" | ">" | ">="

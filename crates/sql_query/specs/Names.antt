@@ -16,7 +16,7 @@ use Rattle.sql_query.specs.declared.query.Place.{Place}
 use Rattle.sql_query.specs.declared.query.Equality.{Equality}
 use Rattle.sql_query.specs.declared.query.Join.{Join}
 use Rattle.sql_query.specs.declared.query.Term.{Term}
-use Rattle.sql_query.specs.declared.query.Term.TheVariants.{Name}
+use Rattle.sql_query.specs.declared.query.Term.TheVariants.{Name, Literal}
 use Rattle.sql_query.specs.Sentence.{Sentence}
 
 -- a name has a byte or more, no more than it may have, and they are UTF-8
@@ -65,7 +65,7 @@ pub record JoinHasNames (join : Join) : Type 0 where
 -- the name of a term, where it is one
 abbrev pub TermHasNames : Term → Type 0
 TermHasNames (Name column) = IsColumnName column
-TermHasNames _ = Unit {0}
+TermHasNames (Literal written) = Unit {0}
 
 -- the names of an operand
 abbrev pub OperandHasNames : Operand Term → Type 0

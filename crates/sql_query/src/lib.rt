@@ -5,5 +5,5 @@
 pub mod query;
 
 pub use crate::query::{
-    ColumnName, Equality, Expression, Join, Place, Query, Select, SelectItem, Term,
+    ColumnName, Equality, Expression, Join, Literal, Place, Query, Select, SelectItem, Term,
 };

@@ -22,10 +22,9 @@ impl Drop for ColumnName {
     }
 }
 
-/// A side of a comparison as it is written: the name of a column, or a literal. Binding says which
-/// value a literal is.
-pub enum Term {
-    Name(ColumnName),
+/// A literal as it is written. Binding says which value it is.
+#[derive(Drop)]
+pub enum Literal {
     /// What stands between single quotes.
     Text(Text),
     /// `TRUE` or `FALSE`
@@ -36,15 +35,18 @@ pub enum Term {
     Date(i32),
 }
 
+/// A side of a comparison as it is written.
+pub enum Term {
+    Name(ColumnName),
+    Literal(Literal),
+}
+
 // Written out, so that dropping it is one call (docs/DECISIONS.md).
 impl Drop for Term {
     fn drop(self) {
         match self {
             Term::Name(_) => {}
-            Term::Text(_) => {}
-            Term::Truth(_) => {}
-            Term::Number(_) => {}
-            Term::Date(_) => {}
+            Term::Literal(_) => {}
         }
     }
 }

@@ -1,4 +1,4 @@
--- The classes of values: only values of one class are compared.
+-- The classes of values: only values of one class are compared. And the values of literals.
 use Rattle.std.specs.Prelude.{Bool, true, false}
 use denote.Enum.Bare.{sameb}
 use Rattle.arrow_types.specs.declared.data_type.DataType.{DataType}
@@ -7,6 +7,8 @@ use Rattle.arrow_types.specs.declared.data_type.NumberType.{NumberType}
 use Rattle.arrow_types.specs.declared.data_type.NumberType.TheVariants as number
 use Rattle.scan_base.specs.declared.value.Value.{Value}
 use Rattle.scan_base.specs.declared.value.Value.TheVariants as value
+use Rattle.sql_query.specs.declared.query.Literal.{Literal}
+use Rattle.sql_query.specs.declared.query.Literal.TheVariants as literal
 use Rattle.typed_plan.specs.contracts.class.Class.{the_type}
 use Rattle.typed_plan.specs.declared.class.Class.{Class}
 use Rattle.typed_plan.specs.declared.class.Class.TheVariants.{Number, Text, Truth, Date}
@@ -28,12 +30,26 @@ type_class type.Utf8 = Text
 type_class type.Bool = Truth
 type_class (type.Dictionary encoding) = Text
 
--- the class of the same values where literals are bound: a number is one, whatever it means
+-- the class of a literal
+abbrev pub literal_class : Literal → Class
+literal_class (literal.Text bytes) = Text
+literal_class (literal.Truth flag) = Truth
+literal_class (literal.Number number) = Number
+literal_class (literal.Date day) = Date
+
+-- the value of a literal: of a date it is the day number
+abbrev pub literal_value : Literal → Value
+literal_value (literal.Text bytes) = value.Text bytes
+literal_value (literal.Truth flag) = value.Bool flag
+literal_value (literal.Number number) = value.Int number
+literal_value (literal.Date day) = value.Int day
+
+-- the class where literals are values: a number is one, whatever it means
 abbrev pub bound_class : Class → Class
 bound_class Date = Number
 bound_class class = class
 
--- the class of a bound literal, which is no null
+-- the class of a value, which is no null
 abbrev pub value_class : Value → Class
 value_class value.Null = Number
 value_class (value.Bool flag) = Truth

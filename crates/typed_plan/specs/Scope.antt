@@ -9,12 +9,12 @@ use Rattle.scan_base.specs.declared.fault.Fault.TheVariants.{UnknownName}
 use Rattle.scan_base.specs.declared.predicate.Operand.{Operand}
 use Rattle.scan_base.specs.declared.predicate.Operand.TheVariants.{Column, Literal}
 use Rattle.scan_base.specs.declared.value.Value.{Value}
-use Rattle.scan_base.specs.declared.value.Value.TheVariants as value
 use Rattle.scan_base.specs.Predicate.{cell_in, operand_value}
 use Rattle.sql_query.specs.declared.query.ColumnName.{ColumnName}
 use Rattle.sql_query.specs.declared.query.Term.{Term}
 use Rattle.sql_query.specs.declared.query.Term.TheVariants as term
 use Rattle.table_versions.specs.Table.{Name, Row}
+use Rattle.typed_plan.specs.Class.{literal_value}
 
 -- a column of a place, with the name that the place goes by
 pub record ScopeColumn : Type 0 where
@@ -69,14 +69,10 @@ numbered scope name = number_in (column_of scope name)
 abbrev pub named_cell : Scope → Row → ColumnName → Value
 named_cell scope row name = cell_in row (numbered scope name)
 
--- what a term is over numbers of columns: the column that a name means, or the value of a literal;
--- that of a date is its day number
+-- what a term is over numbers of columns: the column that a name means, or the value of a literal
 abbrev pub term_operand : Scope → Term → Operand ℕ
 term_operand scope (term.Name name) = Column (numbered scope name)
-term_operand scope (term.Text bytes) = Literal (value.Text bytes)
-term_operand scope (term.Truth flag) = Literal (value.Bool flag)
-term_operand scope (term.Number number) = Literal (value.Int number)
-term_operand scope (term.Date day) = Literal (value.Int day)
+term_operand scope (term.Literal literal) = Literal (literal_value literal)
 
 -- the value of a term in a row
 abbrev pub term_value : Scope → Row → Term → Value

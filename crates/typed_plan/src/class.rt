@@ -1,10 +1,11 @@
 //! Which values may be compared.
 
 ghost use Rattle.std.specs.Prelude.{◌≡◌};
-ghost use Rattle.typed_plan.specs.Class.{type_class, value_class};
+ghost use Rattle.typed_plan.specs.Class.{type_class, literal_class, value_class};
 
 use arrow_types::{DataType, NumberType};
 use scan_base::Value;
+use sql_query::Literal;
 
 /// What a value is a value of. Only values of one class are compared.
 #[derive(Clone, Copy, PartialEq, Eq)]
@@ -32,7 +33,19 @@ impl Class {
         }
     }
 
-    /// The class of a bound literal, which is no null.
+    /// The class of a literal.
+    pub fn of_literal(literal: &Literal) -> Class
+        ensures { result ≡ literal_class literal.now }
+    {
+        match literal {
+            Literal::Text(_) => Class::Text,
+            Literal::Truth(_) => Class::Truth,
+            Literal::Number(_) => Class::Number,
+            Literal::Date(_) => Class::Date,
+        }
+    }
+
+    /// The class of a value, which is no null.
     pub fn of_value(value: &Value) -> Class
         ensures { result ≡ value_class value.now }
     {
