@@ -22,7 +22,8 @@ use Rattle.arrow_schema.specs.declared.header.HeaderKind.TheVariants as header
 use Rattle.arrow_schema.specs.Fields.{table_wanted, vector_wanted}
 use Rattle.arrow_schema.specs.Header.{schema_in, schema_message_of, schema_of}
 use Rattle.arrow_schema.specs.Message.{message_part}
-use Rattle.arrow_schema.specs.WrittenHeader.{integer_part, dictionary_part, dictionary_given, field_slots, field_part, schema_part, schema_bytes, encapsulated}
+use Rattle.arrow_schema.specs.TypeTables.{integer_part}
+use Rattle.arrow_schema.specs.WrittenHeader.{dictionary_part, dictionary_given, field_slots, field_part, schema_part, schema_bytes, encapsulated}
 use Rattle.arrow_schema.proofs.Messages.{short_message, fits_message, messages_read}
 use Rattle.arrow_schema.proofs.Again.{fits_dictionary, fits_field, fits_fields, fits_schema, whole_slots, whole_fields, whole_schema, short_schema, schemas_read}
 use Rattle.ipc_batch.specs.Parts.{body_claimed}
