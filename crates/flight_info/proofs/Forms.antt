@@ -6,11 +6,11 @@ use Rattle.std.proofs.lemmas.List.Elements.{recursion_from_All}
 use Rattle.std.proofs.lemmas.Bool.{lt-ltb}
 use Rattle.flatbuf.specs.Place.{TableAt, VectorAt, field_of, table_of, element_of}
 use Rattle.flatbuf.specs.Layout.{Stands}
-use Rattle.flatbuf.specs.Block.{Given, Absent, Number, Offset, AreWhole, table_part, tables_part, buffer_of}
+use Rattle.flatbuf.specs.Block.{Given, Absent, Number, Offset, IsWhole, AreWhole, table_part, tables_part, buffer_of}
 use Rattle.flatbuf.specs.WrittenTables.{table_at, SlotReads}
 use Rattle.flatbuf.specs.Fits.{FitsTable}
 use Rattle.flatbuf.proofs.Written.{vtable_reads, table_reads}
-use Rattle.flatbuf.proofs.Lengths.{whole_table, whole_tables}
+use Rattle.flatbuf.proofs.Lengths.{whole_table, whole_text, whole_tables}
 use Rattle.flatbuf.proofs.Led.{led_table, led_vector, Elements, absent_table, buffer_reads}
 use Rattle.arrow_types.specs.declared.data_type.DataType.{DataType}
 use Rattle.arrow_types.specs.declared.data_type.DataType.TheVariants.{Dictionary}
@@ -25,7 +25,8 @@ use Rattle.arrow_schema.specs.Message.{message_part}
 use Rattle.arrow_schema.specs.TypeTables.{integer_part}
 use Rattle.arrow_schema.specs.WrittenHeader.{dictionary_part, dictionary_given, field_slots, field_part, schema_part, schema_bytes, encapsulated}
 use Rattle.arrow_schema.proofs.Messages.{short_message, fits_message, messages_read}
-use Rattle.arrow_schema.proofs.Again.{fits_dictionary, fits_field, fits_fields, fits_schema, whole_slots, whole_fields, whole_schema, short_schema, schemas_read}
+use Rattle.arrow_schema.proofs.TypeTables.{whole_integer, whole_type}
+use Rattle.arrow_schema.proofs.Again.{fits_dictionary, fits_field, fits_fields, fits_schema, whole_schema, short_schema, schemas_read}
 use Rattle.ipc_batch.specs.Parts.{body_claimed}
 use Rattle.ipc_batch.specs.State.{Known}
 use Rattle.ipc_batch.specs.SaidRows.{schema_sent, news_of}
@@ -40,6 +41,28 @@ past_end slots bytes place fits stands slot past =
     let read = vtable_reads slots bytes place fits stands in
     rw (read.0, read.1, lt-ltb (4 + 2 * length slots) (2 * slot + 6) (omega arith)) refl
 
+-- ---- blocks are whole
+
+abbrev dictionary_slots : DictionaryEncoding → List Given
+dictionary_slots encoding = Number encoding.id ∷ Offset (integer_part encoding.index) ∷ []
+
+whole_dictionary : (encoding : DictionaryEncoding) → IsWhole (dictionary_part encoding)
+unfolding dictionary_part
+whole_dictionary encoding = whole_table (dictionary_slots encoding) (whole_integer encoding.index, tt)
+
+whole_given : (t : DataType) (more : List Given) → AreWhole more → AreWhole (dictionary_given t ∷ more)
+whole_given (Dictionary encoding) more whole = (whole_dictionary encoding, whole)
+whole_given other more whole = whole
+
+whole_slots : (field : Field) → AreWhole (field_slots field)
+whole_slots field =
+    (whole_text field.name, (whole_type field.data_type, whole_given field.data_type (Offset (tables_part []) ∷ []) (whole_tables [] tt, tt)))
+
+whole_fields : (fields : List Field) → AreWhole (map Offset (map field_part fields))
+unfolding field_part
+whole_fields [] = tt
+whole_fields (field ∷ more) = (whole_table (field_slots field) (whole_slots field), whole_fields more)
+
 -- ---- fields
 
 -- the table that a slot leads to is the one that was found
@@ -48,9 +71,6 @@ found_is table one other slot e f = cc
 
 none_found : (table found : TableAt) (slot : ℕ) → field_of table slot ≡ Ok None → table_of table slot ≡ Ok (Some found) → ⊥
 none_found table found slot absent e = let none = absent_table table slot absent in cc
-
-abbrev dictionary_slots : DictionaryEncoding → List Given
-dictionary_slots encoding = Number encoding.id ∷ Offset (integer_part encoding.index) ∷ []
 
 dictionary_ends : (encoding : DictionaryEncoding) (bytes : List ℕ) (place : ℕ) → Stands (dictionary_part encoding).bytes bytes place → EndsAt (table_at bytes place (dictionary_part encoding)) 2
 unfolding dictionary_part
