@@ -1,15 +1,14 @@
 //! Dates: texts that are read, and days that are printed.
 
 use crate::words::{Word, told};
-use arrow_types::NumberType;
-use number_words::{NumberText, read};
+use calendar::{date_shown, day_in};
 use scan_base::Fault;
 use std::alloc::Global;
 
 /// The day number of a text, or `none`.
 pub fn day(alloc: Global, text: &str) -> Result<String, Fault> {
-    let word = match read(NumberType::Date, text) {
-        Some(day) => Word::Number(day),
+    let word = match day_in(text) {
+        Some(day) => Word::Number(i128::from(day)),
         None => Word::Text("none"),
     };
     told(alloc, &[word])
@@ -18,6 +17,5 @@ pub fn day(alloc: Global, text: &str) -> Result<String, Fault> {
 /// What is printed of a day, by its number.
 pub fn shown(alloc: Global, number: &str) -> Result<String, Fault> {
     let day = number.parse::<i128>().map_err(|_| Fault::BadFrame)?;
-    let mut text = NumberText::new();
-    Ok(String::from_str(alloc, text.literal(NumberType::Date, day))?)
+    Ok(String::from_str(alloc, date_shown(day).as_str())?)
 }
