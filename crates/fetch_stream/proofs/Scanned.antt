@@ -32,17 +32,11 @@ use Rattle.fetch_stream.specs.inside.GivenBatches.{GoesOn, GivesNext, GivesNoneY
 
 texts_as : (known : Layout) → IsOfType Utf8 known → IsTextLayout known
 texts_as (layout.Texts cells) is = tt
-texts_as (layout.Indices cells) is = absurd is
-texts_as (layout.Integers cells) is = absurd is
-texts_as (layout.Decimals cells) is = absurd is
-texts_as (layout.Bools cells) is = absurd is
+texts_as _ is = absurd is
 
 texts_by : (encoding : DictionaryEncoding) (known : Layout) → IsOfType (Dictionary encoding) known → IsTextLayout known
 texts_by encoding (layout.Indices cells) is = tt
-texts_by encoding (layout.Texts cells) is = absurd is
-texts_by encoding (layout.Integers cells) is = absurd is
-texts_by encoding (layout.Decimals cells) is = absurd is
-texts_by encoding (layout.Bools cells) is = absurd is
+texts_by encoding _ is = absurd is
 
 -- a column of a type can be answered as one
 of_type : (t : DataType) (column : ColumnAt) → IsOfType t column.layout → IsDressable t column

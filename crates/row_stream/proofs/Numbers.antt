@@ -76,10 +76,7 @@ all_numbered number (field ∷ fields) = (one_numbered number field.data_type, a
 
 texts_by : (encoding : DictionaryEncoding) (known : Layout) → IsOfType (Dictionary encoding) known → IsTextLayout known
 texts_by encoding (layout.Indices cells) is = tt
-texts_by encoding (layout.Texts cells) is = absurd is
-texts_by encoding (layout.Integers cells) is = absurd is
-texts_by encoding (layout.Decimals cells) is = absurd is
-texts_by encoding (layout.Bools cells) is = absurd is
+texts_by encoding _ is = absurd is
 
 one_dressable : (t : DataType) (column : ColumnAt) → IsOfType t column.layout → IsDressable t column
 one_dressable (Dictionary encoding) column is = texts_by encoding column.layout is
