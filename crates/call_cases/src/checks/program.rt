@@ -350,26 +350,32 @@ fn a_fault_before_a_failed_read(alloc: Global) -> Result<()> {
     Ok(())
 }
 
-// Each read fails in turn: of the input's pieces of 250 bytes the second ends the put, and the
-// third the fetch.
+// A read fails after so many: of the input's pieces of 250 bytes the second ends the put, and the
+// third the fetch. `whole` is what is written where none fails.
+fn a_failed_read(alloc: Global, bytes: &[u8], whole: &[u8], calls: u64) -> Result<()> {
+    let mut reader = MemoryInput::new(bytes)
+        .in_pieces_of(250)
+        .failing_after(calls);
+    let mut writer = MemoryOutput::new(alloc);
+    let mut faults = MemoryOutput::new(alloc);
+    let status = pipe_status(alloc, &mut reader, &mut writer, &mut faults);
+    let want = match calls {
+        0 | 1 => NOTHING,
+        2 => PUT_ANSWER,
+        _ => whole,
+    };
+    ensure!(writer.as_slice() == want);
+    ensure!(status == if calls < 4 { 3 } else { 0 });
+    ensure!(faults.as_slice() == if calls < 4 { TRANSPORT_LINE } else { NOTHING });
+    Ok(())
+}
+
+// Each read fails in turn.
 fn each_read(alloc: Global) -> Result<()> {
     let bytes = joined(alloc, &[PUT, FETCH])?;
     let (_, whole, _) = piped(alloc, &bytes, 250);
     for calls in 0..5u64 {
-        let mut reader = MemoryInput::new(&bytes)
-            .in_pieces_of(250)
-            .failing_after(calls);
-        let mut writer = MemoryOutput::new(alloc);
-        let mut faults = MemoryOutput::new(alloc);
-        let status = pipe_status(alloc, &mut reader, &mut writer, &mut faults);
-        let want = match calls {
-            0 | 1 => NOTHING,
-            2 => PUT_ANSWER,
-            _ => whole.as_slice(),
-        };
-        ensure!(writer.as_slice() == want);
-        ensure!(status == if calls < 4 { 3 } else { 0 });
-        ensure!(faults.as_slice() == if calls < 4 { TRANSPORT_LINE } else { NOTHING });
+        a_failed_read(alloc, &bytes, whole.as_slice(), calls)?;
     }
     Ok(())
 }
