@@ -6,7 +6,7 @@ use Rattle.std.specs.Prelude.{if◌then◌else◌}
 use Rattle.std.specs.Str.{byte}
 use Rattle.std.proofs.lemmas.List.{length-append}
 use Rattle.std.proofs.Math.Seq.{drop-append_seam, take-append_seam}
-use Rattle.scan_base.specs.declared.comparison.Comparison.TheVariants.{Equal, Less}
+use Rattle.scan_base.specs.declared.comparison.Comparison.TheVariants.{Equal}
 use Rattle.scan_base.specs.declared.fault.Fault.{Fault}
 use Rattle.scan_base.specs.declared.fault.Fault.TheVariants.{OutOfMemory, LimitReached, NotInSubset, BadSql}
 use Rattle.scan_base.specs.declared.predicate.Operand.{Operand}
@@ -376,12 +376,6 @@ quote_in_string : Means (codes "SELECT a FROM t WHERE a = 'it''s'")
     (Ok (filtered (comparing Equal a (literally (literals.Text (codes "it's"))))))
 unfolding answer
 quote_in_string = worked refl
-
--- a literal is what is written: 8766 is the day of this date
-before_1994 : Means (codes "SELECT a FROM t WHERE a < DATE '1994-01-01'")
-    (Ok (filtered (comparing Less a (literally (literals.Date (pos 8766))))))
-unfolding answer
-before_1994 = worked refl
 
 a_truth : Means (codes "SELECT a FROM t WHERE a = TRUE") (Ok (filtered (comparing Equal a (literally (literals.Truth true)))))
 unfolding answer
