@@ -13,10 +13,10 @@ pub(crate) fn type_named(word: &[u8]) -> Option<DataType>
         (λ data_type. word.now ≡ word_of data_type) }
     ensures plain { IfSome result (λ data_type. encoding_of data_type ≡ None) }
 {
-    if word == b"utf8" {
+    if word == b"utf8".as_slice() {
         return Some(DataType::Utf8);
     }
-    if word == b"bool" {
+    if word == b"bool".as_slice() {
         return Some(DataType::Bool);
     }
     match number_words::type_named(word) {

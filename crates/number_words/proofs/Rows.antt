@@ -10,7 +10,7 @@ use Rattle.arrow_types.specs.declared.data_type.NumberType.TheVariants.{Integer,
 use Rattle.sql_text.specs.Values.{number_of}
 use Rattle.number_words.specs.DateText.{date_of}
 use Rattle.number_words.specs.WholeNumbers.{kept_in}
-use Rattle.number_words.specs.NumberTexts.{form_of, literal, number_read, shown, worded}
+use Rattle.number_words.specs.NumberTexts.{form_of, literal_text, number_read, shown, worded}
 use Rattle.number_words.proofs.Texts.{texts_are_dates}
 
 -- ---- texts that are a date
@@ -94,14 +94,14 @@ number_shown = refl
 
 -- ---- literals
 
-pub row_literal : literal Date (pos 8766) ≡ codes "DATE '1994-01-01'"
+pub row_literal : literal_text Date (pos 8766) ≡ codes "DATE '1994-01-01'"
 row_literal = ap (worded (codes "DATE") (pos 8766)) row_form
 
-pub before_literal : literal Date (negsuc 719162) ≡ codes "DATE(-719163)"
+pub before_literal : literal_text Date (negsuc 719162) ≡ codes "DATE(-719163)"
 unfolding digits
 before_literal = ap (worded (codes "DATE") (negsuc 719162)) before_form
 
-number_literal : literal Decimal (pos 36893488147419103230) ≡ codes "36893488147419103230"
+number_literal : literal_text Decimal (pos 36893488147419103230) ≡ codes "36893488147419103230"
 unfolding digits
 number_literal = refl
 

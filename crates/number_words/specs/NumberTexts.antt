@@ -53,8 +53,8 @@ worded word number (Some form) = word ++ (codes " '" ++ (form ++ codes "'"))
 worded word number None = word ++ (codes "(" ++ (signed_decimal number ++ codes ")"))
 
 -- a number as a literal: as it is printed, or after the word of its type
-abbrev pub literal : NumberType → ℤ → List ℕ
-literal kind number =
+abbrev pub literal_text : NumberType → ℤ → List ℕ
+literal_text kind number =
     unwrap_or (option_map (λ word. worded word number (form_of kind number)) (keyword kind))
     (shown kind number)
 

@@ -2,7 +2,7 @@
 
 ghost use Rattle.std.specs.Prelude.{◌≡◌, ◌≤◌, ◌++◌, codes, length, option_map};
 ghost use Rattle.std.specs.Fmt.{signed_decimal};
-ghost use Rattle.number_words.specs.NumberTexts.{form_of, literal, shown, worded};
+ghost use Rattle.number_words.specs.NumberTexts.{form_of, literal_text, shown, worded};
 
 use crate::calendar::date_of;
 use crate::keyword;
@@ -42,7 +42,7 @@ impl NumberText {
     /// A number as a literal: as it is printed, or after the word of its type `DATE 'yyyy-mm-dd'`,
     /// and `DATE(n)` where the type has nothing in the place of its decimal.
     pub fn literal(&mut self, kind: NumberType, number: i128) -> &str
-        ensures { result.now ≡ literal kind number }
+        ensures { result.now ≡ literal_text kind number }
     {
         match keyword(kind) {
             Some(word) => self.literal.insert(worded(word, kind, number)).as_str(),
