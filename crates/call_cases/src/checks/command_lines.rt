@@ -132,7 +132,7 @@ static REFUSED: [(&'static str, &'static [u8]); 40] = [
     ("pipe -h", b"Serves one connection"),
     ("put --help", b"Puts an Arrow IPC stream or CSV"),
     ("query --help", b"Prints the rows"),
-    ("expire --help", b"Expires old versions"),
+    ("expire --help", b"Expires the versions below V"),
     (
         "pipe --version",
         b"error: unexpected argument '--version' found",
