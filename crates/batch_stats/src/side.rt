@@ -54,18 +54,4 @@ impl<'a> Side<'a> {
             },
         }
     }
-
-    /// One number.
-    pub fn of_number(number: i128) -> Side<'a>
-        ensures { side_at result ≡ stats_of (Int number ∷ []) }
-    {
-        let value = ValueRef::Int(number);
-        Side {
-            ends: Some(Ends {
-                least: value,
-                greatest: value,
-            }),
-            nulls: 0,
-        }
-    }
 }

@@ -17,7 +17,7 @@ use Rattle.arrow_types.specs.DataType.{cell_of}
 use Rattle.sql_text.specs.Values.{number_of}
 use Rattle.number_words.specs.DateText.{DayReadsBack}
 use Rattle.number_words.specs.WholeNumbers.{holds, kept_in, decimal_in}
-use Rattle.number_words.specs.NumberTexts.{ReadsBack}
+use Rattle.number_words.specs.NumberTexts.{ReadsBack, is_sayable}
 use Rattle.number_words.proofs.Parts.{both}
 
 own : IsNumeralModel (λ ds. list_all is_ascii_digit ds ≡ true) (digits_value 10)
@@ -51,4 +51,4 @@ kept cell number found held is = ap (kept_in cell) is ∙ ap (λ (b : Bool). if 
 pub reads_back : (kind : NumberType) (number : ℤ) → DayReadsBack number → ReadsBack kind number
 reads_back (Integer integer) number day fits = let parts = both _ _ fits in kept (cell_of (Integer integer)) number _ parts.0 (number_back number parts.1)
 reads_back Decimal number day fits = let parts = both _ _ fits in kept (cell_of Decimal) number _ parts.0 (number_back number parts.1)
-reads_back Date number day fits = let parts = both _ _ fits in rw parts.1 (kept (cell_of Date) number _ parts.0 (day parts.1))
+reads_back Date number day fits = let parts = both (holds (cell_of Date) number) (is_sayable Date number) fits in rw parts.1 (kept (cell_of Date) number _ parts.0 (day parts.1))

@@ -4,4 +4,4 @@ use Rattle.number_words.proofs.Back.{reads_back}
 use Rattle.number_words.proofs.laws.shown_reads_back.Goals as goal
 
 pub returns : goal.returns
-returns c = reads_back c.args.kind c.args.number (subst DayReadsBack (to_z-of_z c.ranges.number) c.date_of.ensures.reads_back)
+returns c = reads_back c.args.kind c.args.number (subst DayReadsBack (to_z-of_z c.ranges.number) c.date_of-date.ensures.reads_back)
