@@ -80,10 +80,10 @@ module _ {X : Type 0} (old new : X → Bool) (xs : List X) (i : ℕ) (x : X) (al
 -- the first type that takes all fields is found
 pub found_at : (kinds : List NumberType) (fields : List (List ℕ)) (k : ℕ) (d : NumberType) → k < length kinds → get_or (map (taken fields) kinds) k false ≡ true
     → ((j : ℕ) → j < k → get_or (map (taken fields) kinds) j false ≡ false) → Number (get_or kinds k d) ≡ number_found kinds fields
-found_at [] fields k d low yes none = absurd (omega (arith, low))
-found_at (kind ∷ kinds) fields zero d low yes none = rw yes refl
-found_at (kind ∷ kinds) fields (suc k) d low yes none =
-    rw (none 0 (omega arith)) (found_at kinds fields k d (omega (arith, low)) yes (λ j before. none (suc j) (omega (arith, before))))
+found_at [] fields k d low here none = absurd (omega (arith, low))
+found_at (kind ∷ kinds) fields zero d low here none = rw here refl
+found_at (kind ∷ kinds) fields (suc k) d low here none =
+    rw (none 0 (omega arith)) (found_at kinds fields k d (omega (arith, low)) here (λ j before. none (suc j) (omega (arith, before))))
 
 pub found_none : (kinds : List NumberType) (fields : List (List ℕ)) → ((k : ℕ) → k < length kinds → get_or (map (taken fields) kinds) k false ≡ false) → Utf8 ≡ number_found kinds fields
 found_none [] fields none = refl

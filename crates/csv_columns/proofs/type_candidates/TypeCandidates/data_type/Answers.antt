@@ -10,7 +10,7 @@ pub returns-in-Some-clause-found : goal.returns-in-Some-clause-found
 returns-in-Some-clause-found c fields seen =
     let off : takes_all Bool fields ≡ false = sym seen.flag ∙ c.if-self.false in
     let found = rw seen.numbers at c.in-Some.ensures in
-    rw off (found_at types_tried fields c.in-Some.place Decimal found.0 found.1.0 found.1.1)
+    rw off (found_at types_tried fields c.in-Some.place Decimal found.0 found.1 found.2)
 
 pub returns-in-None-clause-found : goal.returns-in-None-clause-found
 returns-in-None-clause-found c fields seen =

@@ -1,4 +1,5 @@
-use Rattle.std.proofs.Common.{◌<◌, ◌+◌, ◌∷◌, [], ◌++◌, length, get_or, map, refl, sym, ap, ◌∙◌, append-nil, arith}
+use Rattle.std.proofs.Common.{◌≡◌, ◌<◌, ◌∷◌, [], ◌++◌, ℕ, drop, length, get_or, map, subst, take, arith}
+use Rattle.std.proofs.lemmas.List.{get_or_default}
 use Rattle.arrow_types.specs.declared.data_type.DataType.TheVariants.{Number}
 use Rattle.arrow_types.specs.declared.data_type.NumberType.TheVariants.{Decimal}
 use Rattle.number_words.specs.NumberTexts.{types_tried}
@@ -12,9 +13,13 @@ loop-place-preserved c fields was =
     let kind = get_or types_tried place Decimal in
     let low : place < length types_tried = omega (arith, c.loop-place-test.true) in
     let so_far = c.loop-place.invariant fields was in
-    let here = tried_at (taken fields) (taken (fields ++ field ∷ [])) types_tried place kind c.loop-place.numbers low refl _ so_far in
-    one_tried (taken fields) (taken (fields ++ field ∷ [])) types_tried place kind c.loop-place.numbers low refl _ so_far
+    let is = get_or_default types_tried place Decimal kind low in
+    let here = tried_at (taken fields) (taken (fields ++ field ∷ [])) types_tried place kind c.loop-place.numbers low is _ so_far in
+    one_tried (taken fields) (taken (fields ++ field ∷ [])) types_tried place kind c.loop-place.numbers low is _ so_far
     (takes_more (Number kind) fields field _ _ c.still_takes.ensures here)
 
 pub returns : goal.returns
-returns c fields was = c.loop-place.invariant fields was
+returns c fields was =
+    let field = c.args.field.now in
+    let over : c.loop-place.place ≡ 3 = omega (arith, c.loop-place-test.false) in
+    subst (λ (n : ℕ). c.loop-place.numbers ≡ map (taken (fields ++ field ∷ [])) (take n types_tried) ++ map (taken fields) (drop n types_tried)) over (c.loop-place.invariant fields was)

@@ -5,5 +5,5 @@ use Rattle.csv_columns.proofs.type_candidates.TypeCandidates.numbers_with.Given 
 
 -- the types so far took one field more, and the others not yet
 abbrev pub invariant-loop-place : goal.invariant-loop-place
-invariant-loop-place l = (fields : List (List ℕ)) → l.self.numbers ≡ map (taken fields) types_tried
+invariant-loop-place l = (fields : List (List ℕ)) → l.fn.self.numbers ≡ map (taken fields) types_tried
     → l.numbers ≡ map (taken (fields ++ l.field ∷ [])) (take l.place types_tried) ++ map (taken fields) (drop l.place types_tried)
