@@ -1,3 +1,4 @@
+pub mod SameKeys
 pub mod Coded
 pub mod KeyCells
 pub mod Keys

@@ -1,5 +1,5 @@
 -- First rows of keys.
-use Rattle.std.specs.Prelude.{◌≡◌, ℕ, All, Bool, true, false, List}
+use Rattle.std.specs.Prelude.{◌≡◌, ℕ, All, Bool, true, false, List, map}
 use Rattle.std.specs.Borrow.{Bor}
 use Rattle.coded_keys.specs.declared.numbers.SeenNumbers.{SeenNumbers}
 use Rattle.coded_keys.specs.Numbers.{AreNumbers}
@@ -14,6 +14,11 @@ use Rattle.first_rows.specs.RowKeys.{key_of}
 pub record FirstRowsAt : Type 0 where
   pub keys : List RowKey
   pub texts : List (Bor (List ℕ))
+
+-- the first rows of keys that are found by their words, or else by their values
+abbrev pub held_firsts : Bool → List RowKey → List NumberedKey → List RowKey
+held_firsts true words rows = words
+held_firsts false words rows = map first_of rows
 
 -- the long texts of a key have the number that stands with it, or no text has one
 abbrev pub HasNumber : Bool → TextNumbers → RowKey → ℕ → Type 0

@@ -4,3 +4,4 @@ pub mod NumberedKeys
 pub mod Numbers
 pub mod Parts
 pub mod RowKeys
+pub mod WordRows

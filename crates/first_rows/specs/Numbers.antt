@@ -65,6 +65,11 @@ pub record Stay (before after : TextNumbers) : Type 0 where
   pub pairs : (earlier text place : ℕ) → pair_place before.pairs.keys earlier text ≡ Some place →
       pair_place after.pairs.keys earlier text ≡ Some place
 
+-- texts that have a number keep it
+abbrev pub StayNumbered : List (Bor (List ℕ)) → List (Bor (List ℕ)) → Type 0
+StayNumbered before after = (value : Value) (number : ℕ) →
+    text_number before value ≡ Some number → text_number after value ≡ Some number
+
 -- the numbers that were kept of rows of a batch are those of their texts
 abbrev pub AreSeen : TextNumbers → BatchAt → List ℕ → SeenNumbers → Type 0
 AreSeen numbers batch columns seen =

@@ -7,6 +7,8 @@ pub mod firsts;
 pub mod key;
 mod numbered_keys;
 mod texts;
+pub mod word_rows;
 
 pub use crate::firsts::FirstRows;
 pub use crate::key::RowKey;
+pub use crate::word_rows::KeyedRows;

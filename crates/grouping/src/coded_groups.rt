@@ -1,6 +1,7 @@
 //! Groups of rows by the codes of their keys.
 
-ghost use Rattle.std.specs.Prelude.{◌≡◌, ◌<◌, All, IfOk, IfSome, IsTrue, OnOk, get_or, length, map};
+ghost use Rattle.std.specs.Prelude.{◌≡◌, ◌<◌, All, IfOk, IfSome, IsTrue, List, OnOk, get_or};
+ghost use Rattle.std.specs.Prelude.{length, map};
 ghost use Rattle.std.specs.Prelude.{nat_lt};
 ghost use Rattle.std.specs.List.{list_all};
 ghost use Rattle.indexmap.specs.IndexSet.{insert_key};
@@ -8,14 +9,15 @@ ghost use Rattle.arrays.specs.Batch.{row_of};
 ghost use Rattle.first_rows.specs.Firsts.{FitSeen};
 ghost use Rattle.grouping.specs.FoundKeys.{found_then, place_in};
 ghost use Rattle.grouping.specs.inside.Knowing.{StayKnown};
-ghost use Rattle.grouping.specs.inside.Placing.{found_by, ArePlaced, FirstsStay};
+ghost use Rattle.first_rows.specs.declared.key.RowKey.{RowKey as RowKeyAt};
+ghost use Rattle.grouping.specs.inside.Placing.{found_by, ArePlaced, FirstsStay, IsFinding};
 ghost use Rattle.grouping.specs.inside.Seeing.{AreSeenOf};
 ghost use Rattle.first_rows.specs.RowKeys.{key_of, same_first};
 
 use crate::known_keys::short;
-use crate::table::{ChosenRows, groups_one_by_one};
+use crate::table::ChosenRows;
 use coded_keys::{KeyRows, SeenNumbers, SeenRows};
-use first_rows::{FirstRows, RowKey};
+use first_rows::{FirstRows, KeyedRows, RowKey};
 use std::alloc::{AllocError, Global};
 
 /// The group of each of these rows, by the first rows of the groups; without columns there is one
@@ -80,8 +82,8 @@ pub(crate) fn groups_unseen<'t>(
     groups_by_codes(alloc, firsts, &mut seen, chosen)
 }
 
-// The group of each of these rows, by the first rows. Where a column of the key has indices into a
-// dictionary, a row with the codes of an earlier one has its group, and no text is looked at again.
+// The group of each of these rows, by the first rows: by the words of their keys, as far as they
+// have words.
 fn groups_by_codes<'t>(
     alloc: Global,
     firsts: &mut FirstRows<'t>,
@@ -103,18 +105,49 @@ fn groups_by_codes<'t>(
     ensures seen { OnOk result
         (AreSeenOf firsts.new.texts chosen.now.batch.now chosen.now.columns.now numbers.new) }
 {
+    let mut groups = Vec::with_capacity(alloc, chosen.rows.len())?;
+    let keyed = KeyedRows {
+        number: chosen.number,
+        batch: chosen.batch,
+        columns: chosen.columns,
+        rows: chosen.rows,
+    };
+    firsts.place(alloc, &keyed, &mut groups)?;
+    if groups.len() < chosen.rows.len() {
+        groups_by_values(alloc, firsts, numbers, chosen, &mut groups)?;
+    }
+    Ok(groups)
+}
+
+// The groups of the other of these rows, after those of the first of them, by the first rows. Where
+// a column of the key has indices into a dictionary, a row with the codes of an earlier one has its
+// group, and no text is looked at again.
+fn groups_by_values<'t>(
+    alloc: Global,
+    firsts: &mut FirstRows<'t>,
+    numbers: &mut SeenNumbers,
+    chosen: &ChosenRows<'t, '_>,
+    groups: &mut Vec<u32>,
+) -> Result<(), AllocError>
+    requires there { IsTrue (list_all
+        (λ column. nat_lt column (length chosen.now.batch.now.columns)) chosen.now.columns.now) }
+    requires within { All (λ row. row < chosen.now.batch.now.rows) chosen.now.rows.now }
+    requires seen { AreSeenOf firsts.old.texts chosen.now.batch.now chosen.now.columns.now
+        numbers.old }
+    ensures found { OnOk result ((before : List RowKeyAt) →
+        IsFinding chosen.now before (length groups.old.items) firsts.old.keys groups.old.items →
+        IsFinding chosen.now before (length chosen.now.rows.now) firsts.new.keys
+        groups.new.items) }
+    ensures seen { OnOk result
+        (AreSeenOf firsts.new.texts chosen.now.batch.now chosen.now.columns.now numbers.new) }
+{
     let keys = KeyRows {
         batch: chosen.batch,
         columns: chosen.columns,
         rows: chosen.rows,
     };
-    if !keys.has_codes() {
-        numbers.forget();
-        return groups_one_by_one(alloc, firsts, chosen);
-    }
     let mut seen = SeenRows::new(alloc, firsts.seed(), chosen.rows.len())?;
-    let mut groups = Vec::with_capacity(alloc, chosen.rows.len())?;
-    for place in 0..chosen.rows.len() {
+    for place in groups.len()..chosen.rows.len() {
         let first = RowKey {
             number: chosen.number,
             batch: chosen.batch,
@@ -125,7 +158,7 @@ fn groups_by_codes<'t>(
         let known = told(groups.as_slice(), earlier);
         groups.push(coded_group(firsts, numbers, known, first)?)?;
     }
-    Ok(groups)
+    Ok(())
 }
 
 // The group of an earlier row, where it is known.

@@ -1,13 +1,14 @@
 //! What is kept of the rows that were fed.
 
 ghost use Rattle.std.specs.Prelude.{◌≡◌, ◌≤◌, ◌<◌, ◌+◌, All, IfOk, IsTrue, ℕ, [], List, OnOk};
-ghost use Rattle.std.specs.Prelude.{length, map, nat_lt};
+ghost use Rattle.std.specs.Prelude.{◌-◌, ◌∷◌, length, map, nat_lt};
 ghost use Rattle.std.specs.List.{list_all};
 ghost use Rattle.scan_base.specs.Limits.{most_rows};
 ghost use Rattle.scan_base.specs.declared.value.Value.{Value as Cell};
 ghost use Rattle.arrays.specs.Batch.{row_of};
 ghost use Rattle.group_slots.specs.Adding.{CanCountAll, IsKept, lists_of};
 ghost use Rattle.group_slots.specs.HeldTallies.{tallies_in, AreBlank};
+ghost use Rattle.group_slots.specs.RowSpans.{IsSpan, span_rows};
 ghost use Rattle.group_slots.specs.TaggedValues.{value_tagged};
 ghost use Rattle.grouping.specs.FoundKeys.{found_then};
 ghost use Rattle.first_rows.specs.RowKeys.{key_of};
@@ -24,7 +25,7 @@ use crate::other_groups::{OtherGroups, join_all};
 use crate::seen_batch::SeenBatch;
 use crate::table::{ChosenRows, groups_of};
 use first_rows::FirstRows;
-use group_slots::{ItemTallies, RowGroups, add_all};
+use group_slots::{ItemTallies, RowGroups, RowSpan, add_all, add_span};
 use std::alloc::{AllocError, Global};
 use typed_plan::Aggregate;
 use work_watch::Watches;
@@ -34,6 +35,9 @@ const LEAST_ROWS: usize = 16;
 
 // Of fewer groups keys are known even where each row opens one.
 const LEAST_GROUPS: usize = 256;
+
+// Of more groups keys are found by their words.
+const MOST_KNOWN: usize = 4_096;
 
 /// The first row of each group, for each item the tally of each group, how many rows were fed,
 /// which keys are known by a number, and which long texts of keys were seen in the last batch.
@@ -96,9 +100,9 @@ pub(crate) fn add<'t>(
     Ok(())
 }
 
-// The group of each of these rows, by what is known of keys. Where the key is not one column, or
-// most rows opened a group, that is left aside. Then a long text that was seen in the batch is not
-// looked at.
+// The group of each of these rows, by what is known of keys. Where the key is not one column, most
+// rows opened a group, or there are many groups, that is left aside. Then a long text that was seen
+// in the batch is not looked at.
 fn place_kept<'t>(
     alloc: Global,
     kept: &mut GroupState<'t>,
@@ -127,7 +131,7 @@ fn place_kept<'t>(
 {
     let found = kept.firsts.len();
     let is_new_mostly = found > LEAST_GROUPS && kept.count / 2 < found;
-    if chosen.columns.len() != 1 || is_new_mostly {
+    if chosen.columns.len() != 1 || is_new_mostly || found > MOST_KNOWN {
         return place_by_codes(alloc, &mut kept.firsts, &mut kept.seen.numbers, chosen);
     }
     kept.seen.numbers.forget();
@@ -149,6 +153,38 @@ fn make_known(known: &mut Vec<KnownKey>, found: usize, rows: usize) -> Result<()
 }
 
 impl<'t> GroupState<'t> {
+    /// Feeds rows that stand next to each other to the only group.
+    ///
+    /// # Errors
+    ///
+    /// `AllocError` where memory is refused.
+    pub(crate) fn add_span(
+        &mut self,
+        items: &[Aggregate],
+        span: &RowSpan<'_>,
+    ) -> Result<(), AllocError>
+        requires there { CanCountAll items.now span.now.batch.now.columns }
+        requires span { IsSpan span.now }
+        requires fed { span.now.fed ≡ self.old.count }
+        requires few { self.old.count + (span.now.to - span.now.from) ≤ most_rows }
+        requires kept { IsKept items.now 1 self.old.count (lists_of self.old.tallies.items) }
+        ensures grown { OnOk result
+            (IsGrown items.now span.now.batch.now.columns [] (span_rows span.now) ([] ∷ [])
+            ([] ∷ []) self.old.count (lists_of self.old.tallies.items)
+            (lists_of self.new.tallies.items)) }
+        ensures count { OnOk result
+            (self.new.count ≡ self.old.count + (span.now.to - span.now.from)) }
+        ensures kept { OnOk result
+            (IsKept items.now 1 self.new.count (lists_of self.new.tallies.items)) }
+        ensures firsts { self.new.firsts ≡ self.old.firsts }
+        ensures known { self.new.known ≡ self.old.known }
+        ensures seen { self.new.seen ≡ self.old.seen }
+    {
+        add_span(self.tallies.as_mut_slice(), items, span)?;
+        self.count += span.to - span.from;
+        Ok(())
+    }
+
     /// Takes in what is kept of other rows: each group joins that of its key, or stands last. Who
     /// watches may end it.
     ///

@@ -77,7 +77,7 @@ pub(crate) fn groups_of<'t>(
             groups_by(alloc, firsts, known, &text_tags(column, cells), chosen)
         }
         _ => {
-            let groups = groups_one_by_one(alloc, firsts, chosen)?;
+            let groups = groups_unseen(alloc, firsts, chosen)?;
             Ok(groups)
         }
     }
@@ -115,7 +115,7 @@ fn groups_of_numbers<'t>(
         IntegerType::UInt16 => groups_of_kind::<u16>(alloc, firsts, known, slots, chosen),
         IntegerType::UInt32 => groups_of_kind::<u32>(alloc, firsts, known, slots, chosen),
         IntegerType::UInt64 => {
-            let groups = groups_one_by_one(alloc, firsts, chosen)?;
+            let groups = groups_unseen(alloc, firsts, chosen)?;
             Ok(groups)
         }
     }
@@ -266,40 +266,6 @@ fn groups_by<'t, T: Tags>(
         };
         groups.push(known_group(firsts, known, tags, first, chosen.spread)?)?;
         push_known(known, tags, chosen, &mut groups)?;
-    }
-    Ok(groups)
-}
-
-/// The group of each of these rows, by the first rows alone.
-///
-/// # Errors
-///
-/// `AllocError` where memory is refused.
-pub(crate) fn groups_one_by_one<'t>(
-    alloc: Global,
-    firsts: &mut FirstRows<'t>,
-    chosen: &ChosenRows<'t, '_>,
-) -> Result<Vec<u32>, AllocError>
-    requires there { IsTrue (list_all
-        (λ column. nat_lt column (length chosen.now.batch.now.columns)) chosen.now.columns.now) }
-    requires within { All (λ row. row < chosen.now.batch.now.rows) chosen.now.rows.now }
-    ensures found { OnOk result (map key_of firsts.new.keys
-        ≡ found_then chosen.now.columns.now (map key_of firsts.old.keys)
-        (map (row_of chosen.now.batch.now.columns) chosen.now.rows.now)) }
-    ensures placed { IfOk result
-        (λ groups. ArePlaced chosen.now.columns.now chosen.now.batch.now.columns (map key_of
-        firsts.new.keys) chosen.now.rows.now groups.items (length chosen.now.rows.now)) }
-    ensures firsts { OnOk result (FirstsStay chosen.now firsts.old.keys firsts.new.keys) }
-{
-    let mut groups = Vec::with_capacity(alloc, chosen.rows.len())?;
-    for row in chosen.rows {
-        let first = RowKey {
-            number: chosen.number,
-            batch: chosen.batch,
-            columns: chosen.columns,
-            row: *row,
-        };
-        groups.push(short_group(firsts, first)?)?;
     }
     Ok(groups)
 }
