@@ -2,7 +2,9 @@
 
 from __future__ import annotations
 
+import copy
 import datetime
+import functools
 import json
 import pathlib
 from decimal import Decimal
@@ -67,6 +69,7 @@ class Answers:
         return "rows " + json.dumps(rows)
 
 
+@functools.cache
 def stored(name: str) -> tuple[bytes, bytes]:
     body = ARROW / f"{name}.body"
     return (ARROW / f"{name}.header").read_bytes(), body.read_bytes() if body.exists() else b""
@@ -90,17 +93,20 @@ def changed_bytes(run: Run) -> str:
     dictionaries = [f"all_dictionary_{number}" for number in range(10, 18)]
     for name, before in (("schema_all", []), ("all_batch_flatc", ["schema_all", *dictionaries]),
                          ("all_delta_10", ["schema_all", *dictionaries])):
-        parts = stored(name)
-        for _ in range(600):
+        parts, first_reader, first_second = stored(name), Answers(), Reader()
+        for one in before:
+            first_reader.answer(*stored(one))
+            first_second.message(*stored(one))
+        for _ in range(400):
             which, place = int(random.random() < 0.3 and len(parts[1]) > 0), int(random.integers(0, 2**31))
             place %= len(parts[which])
             rest = parts[which][place + 1 :] if random.random() < 0.9 else b""
             changed = list(parts)
             changed[which] = parts[which][:place] + random.bytes(1) + rest
-            answers, second = Answers(), Reader()
-            for one in before:
-                answers.answer(*stored(one))
-                second.message(*stored(one))
+            answers, second = copy.copy(first_reader), copy.copy(first_second)
+            answers.reader = copy.copy(first_reader.reader)
+            for reader in (answers.reader, second):
+                reader.dictionaries = dict(reader.dictionaries)
             try:
                 wanted = second.message(*changed)
             except Fault as fault:

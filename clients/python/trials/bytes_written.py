@@ -20,6 +20,7 @@ from trials.bytes_read import schema_said
 from trials.cases import Run, case, refused, trips
 
 EPOCH = datetime.date(1970, 1, 1)
+SPELLED = "id:int64, town:utf8?, day:date?, large:decimal?, small:int8?, great:uint64, paid:bool?, km:int32?"
 
 
 def told(put: Put) -> tuple[Reader, list[int], list[bytes]]:
@@ -56,9 +57,6 @@ def written_rows(run: Run) -> str:
         same("the rows of the batches", [min(room, length - first) for first in range(0, length, room)], batches)
         count += length
     return f"{count} rows"
-
-
-SPELLED = "id:int64, town:utf8?, day:date?, large:decimal?, small:int8?, great:uint64, paid:bool?, km:int32?"
 
 
 @case("a schema of every type, with dictionaries of every index, is read as it was meant")

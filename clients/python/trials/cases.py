@@ -77,12 +77,12 @@ def wanted_package(name: str) -> Any:
         raise PassedOver(name) from None
 
 
-def refused(what: str, kind: type[flightscan.Error], text: str, call: Callable[[], object]) -> flightscan.Error:
+def refused(what: str, kind: type[flightscan.Error] | None, text: str, call: Callable[[], object]) -> flightscan.Error:
     """A call must be refused by this kind of exception, with a text that begins so."""
     try:
         given = call()
     except flightscan.Error as failed:
-        same(f"the exception of {what}", kind.__name__, type(failed).__name__)
+        same(f"the exception of {what}", kind.__name__ if kind else type(failed).__name__, type(failed).__name__)
         same(f"the text of {what}", text, failed.text[: len(text)])
         return failed
     raise Difference(f"{what} was not refused: it gave {given!r}")

@@ -1,0 +1,62 @@
+"""The same client over gRPC, through the gateway."""
+
+from __future__ import annotations
+
+from typing import Any
+
+import flightscan
+import numpy as np
+from random_calls.answers import same
+
+from trials.bytes_written import plain_columns
+from trials.calls import plain_rows
+from trials.cases import Run, case, refused, trips, wanted_package
+
+
+@case("over gRPC: rows come back, refusals have the server's text, a source that fails puts nothing, a fetch can be left")
+def over_grpc(run: Run) -> str:
+    grpc = wanted_package("grpc")
+    from tested.running import Gateway
+
+    with run.serving("--parts", "4", "--seats", "8") as server, Gateway(server.port, "--seats", "4") as gateway:
+        with flightscan.connect(f"grpc://127.0.0.1:{gateway.port}") as connection:
+            columns = trips(100_000)
+            same("the rows of a put", 100_000, connection.put("t", columns))
+            info = connection.info("SELECT * FROM t")
+            same("the endpoints", (4, 1), (len(info.endpoints), info.version))
+            same("the rows", plain_columns(columns), plain_rows(connection.read_all(info, streams=4)))
+            same("the tables", ["t"], connection.tables())
+            same("a floor", 1, connection.expire(1))
+            for query, kind, text, code in (
+                    ("SELECT a, FROM t", flightscan.ProgrammingError, "F13 BadSql at byte 10", 3),
+                    ("SELECT id FROM u", flightscan.ProgrammingError, "F9 TableMissing", 5)):
+                failed = refused(query, kind, text, lambda query=query: connection.info(query))
+                same("the code", code, failed.code)
+            refused("a table that is there", flightscan.IntegrityError, "F10 TableExists", lambda: connection.put("t", {"a": [1]}))
+            look_at_failing_sources(connection)
+            stream = connection.stream(info.endpoints[0])
+            next(stream)
+            stream.close()
+            same("the next call", 100_000, int(connection.query("SELECT COUNT(*) FROM t").rows()[0][0]))
+            cursor = connection.cursor().execute("SELECT id FROM t WHERE id < 3")
+            same("a cursor", [(0,), (1,), (2,)], cursor.fetchall())
+        with flightscan.connect("grpc://127.0.0.1:1", timeout=5) as nobody:
+            refused("without a gateway", flightscan.OperationalError, "", nobody.tables)
+        same("what the gateway printed", b"", gateway.said())
+    return f"grpcio {grpc.__version__}"
+
+
+def look_at_failing_sources(connection: flightscan.Connection) -> None:
+    def parts() -> Any:
+        yield {"a": np.arange(200_000)}
+        raise KeyError("the source")
+
+    for _ in range(5):
+        try:
+            connection.put("failing", parts())
+        except KeyError:
+            pass
+        else:
+            same("the source's own exception is raised", True, False)
+    refused("a null", flightscan.DataError, "column a: a null", lambda: connection.put("failing", [{"a": [None]}], schema="a:int8"))
+    same("nothing was put", ["t"], connection.tables())
