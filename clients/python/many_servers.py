@@ -1,7 +1,8 @@
 #!/usr/bin/python3
 """Four servers and a Dask cluster of four workers on one machine, next to one server that holds all rows.
 
-    /usr/bin/python3 clients/python/many_servers.py [--rows N] [--servers S] [--workers W] [--parts P] [--turns T] [--program PATH]
+    /usr/bin/python3 clients/python/many_servers.py [--rows N] [--servers S] [--workers W] [--parts P] [--turns T]
+                                                    [--program PATH]
 
 The rows follow from their numbers by numpy, so each row that comes is looked at by its number, and each must come once. They
 are spread over the servers, and the one server has them in as few tables as hold them. Then, in order:
@@ -19,6 +20,7 @@ something only on a machine that does nothing else.
 from __future__ import annotations
 
 import argparse
+import logging
 import pathlib
 import sys
 import threading
@@ -30,7 +32,7 @@ from typing import Any
 sys.dont_write_bytecode = True
 HERE = pathlib.Path(__file__).resolve().parent
 ROOT = HERE.parent.parent
-PATHS = [str(HERE), str(ROOT / "scripts"), str(ROOT / "vectors/arrow"), str(ROOT / "vectors/flight"), str(ROOT / "vectors/queries")]
+PATHS = [str(HERE), str(ROOT / "scripts"), *(str(ROOT / "vectors" / folder) for folder in ("arrow", "flight", "queries"))]
 sys.path += PATHS
 
 import distributed  # noqa: E402
@@ -122,6 +124,10 @@ class Drive:
         """The tables of the one server."""
         return [f"rides_{first // ROWS_OF_A_TABLE}" for first in range(0, self.words.rows, ROWS_OF_A_TABLE)]
 
+    def seconds_worked(self) -> float:
+        """The processor time of the servers so far."""
+        return sum(server.seconds_worked() for server in self.servers)
+
     def ids(self, place: int) -> Any:
         """The numbers of the rows of one server."""
         return np.arange(place, self.words.rows, len(self.servers), dtype=np.int64)
@@ -197,20 +203,20 @@ def timed(drive: Drive, workers: int) -> float:
         client.run(sys.path.extend, PATHS)
         turns = []
         for _ in range(drive.words.turns):
-            at_servers, at_workers, began = sum(one.seconds_worked() for one in drive.servers), processor_seconds(client), time.time()
+            at_servers, at_workers, began = drive.seconds_worked(), processor_seconds(client), time.time()
             same("the rows and the sums", wanted, summed(drive))
-            turns.append((time.time() - began, sum(one.seconds_worked() for one in drive.servers) - at_servers,
-                          processor_seconds(client) - at_workers))
+            seconds = time.time() - began
+            turns.append((seconds, drive.seconds_worked() - at_servers, processor_seconds(client) - at_workers))
     seconds, at_servers, at_workers = min(turns)
     rate = len(ids) / seconds
-    print(f"SELECT by {workers} workers: {seconds:.2f} s, {rate / 1e6:.1f} million rows a second; processor seconds of the servers "
-          f"{at_servers:.2f}, of the workers {at_workers:.2f}", flush=True)
+    print(f"SELECT by {workers} workers: {seconds:.2f} s, {rate / 1e6:.1f} million rows a second; processor seconds of the "
+          f"servers {at_servers:.2f}, of the workers {at_workers:.2f}", flush=True)
     return rate
 
 
 def cluster_of(workers: int) -> distributed.LocalCluster:
     return distributed.LocalCluster(n_workers=workers, threads_per_worker=1, processes=True, dashboard_address=None,
-                                    memory_limit=0)
+                                    memory_limit=0, silence_logs=logging.ERROR)
 
 
 def look_at_parts(infos: several.Infos, step: int) -> list[tuple[int, int, int]]:
@@ -237,8 +243,10 @@ def look_at_all(drive: Drive) -> None:
     runs = joined_runs(look_at_parts(several.ask(ALL, drive.addresses), len(drive.servers)))
     same("the rows of all servers, each once", [(place, len(drive.ids(place))) for place in range(len(drive.servers))], runs)
     whole = [f"127.0.0.1:{drive.whole.port}"]
-    runs = [run for table in drive.tables for run in joined_runs(look_at_parts(several.ask(ALL.replace("rides", table), whole), 1))]
-    same("the rows of the one server", drive.words.rows, sum(count for _, count in runs))
+    runs = []
+    for table in drive.tables:
+        runs += look_at_parts(several.ask(ALL.replace("rides", table), whole), 1)
+    same("the rows of the one server, each once", [(0, drive.words.rows)], joined_runs(runs))
     groups = as_dictionary(several.grouped(GROUPS.format("rides"), drive.addresses))
     same("groups", groups_of(np.arange(drive.words.rows, dtype=np.int64)), groups)
     same("groups of the one server", groups, groups_of_the_one(drive, drive.tables, ""))

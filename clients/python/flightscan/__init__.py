@@ -15,7 +15,8 @@ It needs numpy. pandas, pyarrow and grpcio are used where they are asked for. `f
 
 from .client import Connection, Stream, connect
 from .columns import Categories, Column, Days, Decimals, Integers, Texts, Truths
-from .dbapi import BINARY, DATETIME, NUMBER_GROUP, ROWID, STRING, Cursor, Date, DateFromTicks, apilevel, paramstyle, threadsafety
+from .dbapi import (BINARY, DATETIME, NUMBER_GROUP, ROWID, STRING, Binary, Cursor, Date, DateFromTicks, Time, TimeFromTicks,
+                    Timestamp, TimestampFromTicks, apilevel, paramstyle, threadsafety)
 from .errors import (DatabaseError, DataError, Error, IntegrityError, InterfaceError, InternalError, NotSupportedError,
                      OperationalError, ProgrammingError, Warning)
 from .messages import Endpoint, Info
@@ -26,9 +27,10 @@ from .tables import JoinedColumn, Table
 NUMBER = NUMBER_GROUP
 
 __all__ = [
-    "BINARY", "DATETIME", "NUMBER", "ROWID", "STRING", "Batch", "Categories", "Column", "Connection", "Cursor", "DataError",
+    "BINARY", "DATETIME", "NUMBER", "ROWID", "STRING", "Batch", "Binary", "Categories", "Column", "Connection", "Cursor", "DataError",
     "DataType", "DatabaseError", "Date", "DateFromTicks", "Days", "Decimals", "Endpoint", "Error", "Field", "Info", "Integers",
     "IntegrityError", "InterfaceError", "InternalError", "JoinedColumn", "MessageReader", "NotSupportedError", "OperationalError",
-    "ProgrammingError", "Schema", "Stream", "Table", "Texts", "Truths", "Warning", "apilevel", "connect", "paramstyle",
+    "ProgrammingError", "Schema", "Stream", "Table", "Texts", "Time", "TimeFromTicks", "Timestamp", "TimestampFromTicks", "Truths",
+    "Warning", "apilevel", "connect", "paramstyle",
     "threadsafety",
 ]

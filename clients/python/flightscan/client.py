@@ -44,10 +44,15 @@ class Stream:
         self.schema: Schema = self.reader.schema
 
     def next_batch(self) -> Batch | None:
-        for message in self.messages:
-            found = self.reader.read(content(message, DATA_HEADER), content(message, DATA_BODY))
-            if isinstance(found, Batch):
-                return found
+        try:
+            for message in self.messages:
+                found = self.reader.read(content(message, DATA_HEADER), content(message, DATA_BODY))
+                if isinstance(found, Batch):
+                    return found
+        except errors.Error as failed:
+            self.close()
+            failed.server = self.server
+            raise
         return None
 
     def __iter__(self) -> Iterator[Batch]:

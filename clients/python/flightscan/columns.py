@@ -171,7 +171,8 @@ class Categories(Slots):
     A value of the dictionary may be null, and then so is a slot with its index.
     """
 
-    def __init__(self, field: Field, length: int, nulls: int, validity: memoryview, data: memoryview, dictionary: list[str | None]):
+    def __init__(self, field: Field, length: int, nulls: int, validity: memoryview, data: memoryview,
+                 dictionary: list[str | None]):
         super().__init__(field, length, nulls, validity, data)
         self.categories = dictionary
 

@@ -20,7 +20,7 @@ from dask.dataframe.utils import clear_known_categories
 
 from .client import SECONDS, connect
 from .columns import Array, Decimals
-from .errors import Error, InterfaceError, OperationalError, fault
+from .errors import InterfaceError, OperationalError, fault
 from .frames import frame_of, values_of_frame
 from .literals import aggregate, column_named, group_columns, select_items
 from .messages import Endpoint, Info
@@ -239,12 +239,13 @@ def schema_of_frame(frame: pandas.DataFrame) -> Schema:
     return wide(schema_of(values_of_frame(frame, None)))
 
 
-def put_pieces(server: Address, table: str, pieces: Sequence[pandas.DataFrame], mode: str, schema: Schema | str) -> int | Exception:
+def put_pieces(server: Address, table: str, pieces: Sequence[pandas.DataFrame], mode: str,
+               schema: Schema | str) -> int | Exception:
     """One server's put. What refuses it is given, so that what the others made is known."""
     try:
         with connect(server) as connection:
             return connection.put(table, pieces, mode, schema)
-    except Error as failed:
+    except Exception as failed:  # noqa: BLE001 (it is told with what the others made)
         return failed
 
 

@@ -3,7 +3,6 @@
 from __future__ import annotations
 
 import datetime
-import time
 from collections.abc import Iterator, Sequence
 from typing import TYPE_CHECKING, Any
 
@@ -34,11 +33,12 @@ STRING = TypeGroup({TEXT.name, "dictionary"})
 NUMBER_GROUP = TypeGroup({*INTEGERS, NUMBER.name, TRUTH.name})
 DATETIME = TypeGroup({DAY.name})
 BINARY, ROWID = TypeGroup(), TypeGroup()
-Date = datetime.date
+Date, Time, Timestamp, Binary = datetime.date, datetime.time, datetime.datetime, bytes
+DateFromTicks, TimestampFromTicks = datetime.date.fromtimestamp, datetime.datetime.fromtimestamp
 
 
-def DateFromTicks(ticks: float) -> datetime.date:  # noqa: N802 (DB-API has this name)
-    return datetime.date(*time.localtime(ticks)[:3])
+def TimeFromTicks(ticks: float) -> datetime.time:  # noqa: N802 (DB-API has this name)
+    return datetime.datetime.fromtimestamp(ticks).time()
 
 
 def described(field: Field) -> Description:

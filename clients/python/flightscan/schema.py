@@ -49,11 +49,8 @@ class DataType:
         return self.name
 
 
-INTEGERS = {
-    f"{'' if kind == 'i' else 'u'}int{size * 8}": DataType(f"{'' if kind == 'i' else 'u'}int{size * 8}", np.dtype(f"<{kind}{size}"))
-    for kind in "iu"
-    for size in (1, 2, 4, 8)
-}
+INTEGER_DTYPES = [np.dtype(f"<{kind}{size}") for kind in "iu" for size in (1, 2, 4, 8)]
+INTEGERS = {dtype.name: DataType(dtype.name, dtype) for dtype in INTEGER_DTYPES}
 TEXT, TRUTH = DataType("utf8"), DataType("bool")
 DAY, NUMBER = DataType("date", np.dtype("<i4")), DataType("decimal", SLOT_OF_A_DECIMAL)
 NAMED = {**INTEGERS, **{one.name: one for one in (TEXT, TRUTH, DAY, NUMBER)}}

@@ -14,6 +14,7 @@ from .schema import DICTIONARY_BATCH, RECORD_BATCH, SCHEMA, TEXT, TRUTH, Field, 
 MOST_VALUES = 16_777_216  # of a dictionary
 DICTIONARY = Schema((Field("dictionary", TEXT),))
 Pairs = list[tuple[int, int]]
+Dictionaries = dict[int, list[str | None]]
 
 
 @dataclass(frozen=True)
@@ -64,7 +65,7 @@ class Parts:
             raise fault(8, f"a buffer of {size} bytes at {begin} in a body of {len(self.body)}")
         return self.body[begin : begin + size]
 
-    def columns(self, schema: Schema, dictionaries: dict[int, list[str | None]]) -> Iterator[Column]:
+    def columns(self, schema: Schema, dictionaries: Dictionaries) -> Iterator[Column]:
         counts = [3 if field.type == TEXT else 2 for field in schema]
         if len(self.nodes) != len(schema) or len(self.buffers) != sum(counts):
             raise fault(8, f"{len(self.nodes)} nodes and {len(self.buffers)} buffers for the columns {schema}")
@@ -76,7 +77,7 @@ class Parts:
             yield self.column(field, node[1], buffers, dictionaries)
             first += count
 
-    def column(self, field: Field, nulls: int, buffers: Sequence[memoryview], dictionaries: dict[int, list[str | None]]) -> Column:
+    def column(self, field: Field, nulls: int, buffers: Sequence[memoryview], dictionaries: Dictionaries) -> Column:
         self.look_at_room(field, nulls, buffers)
         if field.type.is_dictionary:
             values = dictionaries.get(field.dictionary or 0, [])
@@ -108,7 +109,7 @@ class MessageReader:
 
     def __init__(self) -> None:
         self.schema: Schema | None = None
-        self.dictionaries: dict[int, list[str | None]] = {}
+        self.dictionaries: Dictionaries = {}
 
     def read(self, header: memoryview, body: memoryview) -> Schema | Batch | None:
         """What a message says: the schema, a batch, or nothing yet for a dictionary."""

@@ -99,10 +99,12 @@ def trips(count: int, seed: int = 1) -> dict[str, Any]:
     """Columns of every type, with nulls and extreme values, by numpy."""
     random = np.random.default_rng(seed)
     nulls = [random.random(count) < share for share in (0.1, 0.3, 0.05, 0.2, 0.5, 0.1)]
-    texts = np.array([None if null else TOWNS[place] for null, place in zip(nulls[0], random.integers(0, len(TOWNS), count))], object)
+    places = random.integers(0, len(TOWNS), count)
+    texts = np.array([None if null else TOWNS[place] for null, place in zip(nulls[0], places)], object)
     days = random.integers(-40_000, 60_000, count).astype("datetime64[D]")
     days[nulls[1]] = np.datetime64("NaT")
-    whole = [int(one) * 10**int(power) for one, power in zip(random.integers(-(2**62), 2**62, count), random.integers(0, 19, count))]
+    powers = random.integers(0, 19, count)
+    whole = [int(one) * 10**int(power) for one, power in zip(random.integers(-(2**62), 2**62, count), powers)]
     decimals = np.array([None if null else one for null, one in zip(nulls[2], whole)], object)
     return {
         "id": np.arange(count, dtype=np.int64),

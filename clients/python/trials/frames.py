@@ -10,6 +10,7 @@ import flightscan
 import numpy as np
 from random_calls.answers import same
 
+from trials.bytes_written import SPELLED
 from trials.cases import Run, case, refused, trips, wanted_package
 
 
@@ -56,7 +57,8 @@ def frames_come_back(run: Run) -> str:
         by_pandas = frame.groupby("town", observed=True)
         given = groups.to_pandas(decimals="integers").set_index("town")
         same("counts", by_pandas.size().sort_index().to_dict(), given["n"].sort_index().to_dict())
-        same("sums", by_pandas["km"].sum().astype("int64").sort_index().to_dict(), given["km"].astype("int64").sort_index().to_dict())
+        sums = by_pandas["km"].sum().astype("int64").sort_index().to_dict()
+        same("sums", sums, given["km"].astype("int64").sort_index().to_dict())
         connection.put("parts", (frame[first : first + 40_000] for first in range(0, 90_000, 40_000)))
         same_frame(pandas, "frames one after the other", frame, connection.query("SELECT * FROM parts").to_pandas())
     return f"{len(frame)} rows"
@@ -98,10 +100,12 @@ def frames_refused(run: Run) -> None:
         refused("a number as name", flightscan.InterfaceError, "a column is named 0", lambda: connection.put(
             "t", pandas.DataFrame([[1]])))
         same("nothing was put", [], connection.tables())
-        connection.put("t", pandas.DataFrame({"a": [1.0, None, -3.0], "c": pandas.Categorical([7, 8, 7])}), schema="a:int16?, c:uint8")
+        whole = pandas.DataFrame({"a": [1.0, None, -3.0], "c": pandas.Categorical([7, 8, 7])})
+        connection.put("t", whole, schema="a:int16?, c:uint8")
         same("the rows", [(1, 7), (None, 8), (-3, 7)], connection.query("SELECT * FROM t").rows())
-        connection.put("s", pandas.DataFrame({"s": pandas.array(["x", None], "string"), "d": [datetime.date(2026, 1, 1), None]}))
-        same("strings and dates", [("x", datetime.date(2026, 1, 1)), (None, None)], connection.query("SELECT * FROM s").rows())
+        day = datetime.date(2026, 1, 1)
+        connection.put("s", pandas.DataFrame({"s": pandas.array(["x", None], "string"), "d": [day, None]}))
+        same("strings and dates", [("x", day), (None, None)], connection.query("SELECT * FROM s").rows())
 
 
 @case("tables of pyarrow: over the buffers that were received, and put")
@@ -109,8 +113,7 @@ def tables_of_pyarrow(run: Run) -> str:
     pyarrow = wanted_package("pyarrow")
     with run.connected("--parts", "2") as connection:
         connection.put("t", {**trips(70_000), "code": trips(70_000)["town"]},
-                       schema="id:int64, town:utf8?, day:date?, large:decimal?, small:int8?, great:uint64, paid:bool?, km:int32?, "
-                              "code:dictionary?")
+                       schema=SPELLED + ", code:dictionary?")
         table = connection.query("SELECT * FROM t")
         given = table.to_arrow()
         given.validate(full=True)

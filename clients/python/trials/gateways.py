@@ -32,7 +32,8 @@ def over_grpc(run: Run) -> str:
                     ("SELECT id FROM u", flightscan.ProgrammingError, "F9 TableMissing", 5)):
                 failed = refused(query, kind, text, lambda query=query: connection.info(query))
                 same("the code", code, failed.code)
-            refused("a table that is there", flightscan.IntegrityError, "F10 TableExists", lambda: connection.put("t", {"a": [1]}))
+            refused("a table that is there", flightscan.IntegrityError, "F10 TableExists",
+                    lambda: connection.put("t", {"a": [1]}))
             look_at_failing_sources(connection)
             stream = connection.stream(info.endpoints[0])
             next(stream)
@@ -58,5 +59,6 @@ def look_at_failing_sources(connection: flightscan.Connection) -> None:
             pass
         else:
             same("the source's own exception is raised", True, False)
-    refused("a null", flightscan.DataError, "column a: a null", lambda: connection.put("failing", [{"a": [None]}], schema="a:int8"))
+    refused("a null", flightscan.DataError, "column a: a null",
+            lambda: connection.put("failing", [{"a": [None]}], schema="a:int8"))
     same("nothing was put", ["t"], connection.tables())

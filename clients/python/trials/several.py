@@ -124,7 +124,8 @@ def versions_meanwhile(run: Run) -> str:
             wanted = [number for _, version in infos.versions for number in range(version) for _ in range(5)]
             same("the rows of the versions", wanted, rows)
             snapshot = several.grouped(f"SELECT put, COUNT(*) AS n FROM t WHERE put <= {named} GROUP BY put", servers)
-            same("a snapshot", [(number, 15) for number in range(named + 1)], sorted(zip(snapshot["put"].tolist(), snapshot["n"].tolist())))
+            found = dict(zip(snapshot["put"].tolist(), snapshot["n"].tolist()))
+            same("a snapshot", dict.fromkeys(range(named + 1), 15), found)
         stop.set()
         thread.join()
         for writer in writers:
@@ -150,18 +151,21 @@ def servers_that_fail(run: Run) -> None:
         with run.several(1) as third:
             several.put_table(frame, [*servers, *third], "id", "t")
             infos = several.ask("SELECT id FROM t", [*servers, *third])
-        refused("an info", flightscan.OperationalError, "F22 Transport (no server", lambda: several.ask("SELECT id FROM t", [*servers, *third]))
-        refused("a partition", flightscan.OperationalError, "F22 Transport (no server", lambda: infos.frame().compute())
-        refused("groups", flightscan.OperationalError, "F22 Transport (no server", lambda: several.grouped(GROUPS, [*servers, *third]))
-        failed = refused("a put", several.PartPut, "not every server made the put", lambda: several.put_table(
-            frame, [*servers, *third], "id", "u"))
+        every = [*servers, *third]
+        for what, call in (("an info", lambda: several.ask("SELECT id FROM t", every)),
+                           ("a partition", lambda: infos.frame().compute()),
+                           ("groups", lambda: several.grouped(GROUPS, every))):
+            refused(what, flightscan.OperationalError, "F22 Transport (no server", call)
+        failed = refused("a put", several.PartPut, "not every server made the put",
+                         lambda: several.put_table(frame, every, "id", "u"))
         same("who made it", [True, True, False], [rows is not None for rows in failed.rows])
         same("their rows", failed.rows[:2], [len(flightscan.connect(server).query("SELECT id FROM u")) for server in servers])
         failed = refused("a put that one refuses", several.PartPut, "not every server", lambda: several.put_table(
             frame, servers, "id", "u"))
         same("the reasons", ["F10 TableExists"] * 2, [one.text for one in failed.failures])
         flightscan.connect(servers[1]).put("t", {"id": ["x"]}, mode="replace")
-        refused("other columns", flightscan.IntegrityError, "F11 SchemaMismatch", lambda: several.ask("SELECT id FROM t", servers))
+        refused("other columns", flightscan.IntegrityError, "F11 SchemaMismatch",
+                lambda: several.ask("SELECT id FROM t", servers))
         refused("no server", flightscan.InterfaceError, "there is no server", lambda: several.ask("SELECT id FROM t", []))
         refused("too few bounds", flightscan.InterfaceError, "0 bounds for 2 servers", lambda: several.put_table(
             frame, servers, ("id", []), "u"))
