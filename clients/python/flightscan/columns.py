@@ -151,6 +151,7 @@ class Texts(Column):
         self.check()
         ends = self.offsets.tolist()
         data = self.data[: ends[-1]].tobytes()
+        found: list[Any]
         try:
             if data.isascii():
                 whole = data.decode("ascii")

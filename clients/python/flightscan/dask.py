@@ -169,7 +169,7 @@ def group_numbers(keys: Sequence[JoinedColumn], length: int) -> Array:
 def codes_of(column: JoinedColumn) -> Array:
     """A number from 1 on for each distinct value, and 0 for a null."""
     values = column.values.view(np.int64) if column.values.dtype.kind == "M" else column.values
-    found = pandas.factorize(values)[0].astype(np.int64) + 1
+    found: Array = pandas.factorize(values)[0].astype(np.int64) + 1
     if column.mask is not None:
         found[column.mask] = 0
     return found

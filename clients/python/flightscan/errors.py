@@ -94,7 +94,7 @@ FAULTS: dict[int, tuple[str, type[Error]]] = {
 def refusal(text: str, code: int | None = None, server: str | None = None) -> Error:
     """The exception for a status of the server."""
     found = FORM.match(text)
-    kind = FAULTS.get(int(found[1]), ("", DatabaseError))[1] if found else OperationalError
+    kind: type[Error] = FAULTS.get(int(found[1]), ("", DatabaseError))[1] if found else OperationalError
     return kind(text, code, server)
 
 

@@ -91,7 +91,7 @@ class Table:
             return None
         count = self.unsigned(place, 4)
         begin = self.inside(place + 4, 16 * count)
-        return list(struct.iter_unpack("<qq", self.data[begin : begin + 16 * count]))
+        return [(first, second) for first, second in struct.iter_unpack("<qq", self.data[begin : begin + 16 * count])]
 
 
 @dataclass(frozen=True)

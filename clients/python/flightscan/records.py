@@ -31,7 +31,7 @@ def room_for(length: int) -> memoryview:
     """
     room = np.empty(length + ALIGNMENT, np.uint8)
     begin = -(room.__array_interface__["data"][0] + length) % ALIGNMENT
-    return memoryview(room)[begin : begin + length]
+    return room.data[begin : begin + length]
 
 
 class Link:

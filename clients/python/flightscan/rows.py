@@ -83,7 +83,8 @@ def dictionary_messages(number: int, values: Sequence[str]) -> Iterator[tuple[by
     """The messages that set a dictionary: the first values, and deltas where one message does not hold all."""
     first, is_delta = 0, 0
     while first < len(values) or not is_delta:
-        some, size = [], 0
+        some: list[str] = []
+        size = 0
         for value in values[first:]:
             size += len(value) * 4 + 4
             if some and size > BYTES_OF_A_BATCH:

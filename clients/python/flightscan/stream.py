@@ -81,7 +81,7 @@ class Parts:
         self.look_at_room(field, nulls, buffers)
         if field.type.is_dictionary:
             values = dictionaries.get(field.dictionary or 0, [])
-            return Categories(field, self.length, nulls, *buffers, values)
+            return Categories(field, self.length, nulls, buffers[0], buffers[1], values)
         return KINDS.get(field.type.name, Integers)(field, self.length, nulls, *buffers)
 
     def look_at_room(self, field: Field, nulls: int, buffers: Sequence[memoryview]) -> None:

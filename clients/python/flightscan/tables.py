@@ -39,11 +39,13 @@ class JoinedColumn:
         masks = [part.mask for part in self.parts]
         if all(mask is None for mask in masks):
             return None
-        return np.concatenate([np.zeros(len(part), np.bool_) if mask is None else mask for part, mask in zip(self.parts, masks)])
+        whole = [np.zeros(len(part), np.bool_) if mask is None else mask for part, mask in zip(self.parts, masks)]
+        return self.joined(whole, np.bool_)
 
     def masked(self) -> np.ma.MaskedArray[Any, Any]:
         """The values as numpy's masked array."""
-        return np.ma.MaskedArray(self.values, mask=np.ma.nomask if self.mask is None else self.mask)
+        mask = np.ma.nomask if self.mask is None else self.mask
+        return np.ma.MaskedArray(self.values, mask=mask)  # type: ignore[no-untyped-call]
 
     def objects(self) -> list[Any]:
         """The values as Python has them, with None for a null."""
@@ -57,7 +59,8 @@ class JoinedColumn:
     def joined(found: Sequence[Array], dtype: Any) -> Array:
         if len(found) == 1:
             return found[0]
-        return np.concatenate(found) if found else np.empty(0, dtype)
+        made: Array = np.concatenate(found) if found else np.empty(0, dtype)
+        return made
 
     def coded(self) -> tuple[Array, list[str]]:
         """Of a dictionary: an index for each slot, with -1 at nulls, and the distinct strings of all batches."""

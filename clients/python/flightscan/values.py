@@ -26,7 +26,7 @@ def values_of(name: str, found: Any, field: Field | None = None) -> Values:
     """A column from an array, a masked array or a list. `field` says its type; else it is that of the array."""
     mask = None
     if isinstance(found, np.ma.MaskedArray):
-        mask, found = np.ma.getmaskarray(found), found.data
+        mask, found = np.ma.getmaskarray(found), found.data  # type: ignore[no-untyped-call]
     if isinstance(found, np.ndarray):
         data = found
     else:

@@ -182,14 +182,15 @@ def own_puts_are_seen(run: Run) -> str:
     with run.connected("--seats", "8") as connection:
         connection.put("t", {"a": np.arange(300_000)})
         (endpoint,) = connection.endpoints("SELECT a FROM t")
-        streams = []
+        streams, begun = [], []
         for number in range(4):
             streams.append(connection.stream(endpoint))
-            same("a batch", True, len(next(streams[-1])) > 0)
+            begun.append(len(next(streams[-1])))
             connection.put(f"u{number}", {"a": [number]})
             same("the tables", ["t", *(f"u{one}" for one in range(number + 1))], connection.tables())
-        for stream in streams[:2]:
-            same("the rest of a stream", 300_000, sum(map(len, stream)) + stream_begin(connection, endpoint))
+        for stream, count in zip(streams[:2], begun):
+            same("the rows of a stream", 300_000, count + sum(map(len, stream)))
+        look_at_sockets(connection)
         for stream in streams[2:]:
             stream.close()
         threads = [threading.Thread(target=puts_and_looks, args=(connection, number, found)) for number in range(4)
@@ -203,6 +204,16 @@ def own_puts_are_seen(run: Run) -> str:
     return "124 puts"
 
 
+def look_at_sockets(connection: flightscan.Connection) -> None:
+    """A socket that has not seen each put of the connection is for fetches only. (Today's server tells all sockets at once.)"""
+    calls = connection.calls
+    same("sockets that have not seen all puts are kept", True, any(link.seen < calls.puts for link in calls.idle))
+    for method, wanted in (("GetFlightInfo", True), ("DoPut", True), ("GetSchema", True), ("DoGet", False)):
+        link = calls.take(method)
+        same(f"the socket of {method} has seen all puts", wanted, link.seen == calls.puts)
+        calls.end(link, "GetFlightInfo", True)
+
+
 FOUND: dict[int, list[int]] = {}
 
 
@@ -210,13 +221,6 @@ def puts_and_looks(connection: flightscan.Connection, number: int, found: list[i
     for turn in range(30):
         connection.put(f"thread{number}", {"a": [turn]}, mode="append" if turn else "create")
         found.append(len(connection.query(f"SELECT a FROM thread{number}")))
-
-
-def stream_begin(connection: flightscan.Connection, endpoint: flightscan.Endpoint) -> int:
-    stream = connection.stream(endpoint)
-    begin = len(next(stream))
-    stream.close()
-    return begin
 
 
 @case("a fetch that is left gives its seat back; a connection that the server ended is made again; without a server it fails")
@@ -254,6 +258,13 @@ def servers_that_break_off(run: Run) -> None:
             with flightscan.connect(listener.getsockname()[1], timeout=20) as connection:
                 refused(f"the answer {said!r}", kind, text, lambda: connection.info("SELECT a FROM t"))
             thread.join()
+    with socket.create_server(("127.0.0.1", 0)) as listener:
+        thread = threading.Thread(target=answer_once, args=(listener, b"\x04\x00\x00\x00"))
+        thread.start()
+        with flightscan.connect(listener.getsockname()[1], timeout=20) as connection:
+            endpoint = flightscan.Endpoint(b"", connection.server)
+            refused("no schema", flightscan.DataError, "F8 BadBatch (a stream without", lambda: connection.read(endpoint))
+        thread.join()
 
 
 def answer_once(listener: socket.socket, said: bytes) -> None:
