@@ -3,6 +3,8 @@
 from __future__ import annotations
 
 import datetime
+import sys
+import unittest.mock
 from decimal import Decimal
 from typing import Any
 
@@ -10,6 +12,8 @@ import flightscan
 import numpy as np
 from random_calls.answers import same
 
+from trials import arrow_stand_in
+from trials.bytes_read import plain
 from trials.bytes_written import SPELLED
 from trials.cases import Run, case, refused, trips, wanted_package
 
@@ -106,6 +110,23 @@ def frames_refused(run: Run) -> None:
         day = datetime.date(2026, 1, 1)
         connection.put("s", pandas.DataFrame({"s": pandas.array(["x", None], "string"), "d": [day, None]}))
         same("strings and dates", [("x", day), (None, None)], connection.query("SELECT * FROM s").rows())
+
+
+@case("the buffers that pyarrow is given are those that were received, as the second reader reads them (by a stand-in)")
+def buffers_for_pyarrow(run: Run) -> str:
+    spelled = SPELLED + ", code:dictionary?"
+    with run.connected("--parts", "2") as connection:
+        connection.put("t", {**trips(5_000), "code": trips(5_000)["town"]}, schema=spelled)
+        table = connection.query("SELECT * FROM t")
+    stand_in = arrow_stand_in.module()
+    with unittest.mock.patch.dict(sys.modules, {"pyarrow": stand_in}):
+        sys.modules.pop("flightscan.arrow", None)
+        schema, rows = table.to_arrow()
+    for names, name in ((sys.modules, "flightscan.arrow"), (vars(flightscan), "arrow")):
+        names.pop(name, None)  # the module that knows only the stand-in
+    same("the columns", [(field.name, field.nullable) for field in table.schema], [(name, nullable) for name, _, nullable in schema])
+    same("the rows", [tuple(map(plain, row)) for row in table.rows()], rows)
+    return f"{len(rows)} rows"
 
 
 @case("tables of pyarrow: over the buffers that were received, and put")
