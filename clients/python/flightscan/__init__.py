@@ -27,10 +27,9 @@ from .tables import JoinedColumn, Table
 NUMBER = NUMBER_GROUP
 
 __all__ = [
-    "BINARY", "DATETIME", "NUMBER", "ROWID", "STRING", "Batch", "Binary", "Categories", "Column", "Connection", "Cursor", "DataError",
-    "DataType", "DatabaseError", "Date", "DateFromTicks", "Days", "Decimals", "Endpoint", "Error", "Field", "Info", "Integers",
-    "IntegrityError", "InterfaceError", "InternalError", "JoinedColumn", "MessageReader", "NotSupportedError", "OperationalError",
-    "ProgrammingError", "Schema", "Stream", "Table", "Texts", "Time", "TimeFromTicks", "Timestamp", "TimestampFromTicks", "Truths",
-    "Warning", "apilevel", "connect", "paramstyle",
-    "threadsafety",
+    "BINARY", "DATETIME", "NUMBER", "ROWID", "STRING", "Batch", "Binary", "Categories", "Column", "Connection", "Cursor",
+    "DataError", "DataType", "DatabaseError", "Date", "DateFromTicks", "Days", "Decimals", "Endpoint", "Error", "Field", "Info",
+    "Integers", "IntegrityError", "InterfaceError", "InternalError", "JoinedColumn", "MessageReader", "NotSupportedError",
+    "OperationalError", "ProgrammingError", "Schema", "Stream", "Table", "Texts", "Time", "TimeFromTicks", "Timestamp",
+    "TimestampFromTicks", "Truths", "Warning", "apilevel", "connect", "paramstyle", "threadsafety",
 ]

@@ -58,6 +58,8 @@ def is_of_arrow(source: object) -> bool:
 def parts_of(source: Any) -> Iterator[pyarrow.RecordBatch]:
     """The batches of a Table or of a RecordBatch, each of few enough rows."""
     table = source if isinstance(source, pyarrow.Table) else pyarrow.Table.from_batches([source])
+    if table.num_rows == 0:
+        yield pyarrow.RecordBatch.from_arrays([pyarrow.array([], one.type) for one in table.schema], schema=table.schema)
     yield from table.to_batches(max_chunksize=ROWS_OF_A_BATCH)
 
 

@@ -2,6 +2,7 @@
 
 from __future__ import annotations
 
+import os
 import re
 from collections.abc import Iterator, Sequence
 from concurrent.futures import ThreadPoolExecutor
@@ -19,7 +20,8 @@ from .sources import Put
 from .stream import Batch, MessageReader
 from .tables import Table, joined_tables
 
-ADDRESS = re.compile(r"(grpc://)?(?:([^:/]+):)?(\d{1,5})")
+ADDRESS = re.compile(r"(?:(grpc|grpc\+tls)://)?(?:([^:/]+):)?(\d{1,5})")
+LOCAL = ("127.0.0.1", "localhost")
 SECONDS = 60.0
 
 
@@ -189,18 +191,26 @@ class Connection:
         raise errors.NotSupportedError("there are no transactions")
 
 
-def connect(address: str | int = "127.0.0.1:4711", timeout: float | None = SECONDS) -> Connection:
-    """A connection to `HOST:PORT` or a port of this machine, by records; or to `grpc://HOST:PORT`, a gateway, by gRPC.
+def connect(address: str | int = "127.0.0.1:4711", timeout: float | None = SECONDS, token: str | None = None,
+            certificates: str | None = None) -> Connection:
+    """A connection to `HOST:PORT` or a port of this machine, by records; or by gRPC to `grpc://HOST:PORT`, a gateway, or
+    `grpc+tls://HOST:PORT`, one with TLS.
 
     `timeout` is how many seconds may pass without a byte; over gRPC how many a call may take that is neither a put nor a
-    fetch. Nothing is sent before the first call.
+    fetch. A gateway may want a token. `certificates` is a file with the roots that are trusted, in the place of the
+    system's. Both may be in the environment, as FLIGHTSCAN_TOKEN and FLIGHTSCAN_CERTIFICATES. Nothing is sent before the
+    first call.
     """
     form = ADDRESS.fullmatch(str(address))
     if form is None or int(form[3]) > 65_535:
-        raise InterfaceError(f"{address!r} is no address: write HOST:PORT or grpc://HOST:PORT")
-    host, port = form[2] or "127.0.0.1", int(form[3])
-    if form[1]:
-        from .grpc_calls import GrpcCalls
+        raise InterfaceError(f"{address!r} is no address: write HOST:PORT, grpc://HOST:PORT or grpc+tls://HOST:PORT")
+    scheme, host, port = form[1], form[2] or "127.0.0.1", int(form[3])
+    if scheme is None:
+        return Connection(Records(host, port, timeout))
+    token = token or os.environ.get("FLIGHTSCAN_TOKEN")
+    if token and scheme == "grpc" and host not in LOCAL:
+        raise InterfaceError(f"a token to {host} needs TLS: write grpc+tls://{host}:{port}")
+    from .grpc_calls import GrpcCalls
 
-        return Connection(GrpcCalls(f"grpc://{host}:{port}", timeout))
-    return Connection(Records(host, port, timeout))
+    certificates = certificates or os.environ.get("FLIGHTSCAN_CERTIFICATES")
+    return Connection(GrpcCalls(f"{scheme}://{host}:{port}", timeout, token, certificates))

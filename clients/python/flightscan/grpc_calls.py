@@ -3,6 +3,7 @@
 from __future__ import annotations
 
 import os
+import pathlib
 import threading
 from collections.abc import Iterable, Iterator
 
@@ -25,12 +26,22 @@ OPTIONS = [
 LONG_CALLS = ("DoGet", "DoPut")  # which may take as long as they must
 
 
-class GrpcCalls:
-    """A channel to a gateway."""
+def channel_to(address: str, certificates: str | None) -> grpc.Channel:
+    """A channel: by TLS to `grpc+tls://HOST:PORT`, whose certificate is one of a file or of the system."""
+    scheme, _, target = address.partition("://")
+    if scheme == "grpc":
+        return grpc.insecure_channel(target, options=OPTIONS)
+    roots = None if certificates is None else pathlib.Path(certificates).read_bytes()
+    return grpc.secure_channel(target, grpc.ssl_channel_credentials(roots), options=OPTIONS)
 
-    def __init__(self, address: str, timeout: float | None):
+
+class GrpcCalls:
+    """A channel to a gateway, to which each call shows the token."""
+
+    def __init__(self, address: str, timeout: float | None, token: str | None = None, certificates: str | None = None):
         self.server, self.timeout = address, timeout
-        self.channel = grpc.insecure_channel(address.removeprefix("grpc://"), options=OPTIONS)
+        self.metadata = (("authorization", f"Bearer {token}"),) if token else ()
+        self.channel = channel_to(address, certificates)
 
     def close(self) -> None:
         self.channel.close()
@@ -49,7 +60,8 @@ class GrpcCalls:
                 failures.append(failed)
                 call.cancel()
 
-        call = self.channel.stream_stream(SERVICE + method)(joined(), timeout=None if method in LONG_CALLS else self.timeout)
+        timeout = None if method in LONG_CALLS else self.timeout
+        call = self.channel.stream_stream(SERVICE + method)(joined(), timeout=timeout, metadata=self.metadata)
         begun.set()
         try:
             for message in call:

@@ -34,6 +34,11 @@ def is_of_arrow(source: object) -> bool:
     return arrow.is_of_arrow(source)
 
 
+def is_one(source: object) -> bool:
+    """Whether a source is no iterable of others."""
+    return isinstance(source, (Batch, Table, Mapping)) or is_frame(source) or is_of_arrow(source)
+
+
 def parts_of(source: Any, schema: Schema | None) -> Iterator[list[Values]]:
     """The parts of a source in order, each as its columns. `schema` says the types; else they are those of the first part."""
     if isinstance(source, Batch):
@@ -114,7 +119,9 @@ class Put:
         first = next(parts, None)
         if first is not None and not first or first is None and self.schema is None and not isinstance(self.source, Table):
             raise InterfaceError("there is no column to put")
-        schema = self.schema or (self.source.schema if first is None else wide(schema_of(first)))
+        schema = self.schema or (self.source.schema if first is None else schema_of(first))
+        if self.schema is None and not is_one(self.source):
+            schema = wide(schema)
         schema = schema.numbered()
         yield [command, *flight_data(schema_message(schema), [])]
         held: dict[int, tuple[str, ...]] = {}

@@ -152,7 +152,9 @@ def refusals(run: Run) -> None:
         refused("another server's ticket", flightscan.InterfaceError, "an endpoint of", lambda: connection.read(elsewhere))
         same("what is still there", [(1, "x")], connection.query("SELECT * FROM t").rows())
     refused("a closed connection", flightscan.InterfaceError, "the connection is closed", lambda: connection.tables())
-    refused("no address", flightscan.InterfaceError, "'here' is no address", lambda: flightscan.connect("here"))
+    for address in ("here", "://h:1", "127.0.0.1:99999", "http://h:1", ""):
+        refused("no address", flightscan.InterfaceError, f"{address!r} is no address",
+                lambda address=address: flightscan.connect(address))
 
 
 def twice(connection: flightscan.Connection) -> tuple[flightscan.Schema, tuple[flightscan.Batch, ...]]:

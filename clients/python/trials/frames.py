@@ -10,6 +10,7 @@ from typing import Any
 
 import flightscan
 import numpy as np
+from flightscan.sources import Put
 from random_calls.answers import same
 
 from trials import arrow_stand_in
@@ -51,6 +52,10 @@ def frames_come_back(run: Run) -> str:
     frame = frame_of_trips(pandas, 90_000)
     with run.connected("--parts", "3", "--seats", "8") as connection:
         same("the rows", len(frame), connection.put("t", frame))
+        codes = frame["town"].cat.codes.to_numpy()
+        pieces = [piece for pieces in Put("t", "create", frame[["town"]]).messages() for piece in pieces]
+        same("indices are sent from where they lie", len(frame), sum(
+            len(piece) for piece in pieces if isinstance(piece, np.ndarray) and np.shares_memory(piece, codes)))
         same_frame(pandas, "all rows", frame, connection.query("SELECT * FROM t", streams=3).to_pandas())
         near = frame[(frame["km"] < 100).fillna(False)].reset_index(drop=True)
         same_frame(pandas, "a filter", near, connection.query("SELECT * FROM t WHERE km < 100").to_pandas())
@@ -124,7 +129,8 @@ def buffers_for_pyarrow(run: Run) -> str:
         schema, rows = table.to_arrow()
     for names, name in ((sys.modules, "flightscan.arrow"), (vars(flightscan), "arrow")):
         names.pop(name, None)  # the module that knows only the stand-in
-    same("the columns", [(field.name, field.nullable) for field in table.schema], [(name, nullable) for name, _, nullable in schema])
+    same("the names", table.schema.names, [name for name, *_ in schema])
+    same("which may be null", [field.nullable for field in table.schema], [nullable for *_, nullable in schema])
     same("the rows", [tuple(map(plain, row)) for row in table.rows()], rows)
     return f"{len(rows)} rows"
 
