@@ -84,6 +84,8 @@ class Link:
 
     def last_word(self, failed: OSError) -> Error:
         """Why the server ended the connection inside a call, where it said so."""
+        if isinstance(failed, TimeoutError):
+            return self.lost(failed)
         try:
             for _ in self.answer():
                 pass
