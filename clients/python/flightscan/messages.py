@@ -16,6 +16,13 @@ MODES = {"create": (CREATE, FAIL), "append": (FAIL_IF_ABSENT, APPEND), "replace"
 DATA_HEADER, DATA_BODY = 2, 1000  # fields of a FlightData
 
 
+def utf8(said: str) -> bytes:
+    try:
+        return said.encode()
+    except UnicodeEncodeError:
+        raise InterfaceError(f"{said!r} is no text: it has half of a pair") from None
+
+
 def packed(name: bytes, command: bytes) -> bytes:
     """An Any of Flight SQL."""
     return chunk(1, PACKAGE + name) + (chunk(2, command) if command else b"")
@@ -27,7 +34,7 @@ def descriptor(name: bytes, command: bytes) -> bytes:
 
 def statement(query: str) -> bytes:
     """The descriptor of a query."""
-    return descriptor(b"CommandStatementQuery", chunk(1, query.encode()))
+    return descriptor(b"CommandStatementQuery", chunk(1, utf8(query)))
 
 
 def all_tables() -> bytes:
@@ -41,7 +48,7 @@ def ingest(table: str, mode: str) -> bytes:
         raise InterfaceError(f"{mode!r} is no mode: write one of {', '.join(MODES)}")
     absent, there = MODES[mode]
     options = scalar(1, absent) + scalar(2, there)
-    return descriptor(b"CommandStatementIngest", chunk(1, options) + chunk(2, table.encode()))
+    return descriptor(b"CommandStatementIngest", chunk(1, options) + chunk(2, utf8(table)))
 
 
 def expiry(version: int) -> bytes:

@@ -10,7 +10,7 @@ import numpy as np
 
 from . import flatbuffers
 from .columns import Array, Texts
-from .errors import OperationalError
+from .errors import DataError, OperationalError
 from .flatbuffers import Block
 from .schema import DICTIONARY_BATCH, NUMBER, RECORD_BATCH, SLOT_OF_A_DECIMAL, TEXT, TRUTH, Field, message_with
 
@@ -124,7 +124,10 @@ class Values:
             said = data.tolist()
             if nulls and mask is not None:
                 said = ["" if null else one for one, null in zip(said, mask.tolist())]
-            return nulls, [validity, *text_buffers(said)]
+            try:
+                return nulls, [validity, *text_buffers(said)]
+            except UnicodeEncodeError:
+                raise DataError(f"column {self.field.name}: a string that is not UTF-8") from None
         if self.field.type == TRUTH:
             return nulls, [validity, np.packbits(data, bitorder="little")]
         if self.field.type == NUMBER:

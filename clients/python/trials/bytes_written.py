@@ -125,6 +125,7 @@ def refused_values(run: Run) -> None:
         ("strings for numbers", flightscan.DataError, "column a: utf8 where int64", {"a": ["1"]}, "a:int64"),
         ("numbers for dates", flightscan.DataError, "column a: int64 where date", {"a": [1]}, "a:date"),
         ("columns of two lengths", flightscan.DataError, "columns of [1, 2] rows", {"a": [1], "b": [1, 2]}, None),
+        ("half of a pair", flightscan.DataError, "column a: a string that is not UTF-8", {"a": ["x", "\ud800"]}, None),
         ("two dimensions", flightscan.DataError, "column a: an array of 2", {"a": np.zeros((2, 2), int)}, None),
         ("no columns", flightscan.InterfaceError, "there is no column", {}, None),
         ("nothing", flightscan.InterfaceError, "there is no column", [], None),
@@ -135,6 +136,7 @@ def refused_values(run: Run) -> None:
     ]
     for what, kind, text, source, schema in lists:
         refused(what, kind, text, lambda source=source, schema=schema: made(source, schema))
+    refused("half of a pair", flightscan.InterfaceError, "'\\ud800' is no text", lambda: messages.statement("\ud800"))
     refused("no mode", flightscan.InterfaceError, "'add' is no mode", lambda: messages.ingest("t", "add"))
 
 
