@@ -84,9 +84,8 @@ def values_of_batch(batch: pyarrow.RecordBatch, schema: Schema | None) -> list[V
 
 
 def values_of_arrow(array: pyarrow.Array, own: Field, field: Field) -> Values:
-    if own.type in (TEXT, NUMBER):
-        return values_of(own.name, array.to_pylist(), field)
-    if own.type == DAY:
+    """A column, which is of its own field there, in the type of another one."""
+    if own.type in (TEXT, NUMBER, DAY):
         return values_of(own.name, array.to_pylist(), field)
     nulls = array.is_null().to_numpy(zero_copy_only=False) if array.null_count else None
     if own.type.is_dictionary:

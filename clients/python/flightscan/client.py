@@ -46,6 +46,7 @@ class Stream:
         self.schema: Schema = self.reader.schema
 
     def next_batch(self) -> Batch | None:
+        """The next batch, after the messages before it."""
         try:
             for message in self.messages:
                 found = self.reader.read(content(message, DATA_HEADER), content(message, DATA_BODY))

@@ -148,6 +148,7 @@ class Texts(Column):
             raise self.broken("offsets that fall or lie outside")
 
     def objects(self) -> list[Any]:
+        """The strings, with None for a null."""
         self.check()
         ends = self.offsets.tolist()
         data = self.data[: ends[-1]].tobytes()

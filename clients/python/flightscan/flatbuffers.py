@@ -61,6 +61,7 @@ class Table:
         return None if place is None else Table(self.data, place)
 
     def text(self, slot: int) -> str | None:
+        """The string to which a slot leads."""
         place = self.followed(slot)
         if place is None:
             return None

@@ -39,6 +39,7 @@ def frame_of(table: Table, decimals: str = "objects", dates: str = "datetime64")
 
 
 def series_of(column: JoinedColumn, decimals: str, dates: str) -> Any:
+    """The array of a frame's column."""
     of, values = column.field.type, column.values if column.field.type not in (NUMBER, DAY) else None
     if of.is_dictionary:
         codes, categories = column.coded()
@@ -85,6 +86,7 @@ def values_of_frame(frame: pandas.DataFrame, schema: Schema | None) -> list[Valu
 
 
 def values_of_series(name: Any, series: pandas.Series[Any], field: Field | None) -> Values:
+    """A column of a frame to put. pandas' own types may have nulls, and numpy's integers and truths may not."""
     if not isinstance(name, str):
         raise InterfaceError(f"a column is named {name!r}, and a name must be a string")
     dtype = series.dtype

@@ -57,6 +57,7 @@ class Link:
     # ---- sent
 
     def send_call(self, method: str, messages: Iterable[Pieces]) -> None:
+        """Sends a call's records, each message as it is made. The server answers after the last."""
         path = (SERVICE + method).encode()
         held: list[Piece] = [struct.pack(">BH", OPEN, len(path)) + path]
         for pieces in messages:
@@ -104,6 +105,7 @@ class Link:
     # ---- read
 
     def fill(self, view: memoryview) -> memoryview:
+        """Reads as many bytes as there is room for, right to their place."""
         place, length = 0, len(view)
         while place < length:
             try:

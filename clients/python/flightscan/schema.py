@@ -147,6 +147,7 @@ def integer_of(table: Table) -> np.dtype[Any]:
 
 
 def type_of(field: Table, name: str) -> DataType:
+    """The type of a Field's values."""
     kind = field.scalar(2, 1) & 255 if field.has(2) else there(None, f"type of column {name}")
     if kind not in (INT, UTF8, BOOL, DECIMAL, DATE):
         raise fault(7, f"column {name}: type kind {kind}")
@@ -162,6 +163,7 @@ def type_of(field: Table, name: str) -> DataType:
 
 
 def field_of(table: Table) -> Field:
+    """The column that a Field says. What is refused is found in the order of docs/FORMATS.md, section 4."""
     name = table.text(0)
     if not name or len(name.encode()) > LONGEST_NAME:
         raise fault(12, f"a name of {len((name or '').encode())} bytes")

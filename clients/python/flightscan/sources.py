@@ -80,6 +80,7 @@ def values_of_batch(batch: Batch, schema: Schema | None) -> list[Values]:
 
 
 def values_of_column(column: Column, field: Field) -> Values:
+    """A column that was read, in the type of a field."""
     if isinstance(column, Categories):
         categories = tuple("" if value is None else value for value in column.categories)
         return with_codes(field, column.slots if column.mask is None else column.codes(), column.mask, categories)

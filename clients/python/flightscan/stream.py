@@ -66,6 +66,7 @@ class Parts:
         return self.body[begin : begin + size]
 
     def columns(self, schema: Schema, dictionaries: Dictionaries) -> Iterator[Column]:
+        """The columns of a schema's fields, each over its part of the body."""
         counts = [3 if field.type == TEXT else 2 for field in schema]
         if len(self.nodes) != len(schema) or len(self.buffers) != sum(counts):
             raise fault(8, f"{len(self.nodes)} nodes and {len(self.buffers)} buffers for the columns {schema}")
@@ -131,6 +132,7 @@ class MessageReader:
         return Batch(self.schema, parts.length, tuple(parts.columns(self.schema, self.dictionaries)))
 
     def keep_dictionary(self, table: Table, body: memoryview, size: int) -> None:
+        """Sets, replaces or extends the values of a dictionary."""
         number, data, is_delta = table.scalar(0, 8), there(table.table(1), "data"), table.scalar(2, 1) != 0
         parts = Parts.read(data, body, size)
         if self.schema is None or all(field.dictionary != number for field in self.schema):
