@@ -4,9 +4,10 @@
     python3 scripts/beside.py [--program PATH] [STEP..]
 
 It needs the proved program (`rt run` or the gate leaves it in crates/flightscan/out), a C compiler and `sqlite3`. Some
-vectors are made by flatc and protoc, and the gateway's test needs protoc and a Python that has gRPC; where these are absent,
-that is passed over, and the step says so. All steps take about ten minutes. With names, the steps whose names begin so are
-run. The last line counts the steps that passed, and it ends with 1 where one did not.
+vectors are made by flatc and protoc; the gateway's test needs protoc and a Python that has gRPC, and those of the Python
+client one that has numpy and Dask. Where these are absent, that is passed over, and the step says so. All steps take about ten
+minutes. With names, the steps whose names begin so are run. The last line counts the steps that passed, and it ends with 1
+where one did not.
 """
 
 import argparse
@@ -60,6 +61,15 @@ class Script:
         done(f"scripts/{self.name}.py", *self.words, *(["--program", path] if self.of_program else []))
 
 
+def python_with(imports):
+    """A Python that can import all these, if there is one."""
+    def can(python):
+        words = [python, "-c", f"import {imports}"]
+        return shutil.which(python) is not None and subprocess.run(words, capture_output=True).returncode == 0
+
+    return next((python for python in PYTHONS if can(python)), None)
+
+
 def stored():
     """The bytes of all vectors and of what the programs of the repository read and write."""
     listed = subprocess.run(["git", "ls-files", "vectors", "crates/*/stdin", "crates/*/stdout"], cwd=ROOT, check=True,
@@ -94,7 +104,7 @@ class Gateway:
     name = "gateway"
 
     def run(self, path):
-        python = next((python for python in PYTHONS if self.can(python)), None)
+        python = python_with("google.protobuf, grpc.aio")
         lacking = [] if python else ["a Python with grpcio and protobuf"]
         lacking += [] if shutil.which("protoc") else ["protoc"]
         if lacking:
@@ -102,10 +112,20 @@ class Gateway:
         said = done("gateway/test_gateway.py", "--program", path, "--seconds", "10", python=python)
         return said.decode().splitlines()[-1]
 
-    @staticmethod
-    def can(python):
-        words = [python, "-c", "import google.protobuf, grpc.aio"]
-        return shutil.which(python) is not None and subprocess.run(words, capture_output=True).returncode == 0
+
+@dataclass
+class PythonClient:
+    """A script of the Python client, by a Python that has what it imports."""
+
+    name: str
+    imports: str
+    words: list = field(default_factory=list)
+
+    def run(self, path):
+        python, script = python_with(self.imports), f"clients/python/{self.name}.py"
+        if python is None:
+            return f"passed over: {script} wants a Python with {self.imports}"
+        return done(script, "--program", path, *self.words, python=python).decode().splitlines()[-1]
 
 
 class FirstRun:
@@ -145,7 +165,9 @@ STEPS = [Script("pages", ["--check"], of_program=False), Script("session"), Scri
          Script("drive", ["--seconds", "5", "--connections", "16", "--keep", "5"]),
          Script("expiries", ["--puts", "2000"]), Script("expiries", ["--puts", "600", "--keep", "1"]),
          Script("descriptors", ["--seconds", "10"]),
-         Gateway(), ColumnAnswers(), FirstRun(), Vectors()]
+         Gateway(), PythonClient("test_flightscan", "numpy"),
+         PythonClient("many_servers", "numpy, pandas, dask.dataframe, distributed", ["--rows", "400000", "--turns", "1"]),
+         ColumnAnswers(), FirstRun(), Vectors()]
 
 
 def passes(step, path):

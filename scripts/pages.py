@@ -314,7 +314,7 @@ def look_at_lengths(page, text, amiss):
 
 def pages():
     yield from sorted(TOP.glob("*.md"))
-    for folder in ("docs", "bench", "gateway", "plants", "scripts", "vectors", "crates"):
+    for folder in ("docs", "bench", "clients", "gateway", "plants", "scripts", "vectors", "crates"):
         yield from sorted(path for path in (TOP / folder).rglob("*.md") if "/out/" not in str(path))
 
 

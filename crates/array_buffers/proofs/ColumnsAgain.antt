@@ -8,10 +8,12 @@ use Rattle.std.proofs.lemmas.List.FromFn.{length-map-range_with_len, get_or-map-
 use Rattle.scan_base.specs.declared.value.Value.{Value}
 use Rattle.scan_base.specs.declared.value.Value.TheVariants.{Null, Bool, Int, Text}
 use Rattle.arrow_types.specs.declared.data_type.DictionaryEncoding.{DictionaryEncoding}
-use Rattle.arrow_types.specs.declared.data_type.IntegerType.{IntegerType}
-use Rattle.arrow_types.specs.declared.data_type.IntegerType.TheVariants.{Int32}
+use Rattle.arrow_types.specs.declared.data_type.NumberType.{NumberType}
+use Rattle.arrow_types.specs.declared.data_type.Cell.{Cell}
+use Rattle.arrow_types.specs.declared.data_type.Cell.TheVariants as cell
 use Rattle.arrow_types.specs.declared.data_type.DataType.{DataType}
 use Rattle.arrow_types.specs.declared.data_type.DataType.TheVariants as type
+use Rattle.arrow_types.specs.DataType.{cell_of}
 use Rattle.arrays.specs.declared.layout.Layout.{Layout}
 use Rattle.arrays.specs.declared.layout.Layout.TheVariants as layout
 use Rattle.arrays.specs.Number.{byte_width, integer_at, decimal_at, number_from}
@@ -22,7 +24,7 @@ use Rattle.arrays.specs.Indices.{IndicesAt, indices_of, index_stands, entry_of}
 use Rattle.scan_base.specs.Value.{IsTextOrNull}
 use Rattle.arrays.specs.Texts.{texts_of, text_at}
 use Rattle.arrays.specs.Column.{ColumnAt, IsColumn, slot_of, values_of}
-use Rattle.arrays.specs.TypedLayouts.{IsOfType}
+use Rattle.arrays.specs.TypedLayouts.{LieIn, IsOfType}
 use Rattle.arrays.specs.Buffers.{values_layout, texts_layout}
 use Rattle.arrays.specs.WrittenSlots.{elements, texts_joined, offsets_from}
 use Rattle.array_buffers.specs.ColumnBuffers.{packed_bits, values_written, validity_read, LeadsAlike, IsLedBy, SaySlots, ColumnsReadBack, HasShortTexts}
@@ -33,16 +35,18 @@ use Rattle.array_buffers.proofs.BitsAgain.{validity_again, read_validity, slot_a
 use Rattle.array_buffers.proofs.TextsAgain.{texts_again, cut_again, text_value, texts_stand_again, all_hold}
 use Rattle.array_buffers.proofs.IndicesAgain.{of_indices, indices_read, led_value, entry_again, index_again}
 
-integers_again : (integer : IntegerType) (cells : IntegersAt) (first len : ℕ) → cells.integer ≡ integer → IsColumn (record { layout = layout.Integers cells; first = first; len = len }) →
-    SaySlots (type.Integer integer) [] (validity_read (record { layout = layout.Integers cells; first = first; len = len })) (elements (byte_width cells.integer) cells.values first len ∷ []) len (values_of (record { layout = layout.Integers cells; first = first; len = len }))
-unfolding values_layout integers_of
-integers_again integer cells first len same stands =
+-- numbers, by how they lie
+numbers_again : (kind : NumberType) (cell : Cell) → cell_of kind ≡ cell → (dictionary : List Value) (known : Layout) (first len : ℕ) → IsColumn (record { layout = known; first = first; len = len }) → LieIn cell known →
+    SaySlots (type.Number kind) dictionary (validity_read (record { layout = known; first = first; len = len })) (values_written (record { layout = known; first = first; len = len })) len (values_of (record { layout = known; first = first; len = len }))
+unfolding values_written values_layout integers_of decimals_of
+numbers_again kind (cell.Integer integer) is dictionary (layout.Integers cells) first len stands of =
     let column : ColumnAt = record { layout = layout.Integers cells; first = first; len = len } in
     let packed = elements (byte_width cells.integer) cells.values first len in
     let long = length-elements (byte_width cells.integer) cells.values first len cells.len stands.stands.values stands.within in
     let room : nat_le (byte_width cells.integer * len) (length packed) ≡ true = le-leb (byte_width cells.integer * len) (length packed) (omega (arith, long)) in
     let read : IntegersAt = record { integer = cells.integer; validity = validity_again column; values = packed; len = len } in
-    rw (← same) (
+    let same : cells.integer ≡ integer = of in
+    rw (is, ← same) (
       layout.Integers read,
       rw (read_validity column, room) refl,
       values_again column (layout.Integers read) refl (λ j low. slot_again column (λ at. Int (integer_at cells.integer packed at)) j low
@@ -50,27 +54,13 @@ integers_again integer cells first len same stands =
           ∙ sym (valid_value cells.validity (λ at. Int (integer_at cells.integer cells.values at)) (first + j) some))),
       refl,
     )
-
-dates_typed : (known : Layout) → IsOfType (type.Integer Int32) known → IsOfType type.Date known
-dates_typed (layout.Integers cells) of = of
-dates_typed known of = absurd of
-
-dates_again : (cells : IntegersAt) (first len : ℕ) → cells.integer ≡ Int32 → IsColumn (record { layout = layout.Integers cells; first = first; len = len }) →
-    SaySlots type.Date [] (validity_read (record { layout = layout.Integers cells; first = first; len = len })) (elements (byte_width cells.integer) cells.values first len ∷ []) len (values_of (record { layout = layout.Integers cells; first = first; len = len }))
-unfolding values_layout
-dates_again cells first len same stands =
-    let again = integers_again Int32 cells first len same stands in
-    (again.0, again.1, again.2, dates_typed again.0 again.3)
-
-decimals_again : (cells : DecimalsAt) (first len : ℕ) → IsColumn (record { layout = layout.Decimals cells; first = first; len = len }) →
-    SaySlots type.Decimal128 [] (validity_read (record { layout = layout.Decimals cells; first = first; len = len })) (elements 16 cells.values first len ∷ []) len (values_of (record { layout = layout.Decimals cells; first = first; len = len }))
-unfolding values_layout decimals_of
-decimals_again cells first len stands =
+numbers_again kind cell.Wide is dictionary (layout.Decimals cells) first len stands of =
     let column : ColumnAt = record { layout = layout.Decimals cells; first = first; len = len } in
     let packed = elements 16 cells.values first len in
     let long = length-elements 16 cells.values first len cells.len stands.stands.values stands.within in
     let room : nat_le (16 * len) (length packed) ≡ true = le-leb (16 * len) (length packed) (omega (arith, long)) in
-    let read : DecimalsAt = record { validity = validity_again column; values = packed; len = len } in (
+    let read : DecimalsAt = record { validity = validity_again column; values = packed; len = len } in
+    rw is (
       layout.Decimals read,
       rw (read_validity column, room) refl,
       values_again column (layout.Decimals read) refl (λ j low. slot_again column (λ at. Int (decimal_at packed at)) j low
@@ -78,6 +68,7 @@ decimals_again cells first len stands =
           ∙ sym (valid_value cells.validity (λ at. Int (decimal_at cells.values at)) (first + j) some))),
       tt,
     )
+numbers_again kind cell is dictionary known first len stands of = absurd of
 
 bools_again : (cells : BoolsAt) (first len : ℕ) → IsColumn (record { layout = layout.Bools cells; first = first; len = len }) →
     SaySlots type.Bool [] (validity_read (record { layout = layout.Bools cells; first = first; len = len })) (packed_bits (map (λ (j : ℕ). get_or cells.values j false) (range_with_len first len)) ∷ []) len (values_of (record { layout = layout.Bools cells; first = first; len = len }))
@@ -130,9 +121,7 @@ again : (data_type : DataType) (dictionary : List Value) (known : Layout) (first
     IsLedBy data_type dictionary known (record { layout = known; first = first; len = len }) → HasShortTexts (record { layout = known; first = first; len = len }) →
     SaySlots data_type dictionary (validity_read (record { layout = known; first = first; len = len })) (values_written (record { layout = known; first = first; len = len })) len (values_of (record { layout = known; first = first; len = len }))
 unfolding values_written values_layout
-again (type.Integer integer) dictionary (layout.Integers cells) first len stands of led short = integers_again integer cells first len of stands
-again type.Decimal128 dictionary (layout.Decimals cells) first len stands of led short = decimals_again cells first len stands
-again type.Date dictionary (layout.Integers cells) first len stands of led short = dates_again cells first len of stands
+again (type.Number kind) dictionary known first len stands of led short = numbers_again kind (cell_of kind) refl dictionary known first len stands of
 again type.Bool dictionary (layout.Bools cells) first len stands of led short = bools_again cells first len stands
 again type.Utf8 dictionary (layout.Texts cells) first len stands of led short =
     texts_read_again (record { layout = layout.Texts cells; first = first; len = len }) short (λ j low. slot_is_text cells (first + j) (stands.stands.texts (first + j) (omega (arith, stands.within))))

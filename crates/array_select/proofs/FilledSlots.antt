@@ -16,15 +16,19 @@ use Rattle.scan_base.specs.declared.value.Value.TheVariants.{Null, Bool, Int, Te
 use Rattle.scan_base.specs.Value.{is_null}
 use Rattle.arrow_types.specs.declared.data_type.IntegerType.{IntegerType}
 use Rattle.arrow_types.specs.declared.data_type.IntegerType.TheVariants.{Int8, Int16, Int32, Int64, UInt8, UInt16, UInt32, UInt64}
+use Rattle.arrow_types.specs.declared.data_type.NumberType.{NumberType}
+use Rattle.arrow_types.specs.declared.data_type.Cell.{Cell}
+use Rattle.arrow_types.specs.declared.data_type.Cell.TheVariants as cell
 use Rattle.arrow_types.specs.declared.data_type.DataType.TheVariants as type
+use Rattle.arrow_types.specs.DataType.{cell_of}
 use Rattle.arrays.specs.declared.layout.Layout.{Layout}
 use Rattle.arrays.specs.declared.slots.Values.TheVariants as kind
-use Rattle.arrays.specs.Number.{AreBytes, byte_width, element_at, number_from, integer_at, decimal_at, signed_from}
+use Rattle.arrays.specs.Number.{AreBytes, cell_width, number_in, byte_width, element_at, number_from, integer_at, decimal_at, signed_from}
 use Rattle.arrays.specs.Validity.{is_valid, where_valid}
 use Rattle.arrays.specs.Layout.{layout_count, layout_slot}
 use Rattle.arrays.specs.Column.{slot_of, values_of, whole}
-use Rattle.arrays.specs.TypedLayouts.{IsInteger, IsValueOf}
-use Rattle.array_select.specs.inside.SlotFilling.{low_bytes, AreOfType, AreValidUnlessNull, AreNumbersOf, FillSlots}
+use Rattle.arrays.specs.TypedLayouts.{IsInteger, FitsCell, IsValueOf}
+use Rattle.array_select.specs.inside.SlotFilling.{low_bytes, AreOfType, AreValidUnlessNull, AreNumbersOf, kept_numbers, FillSlots}
 use Rattle.arrays.specs.Texts.{text_at}
 use Rattle.arrays.specs.WrittenSlots.{text_bytes, offsets_from, texts_joined}
 use Rattle.array_select.proofs.Gathered.{front, behind}
@@ -128,19 +132,17 @@ decimal_back (negsuc n) is = signed_is_neg 128 ((2 ^ 128 - suc n) % 2 ^ 128) n (
 pub differ : {X : Type 0} (flag : Truth) → flag ≡ true → flag ≡ false → X
 differ flag set unset = absurd (true≢false (sym set ∙ unset))
 
--- what the bytes of a value's number are read as
-number_value : (integer : IntegerType) (value : Value) (bits : ℕ) → is_null value ≡ false → IsValueOf (type.Integer integer) value → bits ≡ low_bytes (byte_width integer) value →
-    Int (number_from integer bits) ≡ value
-number_value integer Null bits some of e = differ true refl some
-number_value integer (Int number) bits some of e = ap Int (ap (number_from integer) e ∙ integer_back integer number of)
-number_value integer (Bool flag) bits some of e = absurd of
-number_value integer (Text bytes) bits some of e = absurd of
+number_back : (cell : Cell) (number : ℤ) → FitsCell cell number → number_in cell (cast_unsigned w128 number % 256 ^ cell_width cell) ≡ number
+number_back (cell.Integer integer) number is = integer_back integer number is
+number_back cell.Wide number is = decimal_back number is
 
-decimal_value : (value : Value) (bits : ℕ) → is_null value ≡ false → IsValueOf type.Decimal128 value → bits ≡ low_bytes 16 value → Int (signed_from 128 bits) ≡ value
-decimal_value Null bits some of e = differ true refl some
-decimal_value (Int number) bits some of e = ap Int (ap (signed_from 128) e ∙ decimal_back number of)
-decimal_value (Bool flag) bits some of e = absurd of
-decimal_value (Text bytes) bits some of e = absurd of
+-- what the bytes of a value's number are read as
+number_value : (kind : NumberType) (cell : Cell) (value : Value) (bits : ℕ) → cell ≡ cell_of kind → is_null value ≡ false → IsValueOf (type.Number kind) value → bits ≡ low_bytes (cell_width cell) value →
+    Int (number_in cell bits) ≡ value
+number_value kind cell Null bits is some of e = differ true refl some
+number_value kind cell (Int number) bits is some of e = ap Int (ap (number_in cell) e ∙ number_back cell number (subst (λ (one : Cell). FitsCell one number) (sym is) of))
+number_value kind cell (Bool flag) bits is some of e = absurd of
+number_value kind cell (Text bytes) bits is some of e = absurd of
 
 -- a slot that is valid unless its value is null, and then has that value
 pub slot_filled : (validity : Option (List Truth)) (f : ℕ → Value) (k : ℕ) (value : Value) → is_valid validity k ≡ not (is_null value) → (is_null value ≡ false → f k ≡ value) → where_valid validity f k ≡ value
@@ -149,29 +151,30 @@ slot_filled validity f k (Bool flag) valid same = rw valid (same refl)
 slot_filled validity f k (Int number) valid same = rw valid (same refl)
 slot_filled validity f k (Text bytes) valid same = rw valid (same refl)
 
-pub integers_fill : (integer : IntegerType) (kept packed : List ℕ) (values : List Value) (count : ℕ) → kept ≡ packed → AreBytes kept → length values ≡ count →
-    AreNumbersOf (byte_width integer) packed values count → AreOfType (type.Integer integer) values count → FillSlots (kind.Integers integer kept) (type.Integer integer) values
-integers_fill integer kept packed values count e bytes many made of = λ validity valid.
-    let has : AreNumbersOf (byte_width integer) kept values (length values) = rw (e, many) made in
-    record {
-      stand = record { validity = valid.long; values = omega (arith, has.long); bytes = bytes };
-      count = refl;
-      slots = λ k low. slot_filled validity (λ at. Int (integer_at integer kept at)) k (get_or values k Null) (valid.each k low)
-          (λ some. number_value integer (get_or values k Null) (element_at (byte_width integer) kept k) some (of k (omega (arith, many))) (has.each k low));
-      typed = refl;
-    }
+pub numbers_filled : (kind : NumberType) (cell : Cell) (kept packed : List ℕ) (values : List Value) (count : ℕ) → cell ≡ cell_of kind → kept ≡ packed → AreBytes kept → length packed ≡ cell_width cell * count → length values ≡ count →
+    ((k : ℕ) → k < length values → is_null (get_or values k Null) ≡ false → Int (number_in cell (element_at (cell_width cell) packed k)) ≡ get_or values k Null) →
+    FillSlots (kept_numbers cell kept) (type.Number kind) values
+numbers_filled kind (cell.Integer integer) kept packed values count is e bytes long many same = λ validity valid. let wide : length packed ≡ byte_width integer * count = long in record {
+  stand = record { validity = valid.long; values = rw many (omega (arith, wide, ap length e)); bytes = bytes };
+  count = refl;
+  slots = λ k low. slot_filled validity (λ at. Int (integer_at integer kept at)) k (get_or values k Null) (valid.each k low)
+      (λ some. ap (λ (xs : List ℕ). Int (integer_at integer xs k)) e ∙ same k low some);
+  typed = rw (← is) refl;
+}
+numbers_filled kind cell.Wide kept packed values count is e bytes long many same = λ validity valid. let wide : length packed ≡ 16 * count = long in record {
+  stand = record { validity = valid.long; values = rw many (omega (arith, wide, ap length e)); bytes = bytes };
+  count = refl;
+  slots = λ k low. slot_filled validity (λ at. Int (decimal_at kept at)) k (get_or values k Null) (valid.each k low)
+      (λ some. ap (λ (xs : List ℕ). Int (decimal_at xs k)) e ∙ same k low some);
+  typed = rw (← is) tt;
+}
 
-pub decimals_fill : (kept packed : List ℕ) (values : List Value) (count : ℕ) → kept ≡ packed → AreBytes kept → length values ≡ count →
-    AreNumbersOf 16 packed values count → AreOfType type.Decimal128 values count → FillSlots (kind.Decimals kept) type.Decimal128 values
-decimals_fill kept packed values count e bytes many made of = λ validity valid.
-    let has : AreNumbersOf 16 kept values (length values) = rw (e, many) made in
-    record {
-      stand = record { validity = valid.long; values = omega (arith, has.long); bytes = bytes };
-      count = refl;
-      slots = λ k low. slot_filled validity (λ at. Int (decimal_at kept at)) k (get_or values k Null) (valid.each k low)
-          (λ some. decimal_value (get_or values k Null) (element_at 16 kept k) some (of k (omega (arith, many))) (has.each k low));
-      typed = tt;
-    }
+pub numbers_fill : (kind : NumberType) (cell : Cell) (kept packed : List ℕ) (values : List Value) (count : ℕ) → cell ≡ cell_of kind → kept ≡ packed → AreBytes kept → length values ≡ count →
+    AreNumbersOf (cell_width cell) packed values count → AreOfType (type.Number kind) values count → FillSlots (kept_numbers cell kept) (type.Number kind) values
+numbers_fill kind cell kept packed values count is e bytes many made of =
+    numbers_filled kind cell kept packed values count is e bytes made.long many (λ k low some.
+    let under : k < count = omega (arith, low, many) in
+    number_value kind cell (get_or values k Null) (element_at (cell_width cell) packed k) is some (of k under) (made.each k under))
 
 -- the bytes of a value that is a text
 text_value : (value : Value) → is_null value ≡ false → IsValueOf type.Utf8 value → Text (text_bytes value) ≡ value

@@ -13,7 +13,10 @@ use Rattle.scan_base.specs.declared.value.Value.{Value}
 use Rattle.scan_base.specs.declared.value.Value.TheVariants.{Null, Int, Bool as Truth}
 use Rattle.arrow_types.specs.declared.data_type.IntegerType.{IntegerType}
 use Rattle.arrow_types.specs.declared.data_type.DataType.{DataType}
+use Rattle.arrow_types.specs.declared.data_type.Cell.{Cell}
+use Rattle.arrow_types.specs.declared.data_type.Cell.TheVariants as cell
 use Rattle.arrow_types.specs.declared.data_type.DataType.TheVariants as type
+use Rattle.arrow_types.specs.DataType.{cell_of}
 use Rattle.arrays.specs.declared.layout.Layout.{Layout}
 use Rattle.arrays.specs.declared.layout.Layout.TheVariants as layout
 use Rattle.arrays.specs.Validity.{is_valid, where_valid}
@@ -24,8 +27,9 @@ use Rattle.arrays.specs.Bools.{BoolsAt}
 use Rattle.arrays.specs.Indices.{IndicesAt, AreIndices}
 use Rattle.arrays.specs.Dictionary.{entry_at}
 use Rattle.arrays.specs.Layout.{layout_count, layout_slot}
-use Rattle.arrays.specs.TypedLayouts.{IsOfType}
+use Rattle.arrays.specs.TypedLayouts.{LieIn, IsOfType}
 use Rattle.arrays.specs.Column.{ColumnAt, IsColumn, slot_of, values_of, whole}
+use Rattle.arrays.proofs.OfType.{numbers_lie}
 use Rattle.array_select.specs.inside.GatheredSlots.{AreAmong, HasElementsAt, AreValidAt, AreGathered}
 
 -- a number in the front of some bytes, and one at their end
@@ -94,21 +98,30 @@ pub slot_is : (gathered validity : Option (List Bool)) (f g : ℕ → Value) (k 
 slot_is gathered validity f g k at valid same = rw (valid, same) refl
 
 -- what is gathered is of the type that it was
+integers_lie : (cell : Cell) (gathered cells : IntegersAt) → gathered.integer ≡ cells.integer → LieIn cell (layout.Integers cells) → LieIn cell (layout.Integers gathered)
+integers_lie (cell.Integer integer) gathered cells same of = same ∙ of
+integers_lie cell.Wide gathered cells same of = absurd of
+
 integers_typed : (data_type : DataType) (gathered cells : IntegersAt) → gathered.integer ≡ cells.integer → IsOfType data_type (layout.Integers cells) → IsOfType data_type (layout.Integers gathered)
-integers_typed (type.Integer integer) gathered cells same of = same ∙ of
-integers_typed type.Date gathered cells same of = same ∙ of
+integers_typed (type.Number kind) gathered cells same of = integers_lie (cell_of kind) gathered cells same of
 integers_typed data_type gathered cells same of = absurd of
 
+decimals_lie : (cell : Cell) (gathered cells : DecimalsAt) → LieIn cell (layout.Decimals cells) → LieIn cell (layout.Decimals gathered)
+decimals_lie cell.Wide gathered cells of = tt
+decimals_lie (cell.Integer integer) gathered cells of = absurd of
+
 decimals_typed : (data_type : DataType) (gathered cells : DecimalsAt) → IsOfType data_type (layout.Decimals cells) → IsOfType data_type (layout.Decimals gathered)
-decimals_typed type.Decimal128 gathered cells of = tt
+decimals_typed (type.Number kind) gathered cells of = decimals_lie (cell_of kind) gathered cells of
 decimals_typed data_type gathered cells of = absurd of
 
 bools_typed : (data_type : DataType) (gathered cells : BoolsAt) → IsOfType data_type (layout.Bools cells) → IsOfType data_type (layout.Bools gathered)
 bools_typed type.Bool gathered cells of = tt
+bools_typed (type.Number kind) gathered cells of = absurd (numbers_lie (cell_of kind) (layout.Bools cells) of)
 bools_typed data_type gathered cells of = absurd of
 
 indices_typed : (data_type : DataType) (gathered cells : IndicesAt) → IsOfType data_type (layout.Indices cells) → IsOfType data_type (layout.Indices gathered)
 indices_typed (type.Dictionary encoding) gathered cells of = tt
+indices_typed (type.Number kind) gathered cells of = absurd (numbers_lie (cell_of kind) (layout.Indices cells) of)
 indices_typed data_type gathered cells of = absurd of
 
 pub integers_gathered : (gathered cells : IntegersAt) (integer : IntegerType) (validity read_validity : Option (List Bool)) (values packed read_values : List ℕ) (first : ℕ) (places : List ℕ) →

@@ -11,19 +11,20 @@ use Rattle.scan_base.specs.declared.value.Value.{Value}
 use Rattle.scan_base.specs.declared.value.Value.TheVariants.{Null, Bool as Flag, Int, Text}
 use Rattle.scan_base.specs.Value.{is_null}
 use Rattle.arrow_types.specs.declared.data_type.IntegerType.{IntegerType}
+use Rattle.arrow_types.specs.declared.data_type.Cell.TheVariants as cell
 use Rattle.arrow_types.specs.declared.data_type.DataType.{DataType}
 use Rattle.arrow_types.specs.declared.data_type.DataType.TheVariants as type
 use Rattle.arrays.specs.declared.layout.Layout.{Layout}
 use Rattle.arrays.specs.declared.layout.Layout.TheVariants as layout
 use Rattle.arrays.specs.declared.slots.Values.TheVariants as kind
 use Rattle.array_select.specs.declared.many_places.SlotPlace.{SlotPlace}
-use Rattle.arrays.specs.Number.{AreBytes, byte_width, element_at, integer_at, decimal_at, number_from, signed_from}
+use Rattle.arrays.specs.Number.{byte_width, element_at, integer_at, decimal_at, number_from, signed_from}
 use Rattle.arrays.specs.Validity.{is_valid, where_valid, IsLong}
 use Rattle.arrays.specs.Integers.{IntegersAt}
 use Rattle.arrays.specs.Decimals.{DecimalsAt}
 use Rattle.arrays.specs.Nulls.{null_count}
 use Rattle.arrays.specs.Column.{ColumnAt, IsColumn, slot_of, values_of}
-use Rattle.arrays.specs.TypedLayouts.{IsOfType, IsValueOf}
+use Rattle.arrays.specs.TypedLayouts.{LieIn, IsOfType, IsValueOf}
 use Rattle.arrays.specs.WrittenSlots.{text_bytes, texts_joined}
 use Rattle.array_select.specs.GatherMany.{value_in, IsPlaceIn}
 use Rattle.array_select.specs.inside.SlotFilling.{flag_of, AreOfType, AreValidUnlessNull, FillSlots}
@@ -97,11 +98,11 @@ cut_is width first at values read e begins =
 
 -- the same of a column that has such a layout
 pub integers_of_column : (column : ColumnAt) (cells : IntegersAt) (integer : IntegerType) (packed : List ℕ) → column.layout ≡ layout.Integers cells → IsColumn column →
-    IsOfType (type.Integer integer) column.layout → packed ≡ drop (byte_width integer * column.first) cells.values → HasNumbers (number_from integer) (byte_width integer) packed column
+    LieIn (cell.Integer integer) column.layout → packed ≡ drop (byte_width integer * column.first) cells.values → HasNumbers (number_from integer) (byte_width integer) packed column
 integers_of_column column cells integer packed known is of cut =
     subst (λ (l : Layout). HasNumbers (number_from integer) (byte_width integer) packed (record { layout = l; first = column.first; len = column.len })) (sym known)
     (integers_held cells integer column.first column.len packed (subst (λ (l : Layout). IsColumn (record { layout = l; first = column.first; len = column.len })) known is)
-    (subst (IsOfType (type.Integer integer)) known of) cut)
+    (subst (LieIn (cell.Integer integer)) known of) cut)
 
 pub decimals_of_column : (column : ColumnAt) (cells : DecimalsAt) (packed : List ℕ) → column.layout ≡ layout.Decimals cells → IsColumn column →
     packed ≡ drop (16 * column.first) cells.values → HasNumbers (signed_from 128) 16 packed column
@@ -199,35 +200,13 @@ pub number_at : (number : ℕ → ℤ) (width : ℕ) (packed : List ℕ) (source
     HaveNumbers number width sources columns count → All (IsPlaceIn columns) places → AreValidUnlessNull validity (map (value_in columns) places) →
     HasCellsAt width packed sources places validity (length places) →
     (k : ℕ) → k < length (map (value_in columns) places) → is_null (get_or (map (value_in columns) places) k Null) ≡ false →
-    get_or (map (value_in columns) places) k Null ≡ Int (number (element_at width packed k))
+    Int (number (element_at width packed k)) ≡ get_or (map (value_in columns) places) k Null
 number_at number width packed sources columns places validity count e have there valid has k under some =
     let low : k < length places = omega (arith, under, length-map places (value_in columns)) in
     let is = there k first_place low in
     let value = get_or-map (value_in columns) places k first_place Null low in
     let held = (have.each (slot_place_at places k).column _ (omega (arith, is.column, e))).numbers (slot_place_at places k).place is.slot (ap is_null (sym value) ∙ some) in
-    value ∙ held ∙ ap (λ (bits : ℕ). Int (number bits)) (sym (has.each k low (valid.each k under ∙ ap not some)))
-
-pub integers_filled : (integer : IntegerType) (kept packed : List ℕ) (values : List Value) (count : ℕ) → kept ≡ packed → AreBytes kept → length packed ≡ byte_width integer * count → length values ≡ count →
-    ((k : ℕ) → k < length values → is_null (get_or values k Null) ≡ false → get_or values k Null ≡ Int (number_from integer (element_at (byte_width integer) packed k))) →
-    FillSlots (kind.Integers integer kept) (type.Integer integer) values
-integers_filled integer kept packed values count e bytes long many same = λ validity valid. record {
-  stand = record { validity = valid.long; values = rw many (omega (arith, long, ap length e)); bytes = bytes };
-  count = refl;
-  slots = λ k low. slot_filled validity (λ at. Int (integer_at integer kept at)) k (get_or values k Null) (valid.each k low)
-      (λ some. ap (λ (xs : List ℕ). Int (integer_at integer xs k)) e ∙ sym (same k low some));
-  typed = refl;
-}
-
-pub decimals_filled : (kept packed : List ℕ) (values : List Value) (count : ℕ) → kept ≡ packed → AreBytes kept → length packed ≡ 16 * count → length values ≡ count →
-    ((k : ℕ) → k < length values → is_null (get_or values k Null) ≡ false → get_or values k Null ≡ Int (signed_from 128 (element_at 16 packed k))) →
-    FillSlots (kind.Decimals kept) type.Decimal128 values
-decimals_filled kept packed values count e bytes long many same = λ validity valid. record {
-  stand = record { validity = valid.long; values = rw many (omega (arith, long, ap length e)); bytes = bytes };
-  count = refl;
-  slots = λ k low. slot_filled validity (λ at. Int (decimal_at kept at)) k (get_or values k Null) (valid.each k low)
-      (λ some. ap (λ (xs : List ℕ). Int (decimal_at xs k)) e ∙ sym (same k low some));
-  typed = tt;
-}
+    sym (value ∙ held ∙ ap (λ (bits : ℕ). Int (number bits)) (sym (has.each k low (valid.each k under ∙ ap not some))))
 
 -- ---- values
 

@@ -12,7 +12,9 @@ use Rattle.arrays.specs.declared.layout.Layout.TheVariants as layout
 use Rattle.arrays.specs.Number.{element_at}
 use Rattle.arrays.specs.Validity.{is_valid, IsLong}
 use Rattle.arrays.specs.Texts.{TextsAt, text_at, AreTexts}
+use Rattle.arrow_types.specs.DataType.{cell_of}
 use Rattle.arrays.specs.TypedLayouts.{IsOfType}
+use Rattle.arrays.proofs.OfType.{numbers_lie}
 use Rattle.arrays.specs.WrittenSlots.{text_bytes, texts_joined, offsets_from}
 use Rattle.array_select.specs.inside.GatheredSlots.{AreAmong, AreValidAt, AreGathered, texts_at}
 use Rattle.arrays.proofs.Offsets.{length-offsets}
@@ -135,6 +137,7 @@ gathered_stand cells validity read_validity offsets bytes made_offsets made_byte
 
 texts_typed : (data_type : DataType) (gathered cells : TextsAt) → IsOfType data_type (layout.Texts cells) → IsOfType data_type (layout.Texts gathered)
 texts_typed type.Utf8 gathered cells of = tt
+texts_typed (type.Number kind) gathered cells of = absurd (numbers_lie (cell_of kind) (layout.Texts cells) of)
 texts_typed data_type gathered cells of = absurd of
 
 pub texts_gathered : (gathered cells : TextsAt) (validity read_validity : Option (List Bool)) (offsets bytes made_offsets made_bytes : List ℕ) (first : ℕ) (places : List ℕ) →

@@ -8,4 +8,3 @@ mod FilledSlots
 mod Textless
 pub mod Light
 pub mod Shares
-pub mod Dates

@@ -5,14 +5,15 @@ use Rattle.std.proofs.lemmas.List.Elements.{All-head, All-tail}
 use Rattle.arrow_types.specs.declared.data_type.DataType.{DataType}
 use Rattle.arrow_types.specs.declared.data_type.DataType.TheVariants as type
 use Rattle.scan_base.specs.declared.value.Value.{Value}
-use Rattle.scan_base.specs.declared.value.Value.TheVariants.{Null, Bool, Int}
+use Rattle.scan_base.specs.declared.value.Value.TheVariants.{Null, Bool}
 use Rattle.arrays.specs.declared.layout.Layout.{Layout}
 use Rattle.arrays.specs.declared.layout.Layout.TheVariants as layout
 use Rattle.array_select.specs.declared.of_slots.SlotRef.{SlotRef}
 use Rattle.array_select.specs.OfSlots.{slot_value}
 use Rattle.arrays.specs.Layout.{layout_slot}
-use Rattle.arrays.specs.Number.{integer_at, decimal_at}
+use Rattle.arrow_types.specs.DataType.{cell_of}
 use Rattle.arrays.specs.TypedLayouts.{IsOfType}
+use Rattle.arrays.proofs.OfType.{number_slot}
 use Rattle.arrays.specs.Validity.{is_valid, where_valid}
 use Rattle.arrays.specs.WrittenSlots.{text_bytes, texts_joined}
 use Rattle.array_select.specs.Fitting.{AreLight, Fits, has_texts}
@@ -62,9 +63,7 @@ no_text_where validity value place e = by (is_valid validity place)
 
 -- a slot of a type that has none is no text
 pub no_text : (data_type : DataType) (known : Layout) (place : ℕ) → has_texts data_type ≡ false → IsOfType data_type known → text_bytes (layout_slot known place) ≡ []
-no_text (type.Integer integer) (layout.Integers cells) place plain of = no_text_where cells.validity (λ at. Int (integer_at cells.integer cells.values at)) place refl
-no_text type.Date (layout.Integers cells) place plain of = no_text_where cells.validity (λ at. Int (integer_at cells.integer cells.values at)) place refl
-no_text type.Decimal128 (layout.Decimals cells) place plain of = no_text_where cells.validity (λ at. Int (decimal_at cells.values at)) place refl
+no_text (type.Number kind) known place plain of = number_slot (λ (value : Value). text_bytes value ≡ []) (cell_of kind) known place of refl (λ number. refl)
 no_text type.Bool (layout.Bools cells) place plain of = no_text_where cells.validity (λ at. Bool (get_or cells.values at false)) place refl
 no_text type.Utf8 known place plain of = cc
 no_text (type.Dictionary encoding) known place plain of = cc

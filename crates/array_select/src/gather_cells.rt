@@ -1,11 +1,13 @@
 //! Packed numbers and truth values of several columns at places, in buffers of their own.
 
 ghost use Rattle.std.specs.Prelude.{◌≡◌, ◌≤◌, ◌<◌, ◌+◌, ◌*◌, ℕ, All, IfOk, length, map, true};
+ghost use Rattle.arrow_types.specs.declared.data_type.Cell.TheVariants as cell;
 ghost use Rattle.arrow_types.specs.declared.data_type.DataType.TheVariants as type;
 ghost use Rattle.byteorder.specs.Endian.{little_from};
-ghost use Rattle.arrays.specs.Number.{byte_width, element_at, number_from, signed_from};
+ghost use Rattle.arrays.specs.Number.{byte_width, cell_width, element_at, number_from, number_in};
+ghost use Rattle.arrays.specs.Number.{signed_from};
 ghost use Rattle.arrays.specs.Column.{IsColumn};
-ghost use Rattle.arrays.specs.TypedLayouts.{IsOfType};
+ghost use Rattle.arrays.specs.TypedLayouts.{IsOfType, LieIn};
 ghost use Rattle.arrays.specs.Validity.{IsLong};
 ghost use Rattle.array_select.specs.inside.SlotFilling.{flag_of, AreValidUnlessNull, FillSlots};
 ghost use Rattle.array_select.specs.inside.GatheredMany.{columns_of, values_at, AreThere};
@@ -13,9 +15,9 @@ ghost use Rattle.array_select.specs.inside.GatheredMany.{cell_at, HasNumbers, Ha
 ghost use Rattle.array_select.specs.inside.GatheredMany.{HaveRoom, HasCellsAt};
 
 use crate::many_places::SlotPlaces;
-use crate::slot_filling::flag_of;
+use crate::slot_filling::{flag_of, kept_numbers};
 use arrays::{Cells, Column, Layout, Validity, Values, are_bytes, byte_width};
-use arrow_types::IntegerType;
+use arrow_types::{Cell, IntegerType, NumberType};
 use bitmap::{Bits, BitsBuilder};
 use bytes::Bytes;
 use std::alloc::{AllocError, Global};
@@ -24,7 +26,7 @@ const ZEROS: [u8; 16] = [0; 16];
 
 // The packed integers of a column's slots.
 fn packed_integers(column: &Column, integer: IntegerType) -> &[u8]
-    requires { IsOfType (type.Integer integer) column.now.layout }
+    requires { LieIn (cell.Integer integer) column.now.layout }
     ensures { HasNumbers (number_from integer) (byte_width integer) result.now column.now }
 {
     let _count = column.len();
@@ -36,7 +38,7 @@ fn packed_integers(column: &Column, integer: IntegerType) -> &[u8]
 
 // The packed decimals of a column's slots.
 fn packed_decimals(column: &Column) -> &[u8]
-    requires { IsOfType type.Decimal128 column.now.layout }
+    requires { LieIn cell.Wide column.now.layout }
     ensures { HasNumbers (signed_from 128) 16 result.now column.now }
 {
     let _count = column.len();
@@ -46,95 +48,76 @@ fn packed_decimals(column: &Column) -> &[u8]
     }
 }
 
+// The packed numbers of a column's slots, which lie in such cells.
+fn packed_numbers(column: &Column, cell: Cell) -> &[u8]
+    requires { LieIn cell column.now.layout }
+    ensures { HasNumbers (number_in cell) (cell_width cell) result.now column.now }
+{
+    match cell {
+        Cell::Integer(integer) => packed_integers(column, integer),
+        Cell::Wide => packed_decimals(column),
+    }
+}
+
 impl<'a> SlotPlaces<'a> {
-    pub(crate) fn gather_integers(
+    pub(crate) fn gather_numbers(
         &self,
         alloc: Global,
-        integer: IntegerType,
+        number: NumberType,
         validity: &Validity,
     ) -> Result<Values, AllocError>
         requires there { AreThere self.now }
-        requires typed { All (λ column. IsOfType (type.Integer integer) column.layout)
+        requires typed { All (λ column. IsOfType (type.Number number) column.layout)
             (columns_of self.now) }
         requires valid { AreValidUnlessNull validity.now (values_at self.now) }
-        ensures { IfOk result (λ kept. FillSlots kept (type.Integer integer) (values_at self.now)) }
+        ensures { IfOk result (λ kept. FillSlots kept (type.Number number) (values_at self.now)) }
     {
-        let sources = self.packed_integers(alloc, integer)?;
-        let made = self.gather_width(alloc, integer, sources.as_slice(), validity)?;
+        let cell = number.cell();
+        let sources = self.packed_numbers(alloc, cell)?;
+        let made = self.gather_width(alloc, cell, sources.as_slice(), validity)?;
         let packed = Bytes::from_vec(made)?;
         are_bytes(packed.as_slice());
-        Ok(Values::Integers(integer, packed))
+        Ok(kept_numbers(cell, packed))
     }
 
-    // Dates lie as integers of 32 signed bits.
-    pub(crate) fn gather_dates(
-        &self,
-        alloc: Global,
-        validity: &Validity,
-    ) -> Result<Values, AllocError>
-        requires there { AreThere self.now }
-        requires typed { All (λ column. IsOfType type.Date column.layout) (columns_of self.now) }
-        requires valid { AreValidUnlessNull validity.now (values_at self.now) }
-        ensures { IfOk result (λ kept. FillSlots kept type.Date (values_at self.now)) }
-    {
-        let kept = self.gather_integers(alloc, IntegerType::Int32, validity)?;
-        Ok(kept)
-    }
-
-    pub(crate) fn gather_decimals(
-        &self,
-        alloc: Global,
-        validity: &Validity,
-    ) -> Result<Values, AllocError>
-        requires there { AreThere self.now }
-        requires typed { All (λ column. IsOfType type.Decimal128 column.layout)
-            (columns_of self.now) }
-        requires valid { AreValidUnlessNull validity.now (values_at self.now) }
-        ensures { IfOk result (λ kept. FillSlots kept type.Decimal128 (values_at self.now)) }
-    {
-        let sources = self.packed_decimals(alloc)?;
-        let made = self.gather_cells::<16>(alloc, sources.as_slice(), validity)?;
-        let packed = Bytes::from_vec(made)?;
-        are_bytes(packed.as_slice());
-        Ok(Values::Decimals(packed))
-    }
-
-    // The packed integers of each column.
-    fn packed_integers(
-        &self,
-        alloc: Global,
-        integer: IntegerType,
-    ) -> Result<Vec<&'a [u8]>, AllocError>
-        requires { All (λ column. IsOfType (type.Integer integer) column.layout)
-            (columns_of self.now) }
+    // The packed numbers of each column.
+    fn packed_numbers(&self, alloc: Global, cell: Cell) -> Result<Vec<&'a [u8]>, AllocError>
+        requires { All (λ column. LieIn cell column.layout) (columns_of self.now) }
         ensures { IfOk result (λ sources.
-            HaveNumbers (number_from integer) (byte_width integer)
+            HaveNumbers (number_in cell) (cell_width cell)
             (map (λ source. source.now) sources.items)
             (columns_of self.now) (length self.now.columns.now)) }
     {
         let mut sources = Vec::with_capacity(alloc, self.columns.len())?;
         for column in self.columns {
-            sources.push(packed_integers(column, integer))?;
+            sources.push(packed_numbers(column, cell))?;
         }
         Ok(sources)
     }
 
-    // The packed decimals of each column.
-    fn packed_decimals(&self, alloc: Global) -> Result<Vec<&'a [u8]>, AllocError>
-        requires { All (λ column. IsOfType type.Decimal128 column.layout) (columns_of self.now) }
-        ensures { IfOk result (λ sources.
-            HaveNumbers (signed_from 128) 16 (map (λ source. source.now) sources.items)
-            (columns_of self.now) (length self.now.columns.now)) }
+    // The packed numbers of the slots.
+    fn gather_width(
+        &self,
+        alloc: Global,
+        cell: Cell,
+        sources: &[&[u8]],
+        validity: &Validity,
+    ) -> Result<Vec<u8>, AllocError>
+        requires room { HaveRoom (cell_width cell)
+            (map (λ source. source.now) sources.now) self.now.places.now }
+        requires valid { IsLong validity.now (length self.now.places.now) }
+        ensures { IfOk result
+            (λ packed. HasCellsAt (cell_width cell) packed.items (map (λ source. source.now)
+            sources.now) self.now.places.now validity.now (length self.now.places.now)) }
     {
-        let mut sources = Vec::with_capacity(alloc, self.columns.len())?;
-        for column in self.columns {
-            sources.push(packed_decimals(column))?;
+        match cell {
+            Cell::Integer(integer) => self.gather_integers(alloc, integer, sources, validity),
+            Cell::Wide => self.gather_cells::<16>(alloc, sources, validity),
         }
-        Ok(sources)
     }
 
     // The packed integers of the slots.
-    fn gather_width(
+    fn gather_integers(
         &self,
         alloc: Global,
         integer: IntegerType,

@@ -12,6 +12,7 @@ pub mod selection;
 mod slot_filling;
 mod source;
 mod text_filling;
+mod typed_values;
 mod value_columns;
 
 pub use crate::at_places::gather;
@@ -22,6 +23,7 @@ pub use crate::room::{
     tried_rows,
 };
 pub use crate::selection::Selection;
+pub use crate::typed_values::column_of_values;
 pub use crate::value_columns::{
     column_of_bools, column_of_decimals, column_of_int64s, column_of_texts,
 };

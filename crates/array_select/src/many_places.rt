@@ -152,9 +152,7 @@ impl<'a> SlotPlaces<'a> {
         ensures { IfOk result (λ kept. FillSlots kept data_type (values_at self.now)) }
     {
         match data_type {
-            DataType::Integer(integer) => self.gather_integers(alloc, integer, validity),
-            DataType::Decimal128 => self.gather_decimals(alloc, validity),
-            DataType::Date => self.gather_dates(alloc, validity),
+            DataType::Number(number) => self.gather_numbers(alloc, number, validity),
             DataType::Bool => self.gather_flags(alloc),
             DataType::Utf8 | DataType::Dictionary(_) => self.gather_texts(alloc),
         }

@@ -36,17 +36,6 @@ impl Selection {
         }
     }
 
-    /// Makes room for so many places more.
-    ///
-    /// # Errors
-    ///
-    /// `AllocError` where memory is refused.
-    pub fn reserve(&mut self, more: usize) -> Result<(), AllocError>
-        ensures { self.new ≡ self.old }
-    {
-        Ok(self.places.reserve(more)?)
-    }
-
     /// Adds a place after all others.
     ///
     /// # Errors

@@ -10,12 +10,12 @@ ghost use Rattle.arrays.specs.TypedLayouts.{IsOfType};
 ghost use Rattle.arrays.specs.WrittenSlots.{texts_joined};
 ghost use Rattle.array_select.specs.inside.SlotFilling.{number_of, flag_of, AreOfType};
 ghost use Rattle.array_select.specs.inside.SlotFilling.{AreValidUnlessNull, AreNumbersOf};
-ghost use Rattle.array_select.specs.inside.SlotFilling.{FillSlots};
+ghost use Rattle.array_select.specs.inside.SlotFilling.{kept_numbers, FillSlots};
 
 use crate::source::Source;
 use crate::text_filling::fill_texts;
-use arrays::{Column, Slots, Validity, Values, are_bytes, byte_width, is_null};
-use arrow_types::{DataType, IntegerType};
+use arrays::{Column, Slots, Validity, Values, are_bytes, cell_width, is_null};
+use arrow_types::{Cell, DataType, NumberType};
 use bitmap::{Bits, BitsBuilder};
 use bytes::Bytes;
 use scan_base::ValueRef;
@@ -74,46 +74,35 @@ fn fill_values<S: Source>(
     ensures { IfOk result (λ kept. FillSlots kept data_type (map S.held slots.now)) }
 {
     match data_type {
-        DataType::Integer(integer) => fill_integers(alloc, integer, slots),
-        DataType::Decimal128 => fill_decimals(alloc, slots),
-        DataType::Date => fill_dates(alloc, slots),
+        DataType::Number(number) => fill_numbers(alloc, number, slots),
         DataType::Bool => fill_bools(alloc, slots),
         DataType::Utf8 | DataType::Dictionary(_) => fill_texts(alloc, slots),
     }
 }
 
-fn fill_integers<S: Source>(
+fn fill_numbers<S: Source>(
     alloc: Global,
-    integer: IntegerType,
+    number: NumberType,
     slots: &[S],
 ) -> Result<Values, AllocError>
     requires there { All S.IsThere slots.now }
-    requires typed { AreOfType (type.Integer integer) (map S.held slots.now) (length slots.now) }
-    ensures { IfOk result (λ kept. FillSlots kept (type.Integer integer) (map S.held slots.now)) }
+    requires typed { AreOfType (type.Number number) (map S.held slots.now) (length slots.now) }
+    ensures { IfOk result (λ kept. FillSlots kept (type.Number number) (map S.held slots.now)) }
 {
-    let packed = Bytes::from_vec(pack_numbers(alloc, byte_width(integer), slots)?)?;
+    let cell = number.cell();
+    let packed = Bytes::from_vec(pack_numbers(alloc, cell_width(cell), slots)?)?;
     are_bytes(packed.as_slice());
-    Ok(Values::Integers(integer, packed))
+    Ok(kept_numbers(cell, packed))
 }
 
-// Dates lie as integers of 32 signed bits.
-fn fill_dates<S: Source>(alloc: Global, slots: &[S]) -> Result<Values, AllocError>
-    requires there { All S.IsThere slots.now }
-    requires typed { AreOfType type.Date (map S.held slots.now) (length slots.now) }
-    ensures { IfOk result (λ kept. FillSlots kept type.Date (map S.held slots.now)) }
+// Packed numbers, as a column keeps those that lie in such cells.
+pub(crate) fn kept_numbers(cell: Cell, packed: Bytes) -> Values
+    ensures { result ≡ kept_numbers cell packed }
 {
-    let kept = fill_integers(alloc, IntegerType::Int32, slots)?;
-    Ok(kept)
-}
-
-fn fill_decimals<S: Source>(alloc: Global, slots: &[S]) -> Result<Values, AllocError>
-    requires there { All S.IsThere slots.now }
-    requires typed { AreOfType type.Decimal128 (map S.held slots.now) (length slots.now) }
-    ensures { IfOk result (λ kept. FillSlots kept type.Decimal128 (map S.held slots.now)) }
-{
-    let packed = Bytes::from_vec(pack_numbers(alloc, 16, slots)?)?;
-    are_bytes(packed.as_slice());
-    Ok(Values::Decimals(packed))
+    match cell {
+        Cell::Integer(integer) => Values::Integers(integer, packed),
+        Cell::Wide => Values::Decimals(packed),
+    }
 }
 
 fn fill_bools<S: Source>(alloc: Global, slots: &[S]) -> Result<Values, AllocError>

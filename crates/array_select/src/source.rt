@@ -6,6 +6,7 @@ ghost use Rattle.scan_base.specs.declared.value.Value.TheVariants as value;
 ghost use Rattle.scan_base.specs.Value.{value_of};
 ghost use Rattle.arrow_types.specs.declared.data_type.DataType.{DataType};
 ghost use Rattle.arrow_types.specs.declared.data_type.DataType.TheVariants as type;
+ghost use Rattle.arrow_types.specs.declared.data_type.NumberType.TheVariants as number;
 ghost use Rattle.arrow_types.specs.declared.data_type.IntegerType.TheVariants as integer;
 ghost use Rattle.arrays.specs.TypedLayouts.{IsOfType, IsValueOf};
 ghost use Rattle.array_select.specs.OfSlots.{slot_value};
@@ -50,7 +51,8 @@ impl Source for Option<i64> {
 
     ghost IsThere = { λ _. Unit {0} };
 
-    ghost IsOf = { λ data_type _. data_type ≡ type.Integer integer.Int64 };
+    ghost IsOf = { λ data_type _. data_type
+        ≡ type.Number (number.Integer integer.Int64) };
 
     fn value(&self) -> ValueRef<'_> {
         match self {
@@ -65,7 +67,7 @@ impl Source for Option<i128> {
 
     ghost IsThere = { λ _. Unit {0} };
 
-    ghost IsOf = { λ data_type _. data_type ≡ type.Decimal128 };
+    ghost IsOf = { λ data_type _. data_type ≡ type.Number number.Decimal };
 
     fn value(&self) -> ValueRef<'_> {
         match self {

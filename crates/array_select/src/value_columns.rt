@@ -2,6 +2,7 @@
 
 ghost use Rattle.std.specs.Prelude.{◌≡◌, ◌<◌, ◌^◌, IfOk, length, map};
 ghost use Rattle.scan_base.specs.declared.value.Value.TheVariants as value;
+ghost use Rattle.arrow_types.specs.declared.data_type.NumberType.TheVariants as number;
 ghost use Rattle.arrow_types.specs.declared.data_type.IntegerType.TheVariants as integer;
 ghost use Rattle.arrow_types.specs.declared.data_type.DataType.TheVariants as type;
 ghost use Rattle.arrays.specs.Column.{values_of};
@@ -11,7 +12,7 @@ ghost use Rattle.array_select.specs.ColumnValues.{value_or_null};
 
 use crate::slot_filling::fill_column;
 use arrays::Column;
-use arrow_types::{DataType, IntegerType};
+use arrow_types::{DataType, IntegerType, NumberType};
 use std::alloc::{AllocError, Global};
 
 /// A column of Int64 of these values, null where there is none.
@@ -22,10 +23,15 @@ use std::alloc::{AllocError, Global};
 pub fn column_of_int64s(alloc: Global, values: &[Option<i64>]) -> Result<Column, AllocError>
     ensures values { IfOk result
         (λ column. values_of column ≡ map (value_or_null value.Int) values.now) }
-    ensures typed { IfOk result (λ column. IsOfType (type.Integer integer.Int64) column.layout) }
+    ensures typed { IfOk result
+        (λ column. IsOfType (type.Number (number.Integer integer.Int64)) column.layout) }
     ensures long { IfOk result (λ column. column.len ≡ length values.now) }
 {
-    fill_column(alloc, DataType::Integer(IntegerType::Int64), values)
+    fill_column(
+        alloc,
+        DataType::Number(NumberType::Integer(IntegerType::Int64)),
+        values,
+    )
 }
 
 /// A column of decimals of 38 digits with none after the point of these values, null where there is
@@ -37,10 +43,10 @@ pub fn column_of_int64s(alloc: Global, values: &[Option<i64>]) -> Result<Column,
 pub fn column_of_decimals(alloc: Global, values: &[Option<i128>]) -> Result<Column, AllocError>
     ensures values { IfOk result
         (λ column. values_of column ≡ map (value_or_null value.Int) values.now) }
-    ensures typed { IfOk result (λ column. IsOfType type.Decimal128 column.layout) }
+    ensures typed { IfOk result (λ column. IsOfType (type.Number number.Decimal) column.layout) }
     ensures long { IfOk result (λ column. column.len ≡ length values.now) }
 {
-    fill_column(alloc, DataType::Decimal128, values)
+    fill_column(alloc, DataType::Number(NumberType::Decimal), values)
 }
 
 /// A column of truth values, null where there is none.

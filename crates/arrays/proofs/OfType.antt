@@ -1,5 +1,5 @@
 -- The values of a column are of its type.
-use Rattle.std.proofs.Common.{◌≡◌, ◌≤ℤ◌, ◌<ℤ◌, ℕ, subst, FitsSigned, w32, ◌+◌, ◌*◌, ◌^◌, ◌<◌, ℤ, pos, negsuc, Bool as Truth, true, false, if◌then◌else◌, List, length, Option, unwrap_or, All, get_or, inl, inr, arith}
+use Rattle.std.proofs.Common.{◌≤ℤ◌, ◌<ℤ◌, ℕ, FitsSigned, w32, ◌+◌, ◌^◌, ◌<◌, ℤ, pos, negsuc, Bool as Truth, true, false, if◌then◌else◌, List, length, Option, unwrap_or, All, get_or, inl, inr, arith}
 use Rattle.std.specs.Int.{Width, w8, w16, w64, w128}
 use Rattle.std.proofs.lemmas.Bool.{cases_lt}
 use Rattle.std.proofs.lemmas.Option.{slice_get-get_or, slice_get_past}
@@ -8,19 +8,22 @@ use Rattle.scan_base.specs.declared.value.Value.{Value}
 use Rattle.scan_base.specs.declared.value.Value.TheVariants.{Null, Bool, Int, Text}
 use Rattle.arrow_types.specs.declared.data_type.IntegerType.{IntegerType}
 use Rattle.arrow_types.specs.declared.data_type.IntegerType.TheVariants.{Int8, Int16, Int32, Int64, UInt8, UInt16, UInt32, UInt64}
+use Rattle.arrow_types.specs.declared.data_type.Cell.{Cell}
+use Rattle.arrow_types.specs.declared.data_type.Cell.TheVariants as cell
 use Rattle.arrow_types.specs.declared.data_type.DataType.{DataType}
 use Rattle.arrow_types.specs.declared.data_type.DataType.TheVariants as type
+use Rattle.arrow_types.specs.DataType.{cell_of}
 use Rattle.arrays.specs.declared.layout.Layout.{Layout}
 use Rattle.arrays.specs.declared.layout.Layout.TheVariants as layout
 use Rattle.arrays.specs.Number.{AreBytes, element_at, integer_at, decimal_at}
 use Rattle.arrays.specs.Validity.{is_valid, where_valid}
 use Rattle.arrays.specs.Dictionary.{entry_at}
 use Rattle.arrays.specs.Indices.{IndicesAt}
-use Rattle.arrays.specs.Layout.{layout_slot}
+use Rattle.arrays.specs.Layout.{layout_slot, IsLayout}
 use Rattle.scan_base.specs.Value.{IsTextOrNull}
 use Rattle.arrays.specs.Column.{IsColumn, slot_of}
 use Rattle.arrays.specs.inside.SignedNumbers.{element_small, fits8, fits16, fits32, fits64}
-use Rattle.arrays.specs.TypedLayouts.{IsOfType, IsInteger, IsValueOf, ValuesAreOfTheirType}
+use Rattle.arrays.specs.TypedLayouts.{LieIn, IsOfType, IsInteger, FitsCell, IsValueOf, ValuesAreOfTheirType}
 use Rattle.arrays.proofs.EachSlot.{all_slots}
 use Rattle.arrays.proofs.TextSlots.{slot_is_text}
 
@@ -74,17 +77,38 @@ integer_wide UInt16 values place bytes = let small = element_small 2 place value
 integer_wide UInt32 values place bytes = let small = element_small 4 place values bytes in unsigned_wide _ (omega (arith, small))
 integer_wide UInt64 values place bytes = let small = element_small 8 place values bytes in unsigned_wide _ (omega (arith, small))
 
--- a number of a slot of dates fits 32 signed bits
-dates_fit : (integer : IntegerType) (values : List ℕ) (place : ℕ) → integer ≡ Int32 → AreBytes values → FitsSigned w32 (integer_at integer values place)
-dates_fit integer values place same bytes = subst (λ (kind : IntegerType). IsInteger kind (integer_at integer values place)) same (integer_in integer values place bytes)
-
--- what holds of a valid slot's value holds of the slot
-slot_is : (data_type : DataType) (validity : Option (List Truth)) (value : ℕ → Value) (place : ℕ) → IsValueOf data_type Null → IsValueOf data_type (value place) → IsValueOf data_type (where_valid validity value place)
-slot_is data_type validity value place null is = by (is_valid validity place)
+-- what holds of null and of a valid slot's value holds of the slot
+slot_is : (P : Value → Type 0) (validity : Option (List Truth)) (value : ℕ → Value) (place : ℕ) → P Null → P (value place) → P (where_valid validity value place)
+slot_is P validity value place null is = by (is_valid validity place)
   where
-    by : (valid : Truth) → IsValueOf data_type (if valid then value place else Null)
+    by : (valid : Truth) → P (if valid then value place else Null)
     by true = is
     by false = null
+
+-- what lies in cells is numbers
+abbrev pub AreNumbers : Layout → Type 0
+AreNumbers (layout.Integers cells) = Unit {0}
+AreNumbers (layout.Decimals cells) = Unit {0}
+AreNumbers _ = ⊥
+
+pub numbers_lie : (cell : Cell) (known : Layout) → LieIn cell known → AreNumbers known
+numbers_lie (cell.Integer integer) (layout.Integers cells) of = tt
+numbers_lie cell.Wide (layout.Decimals cells) of = tt
+numbers_lie cell known of = absurd of
+
+-- what holds of null and of each number holds of a slot of cells
+pub number_slot : (P : Value → Type 0) (cell : Cell) (known : Layout) (place : ℕ) → LieIn cell known → P Null → ((number : ℤ) → P (Int number)) → P (layout_slot known place)
+number_slot P (cell.Integer integer) (layout.Integers cells) place of null is = slot_is P cells.validity (λ at. Int (integer_at cells.integer cells.values at)) place null (is (integer_at cells.integer cells.values place))
+number_slot P cell.Wide (layout.Decimals cells) place of null is = slot_is P cells.validity (λ at. Int (decimal_at cells.values at)) place null (is (decimal_at cells.values place))
+number_slot P cell known place of null is = absurd of
+
+-- the same where it holds of the numbers of the cell alone
+pub cell_slot : (P : Value → Type 0) (cell : Cell) (known : Layout) (place : ℕ) → IsLayout known → LieIn cell known → P Null → ((number : ℤ) → FitsCell cell number → P (Int number)) → P (layout_slot known place)
+cell_slot P (cell.Integer integer) (layout.Integers cells) place stands of null is =
+    slot_is P cells.validity (λ at. Int (integer_at cells.integer cells.values at)) place null (is (integer_at cells.integer cells.values place) (rw (← of) (integer_in cells.integer cells.values place stands.bytes)))
+cell_slot P cell.Wide (layout.Decimals cells) place stands of null is =
+    slot_is P cells.validity (λ at. Int (decimal_at cells.values at)) place null (is (decimal_at cells.values place) (sfits_to_z (record { fits = element_small 16 place cells.values stands.bytes })))
+cell_slot P cell known place stands of null is = absurd of
 
 utf8_text : (value : Value) → IsTextOrNull value → IsValueOf type.Utf8 value
 utf8_text Null is = tt
@@ -94,13 +118,8 @@ utf8_text (Int number) is = absurd is
 
 pub of_type : (data_type : DataType) (known : Layout) (first len : ℕ) → IsColumn (record { layout = known; first = first; len = len }) → IsOfType data_type known →
     (j : ℕ) → j < len → IsValueOf data_type (slot_of (record { layout = known; first = first; len = len }) j)
-of_type (type.Integer integer) (layout.Integers cells) first len stands of j low =
-    slot_is (type.Integer integer) cells.validity (λ at. Int (integer_at cells.integer cells.values at)) (first + j) tt (rw (← of) (integer_in cells.integer cells.values (first + j) stands.stands.bytes))
-of_type type.Decimal128 (layout.Decimals cells) first len stands of j low =
-    slot_is type.Decimal128 cells.validity (λ at. Int (decimal_at cells.values at)) (first + j) tt (sfits_to_z (record { fits = element_small 16 (first + j) cells.values stands.stands.bytes }))
-of_type type.Date (layout.Integers cells) first len stands of j low =
-    slot_is type.Date cells.validity (λ at. Int (integer_at cells.integer cells.values at)) (first + j) tt (dates_fit cells.integer cells.values (first + j) of stands.stands.bytes)
-of_type type.Bool (layout.Bools cells) first len stands of j low = slot_is type.Bool cells.validity (λ at. Bool (get_or cells.values at false)) (first + j) tt tt
+of_type (type.Number kind) known first len stands of j low = cell_slot (IsValueOf (type.Number kind)) (cell_of kind) known (first + j) stands.stands of tt (λ number fits. fits)
+of_type type.Bool (layout.Bools cells) first len stands of j low = slot_is (IsValueOf type.Bool) cells.validity (λ at. Bool (get_or cells.values at false)) (first + j) tt tt
 of_type type.Utf8 (layout.Texts cells) first len stands of j low = utf8_text _ (slot_is_text cells (first + j) (stands.stands.texts (first + j) (omega (arith, stands.within))))
 of_type (type.Dictionary encoding) (layout.Indices cells) first len stands of j low = utf8_text _ (index_is_text cells (first + j) stands.stands.texts)
 of_type data_type known first len stands of j low = absurd of

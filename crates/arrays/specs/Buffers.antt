@@ -5,10 +5,12 @@ use Rattle.scan_base.specs.declared.fault.Fault.{Fault}
 use Rattle.scan_base.specs.declared.fault.Fault.TheVariants.{BadBatch}
 use Rattle.scan_base.specs.declared.value.Value.{Value}
 use Rattle.scan_base.specs.Reading.{◌>>=◌}
-use Rattle.arrow_types.specs.declared.data_type.IntegerType.TheVariants.{Int32}
+use Rattle.arrow_types.specs.declared.data_type.Cell.{Cell}
+use Rattle.arrow_types.specs.declared.data_type.Cell.TheVariants as cell
 use Rattle.arrow_types.specs.declared.data_type.DataType.{DataType}
-use Rattle.arrow_types.specs.declared.data_type.DataType.TheVariants.{Integer, Utf8, Bool}
-use Rattle.arrow_types.specs.declared.data_type.DataType.TheVariants.{Decimal128, Date, Dictionary}
+use Rattle.arrow_types.specs.declared.data_type.DataType.TheVariants.{Number, Utf8, Bool}
+use Rattle.arrow_types.specs.declared.data_type.DataType.TheVariants.{Dictionary}
+use Rattle.arrow_types.specs.DataType.{cell_of}
 use Rattle.arrays.specs.declared.layout.Layout.{Layout}
 use Rattle.arrays.specs.declared.layout.Layout.TheVariants as layout
 use Rattle.arrays.specs.Integers.{integers_of}
@@ -26,18 +28,21 @@ buffer_count _ = 2
 abbrev pub read_as : {Cells : Type 0} → (Cells → Layout) → Result Cells Fault → Result Layout Fault
 read_as layout read = read >>= λ cells. Ok (layout cells)
 
+-- numbers that lie in such cells
+abbrev pub numbers_layout : Cell → Option (List ℕ) → List ℕ → ℕ → Result Layout Fault
+numbers_layout (cell.Integer integer) validity values len =
+    integers_of integer validity values len >>= λ cells. Ok (layout.Integers cells)
+numbers_layout cell.Wide validity values len =
+    decimals_of validity values len >>= λ cells. Ok (layout.Decimals cells)
+
 -- Slots of a type whose values lie in one buffer. An index leads into these values of its
 -- dictionary.
 unfoldable pub values_layout : DataType → List Value → Option (List ℕ) → List ℕ → ℕ →
     Result Layout Fault
-values_layout (Integer integer) _ validity values len =
-    integers_of integer validity values len >>= λ cells. Ok (layout.Integers cells)
+values_layout (Number number) _ validity values len =
+    numbers_layout (cell_of number) validity values len
 values_layout Bool _ validity values len =
     bools_of validity values len >>= λ cells. Ok (layout.Bools cells)
-values_layout Decimal128 _ validity values len =
-    decimals_of validity values len >>= λ cells. Ok (layout.Decimals cells)
-values_layout Date _ validity values len =
-    integers_of Int32 validity values len >>= λ cells. Ok (layout.Integers cells)
 values_layout (Dictionary encoding) dictionary validity values len =
     indices_of encoding.index validity values dictionary len >>= λ cells. Ok (layout.Indices cells)
 values_layout Utf8 _ _ _ _ = Err BadBatch

@@ -4,6 +4,8 @@ use Rattle.std.specs.Prelude.{ℕ, ◌-◌, ◌*◌, ◌/◌, ◌^◌, ◌<◌, 
 use Rattle.std.specs.Prelude.{nat_lt, if◌then◌else◌}
 use Rattle.byteorder.specs.Endian.{little_from}
 use Rattle.arrow_types.specs.declared.data_type.IntegerType.{IntegerType}
+use Rattle.arrow_types.specs.declared.data_type.Cell.{Cell}
+use Rattle.arrow_types.specs.declared.data_type.Cell.TheVariants as cell
 use Rattle.arrow_types.specs.DataType.{bit_width, is_signed}
 
 -- how many bytes a number has
@@ -36,3 +38,12 @@ integer_at integer values place = number_from integer (element_at (byte_width in
 -- element `place` of packed decimals of 128 bits with none after the point
 abbrev pub decimal_at : List ℕ → ℕ → ℤ
 decimal_at values place = signed_from 128 (element_at 16 values place)
+
+-- how many bytes a number has in a cell, and which number its bits are
+abbrev pub cell_width : Cell → ℕ
+cell_width (cell.Integer integer) = byte_width integer
+cell_width cell.Wide = 16
+
+abbrev pub number_in : Cell → ℕ → ℤ
+number_in (cell.Integer integer) = number_from integer
+number_in cell.Wide = signed_from 128

@@ -7,21 +7,28 @@ use Rattle.scan_base.specs.declared.value.Value.TheVariants as value
 use Rattle.arrow_types.specs.declared.data_type.IntegerType.{IntegerType}
 use Rattle.arrow_types.specs.declared.data_type.IntegerType.TheVariants as integer
 use Rattle.arrow_types.specs.declared.data_type.DataType.{DataType}
-use Rattle.arrow_types.specs.declared.data_type.DataType.TheVariants.{Integer, Utf8, Bool}
-use Rattle.arrow_types.specs.declared.data_type.DataType.TheVariants.{Decimal128, Date, Dictionary}
+use Rattle.arrow_types.specs.declared.data_type.Cell.{Cell}
+use Rattle.arrow_types.specs.declared.data_type.Cell.TheVariants as cell
+use Rattle.arrow_types.specs.declared.data_type.DataType.TheVariants.{Number, Utf8, Bool}
+use Rattle.arrow_types.specs.declared.data_type.DataType.TheVariants.{Dictionary}
+use Rattle.arrow_types.specs.DataType.{cell_of}
 use Rattle.arrow_types.specs.declared.schema.Field.{Field}
 use Rattle.arrays.specs.declared.layout.Layout.{Layout}
 use Rattle.arrays.specs.declared.layout.Layout.TheVariants as layout
 use Rattle.arrays.specs.Column.{ColumnAt, IsColumn, values_of}
 
--- The slots are of this type: those of dates are integers of 32 signed bits. Columns of a
--- dictionary may differ in the type of their indices.
+-- numbers that lie in such cells are slots of this layout
+abbrev pub LieIn : Cell → Layout → Type 0
+LieIn (cell.Integer integer) (layout.Integers cells) = cells.integer ≡ integer
+LieIn cell.Wide (layout.Decimals cells) = Unit {0}
+LieIn _ _ = ⊥
+
+-- The slots are of this type: of a number's, its cells alone count. Columns of a dictionary may
+-- differ in the type of their indices.
 abbrev pub IsOfType : DataType → Layout → Type 0
-IsOfType (Integer integer) (layout.Integers cells) = cells.integer ≡ integer
+IsOfType (Number number) layout = LieIn (cell_of number) layout
 IsOfType Utf8 (layout.Texts cells) = Unit {0}
 IsOfType Bool (layout.Bools cells) = Unit {0}
-IsOfType Decimal128 (layout.Decimals cells) = Unit {0}
-IsOfType Date (layout.Integers cells) = cells.integer ≡ integer.Int32
 IsOfType (Dictionary encoding) (layout.Indices cells) = Unit {0}
 IsOfType _ _ = ⊥
 
@@ -50,14 +57,17 @@ IsInteger integer.UInt16 number = FitsUnsigned w16 number
 IsInteger integer.UInt32 number = FitsUnsigned w32 number
 IsInteger integer.UInt64 number = FitsUnsigned w64 number
 
+-- the number is one of such a cell
+abbrev pub FitsCell : Cell → ℤ → Type 0
+FitsCell (cell.Integer integer) number = IsInteger integer number
+FitsCell cell.Wide number = FitsSigned w128 number
+
 -- a value that a column of a type may hold; a null stands in each
 abbrev pub IsValueOf : DataType → Value → Type 0
 IsValueOf _ value.Null = Unit {0}
-IsValueOf (Integer integer) (value.Int number) = IsInteger integer number
+IsValueOf (Number number) (value.Int n) = FitsCell (cell_of number) n
 IsValueOf Utf8 (value.Text bytes) = is_utf8 bytes ≡ true
 IsValueOf Bool (value.Bool flag) = Unit {0}
-IsValueOf Decimal128 (value.Int number) = FitsSigned w128 number
-IsValueOf Date (value.Int number) = FitsSigned w32 number
 IsValueOf (Dictionary encoding) (value.Text bytes) = is_utf8 bytes ≡ true
 IsValueOf _ _ = ⊥
 

@@ -36,7 +36,7 @@ pub use crate::indices::Indices;
 pub use crate::integers::Integers;
 pub use crate::layout::Layout;
 pub use crate::nulls::{Nulls, is_null};
-pub use crate::numbers::{are_bytes, byte_width};
+pub use crate::numbers::{are_bytes, byte_width, cell_width};
 pub use crate::slots::{Slots, Values};
 pub use crate::texts::{Texts, TextsRef};
 pub use crate::validity::Validity;

@@ -1,16 +1,27 @@
 //! Packed little-endian numbers.
 
 ghost use Rattle.std.specs.Prelude.{◌≡◌, ◌≤◌, ◌+◌, ◌*◌, length, nat_le};
-ghost use Rattle.arrays.specs.Number.{byte_width, integer_at, decimal_at, AreBytes};
+ghost use Rattle.arrays.specs.Number.{byte_width, cell_width, integer_at, decimal_at, AreBytes};
 
 use crate::element::{Element, Integer};
-use arrow_types::IntegerType;
+use arrow_types::{Cell, IntegerType};
 
 /// How many bytes a number has.
 pub fn byte_width(integer: IntegerType) -> usize
     ensures { result ≡ byte_width integer }
 {
     integer.bit_width() as usize / 8
+}
+
+/// How many bytes a number has in such a cell.
+pub fn cell_width(cell: Cell) -> usize
+    ensures width { result ≡ cell_width cell }
+    ensures narrow { result ≤ 16 }
+{
+    match cell {
+        Cell::Integer(integer) => byte_width(integer),
+        Cell::Wide => 16,
+    }
 }
 
 /// Whether the bytes are enough for so many numbers.

@@ -8,7 +8,7 @@ ghost use Rattle.arrays.specs.Integers.{integers_of};
 ghost use Rattle.arrays.specs.Decimals.{decimals_of};
 ghost use Rattle.arrays.specs.Bools.{bools_of};
 ghost use Rattle.arrays.specs.Indices.{indices_of};
-ghost use Rattle.arrays.specs.Buffers.{read_as};
+ghost use Rattle.arrays.specs.Buffers.{read_as, numbers_layout};
 ghost use Rattle.arrays.specs.Layout.{layout_count, layout_validity, IsLayout};
 ghost use Rattle.arrays.specs.Slots.{layout_of, AreSlots};
 ghost use Rattle.arrays.specs.inside.Slots.{AreNoNulls};
@@ -23,7 +23,7 @@ use crate::layout::Layout;
 use crate::numbers::{has_decimals, has_elements};
 use crate::texts::{Texts, TextsRef};
 use crate::validity::Validity;
-use arrow_types::IntegerType;
+use arrow_types::{Cell, IntegerType};
 use bitmap::Bits;
 use bytes::Bytes;
 use scan_base::{Fault, ValueRef};
@@ -164,6 +164,26 @@ impl Slots {
             len,
             values: Values::Decimals(values),
         })
+    }
+
+    /// `len` numbers that lie in such cells, over these buffers.
+    ///
+    /// # Errors
+    ///
+    /// Those of [`Slots::integers`] and of [`Slots::decimals`].
+    pub fn numbers(
+        cell: Cell,
+        validity: Option<Bytes>,
+        values: Bytes,
+        len: usize,
+    ) -> Result<Slots, Fault>
+        ensures value { Gives (λ slots. slots) result (numbers_layout cell validity values len) }
+        ensures long { IfOk result (λ slots. layout_count slots ≡ len) }
+    {
+        match cell {
+            Cell::Integer(integer) => Slots::integers(integer, validity, values, len),
+            Cell::Wide => Slots::decimals(validity, values, len),
+        }
     }
 
     /// `len` truth values over these buffers.

@@ -1,5 +1,5 @@
 -- A schema that was written is read again.
-use Rattle.std.proofs.Common.{◌≡◌, ◌≢◌, ℕ, suc, ◌+◌, ◌-◌, ◌*◌, ◌^◌, ◌≤◌, ◌<◌, ◌==◌, not, Bool, true, false, List, [], ◌∷◌, ◌++◌, length, map, Option, Some, None, Result, Ok, Err, refl, arith, ap, ◌∙◌, append-nil}
+use Rattle.std.proofs.Common.{◌≡◌, ◌≢◌, ℕ, suc, ◌+◌, ◌-◌, ◌*◌, ◌^◌, ◌≤◌, ◌<◌, List, [], ◌∷◌, ◌++◌, length, map, Option, Some, None, Result, Ok, Err, refl, arith, ap, ◌∙◌, append-nil}
 use Rattle.std.proofs.lemmas.List.{length-append, length-map}
 use Rattle.std.specs.List.{AllByRecursion, range_with_len}
 use Rattle.std.proofs.lemmas.List.Elements.{recursion_from_All}
@@ -16,95 +16,22 @@ use Rattle.flatbuf.specs.Fits.{FitsTable, FitsTables}
 use Rattle.flatbuf.proofs.Written.{table_reads}
 use Rattle.flatbuf.proofs.Lengths.{whole_table, whole_text, whole_tables, short_table, short_text, short_tables, fits_table}
 use Rattle.flatbuf.proofs.Led.{led_table, led_text, led_vector, Elements, absent_scalar, absent_table}
-use Rattle.arrow_types.specs.declared.data_type.IntegerType.{IntegerType}
-use Rattle.arrow_types.specs.declared.data_type.IntegerType.TheVariants.{Int8, Int16, Int32, Int64, UInt8, UInt16, UInt32, UInt64}
 use Rattle.arrow_types.specs.declared.data_type.DataType.{DataType}
-use Rattle.arrow_types.specs.declared.data_type.DataType.TheVariants.{Integer, Utf8, Bool as Flags, Decimal128, Date, Dictionary}
+use Rattle.arrow_types.specs.declared.data_type.DataType.TheVariants.{Number as Numbers, Utf8, Bool as Flags, Dictionary}
 use Rattle.arrow_types.specs.declared.data_type.DictionaryEncoding.{DictionaryEncoding}
 use Rattle.arrow_types.specs.declared.schema.Field.{Field}
 use Rattle.arrow_types.specs.declared.schema.Schema.{Schema}
-use Rattle.arrow_types.specs.DataType.{bit_width, is_signed}
 use Rattle.arrow_types.specs.Schema.{IsName, IsType, IsField, IsSchema}
 use Rattle.arrow_schema.specs.declared.header.HeaderKind.TheVariants as header
-use Rattle.arrow_schema.specs.declared.reading.TypeKind.{TypeKind}
-use Rattle.arrow_schema.specs.declared.reading.TypeKind.TheVariants as kinds
-use Rattle.arrow_schema.specs.Fields.{table_wanted, vector_wanted, name_of, integer_type, integer_of, decimal_of, date_of, type_kind, type_of, value_type_of, childless, dictionary_of, encoded, field_in}
+use Rattle.arrow_schema.specs.TypeTables.{flag, integer_part, type_number, type_part}
+use Rattle.arrow_schema.specs.Fields.{table_wanted, vector_wanted, name_of, value_type_of, childless, dictionary_of, encoded, field_in}
 use Rattle.arrow_schema.specs.Header.{MessageAt, message_of, field_at, fields_of, schema_in, is_schema, schema_message_of, schema_of}
 use Rattle.arrow_schema.specs.Message.{message_part}
-use Rattle.arrow_schema.specs.WrittenHeader.{flag, type_number, integer_part, type_part, dictionary_part, dictionary_given, field_slots, field_part, schema_part, schema_bytes, SchemasReadBack}
+use Rattle.arrow_schema.specs.WrittenHeader.{dictionary_part, dictionary_given, field_slots, field_part, schema_part, schema_bytes, SchemasReadBack}
 use Rattle.arrow_schema.proofs.Messages.{messages_read, short_message}
+use Rattle.arrow_schema.proofs.TypeTables.{low_flag, flag_again, whole_integer, short_integer, integer_again, values, row, is_kind, whole_type}
 
--- ---- numbers
-
-integer_type_again : (integer : IntegerType) → integer_type (not (flag (is_signed integer) == 0)) (bit_width integer) ≡ Ok integer
-integer_type_again Int8 = refl
-integer_type_again Int16 = refl
-integer_type_again Int32 = refl
-integer_type_again Int64 = refl
-integer_type_again UInt8 = refl
-integer_type_again UInt16 = refl
-integer_type_again UInt32 = refl
-integer_type_again UInt64 = refl
-
-few_bits : (integer : IntegerType) → bit_width integer ≤ 64
-few_bits Int8 = omega arith
-few_bits Int16 = omega arith
-few_bits Int32 = omega arith
-few_bits Int64 = omega arith
-few_bits UInt8 = omega arith
-few_bits UInt16 = omega arith
-few_bits UInt32 = omega arith
-few_bits UInt64 = omega arith
-
-low_flag : (b : Bool) → flag b ≤ 1
-low_flag true = omega arith
-low_flag false = omega arith
-
-flag_again : (b : Bool) → not (flag b == 0) ≡ b
-flag_again true = refl
-flag_again false = refl
-
--- the kind of the table that a type has
-abbrev pub kind_of : DataType → TypeKind
-kind_of (Integer integer) = kinds.Int
-kind_of Utf8 = kinds.Utf8
-kind_of Flags = kinds.Bool
-kind_of Decimal128 = kinds.Decimal
-kind_of Date = kinds.Date
-kind_of (Dictionary encoding) = kinds.Utf8
-
--- the type of the values, also of a dictionary's
-abbrev pub values : DataType → DataType
-values (Integer integer) = Integer integer
-values Utf8 = Utf8
-values Flags = Flags
-values Decimal128 = Decimal128
-values Date = Date
-values (Dictionary encoding) = Utf8
-
-pub type_kind_again : (t : DataType) → type_kind (type_number t) ≡ Ok (kind_of t)
-type_kind_again (Integer integer) = refl
-type_kind_again Utf8 = refl
-type_kind_again Flags = refl
-type_kind_again Decimal128 = refl
-type_kind_again Date = refl
-type_kind_again (Dictionary encoding) = refl
-
-pub low_number : (t : DataType) → type_number t < 256
-low_number (Integer integer) = omega arith
-low_number Utf8 = omega arith
-low_number Flags = omega arith
-low_number Decimal128 = omega arith
-low_number Date = omega arith
-low_number (Dictionary encoding) = omega arith
-
-some_number : (t : DataType) → 1 ≤ type_number t
-some_number (Integer integer) = omega arith
-some_number Utf8 = omega arith
-some_number Flags = omega arith
-some_number Decimal128 = omega arith
-some_number Date = omega arith
-some_number (Dictionary encoding) = omega arith
+-- ---- types
 
 -- a number that is not the default was read of a field
 field_there : (width : ℕ) (bytes : List ℕ) (default n : ℕ) (read : Result (Option ℕ) Fault) → n ≢ default → (read >>= λ place. scalar_at width bytes default place) ≡ Ok n → (at : ℕ) × (read ≡ Ok (Some at))
@@ -116,89 +43,9 @@ field_there width bytes default n (Ok (Some at)) ne e = (at, refl)
 pub kind_there : (t : DataType) (table : TableAt) → scalar_of 1 table 2 0 ≡ Ok (type_number t) → (at : ℕ) × (field_of table 2 ≡ Ok (Some at))
 unfolding scalar_of
 kind_there t table number =
-    let some = some_number t in
+    let some = (is_kind t).0 in
     let ne : type_number t ≢ 0 = λ (same : type_number t ≡ 0). omega arith in
     field_there 1 table.bytes 0 (type_number t) (field_of table 2) ne number
-
--- ---- types
-
-abbrev integer_slots : IntegerType → List Given
-integer_slots integer = Number (bit_width integer) ∷ Number (flag (is_signed integer)) ∷ []
-
-whole_integer : (integer : IntegerType) → IsWhole (integer_part integer)
-unfolding integer_part
-whole_integer integer = whole_table (integer_slots integer) tt
-
-short_integer : (integer : IntegerType) → length (integer_part integer).bytes ≤ 40
-unfolding integer_part
-short_integer integer = let s = short_table (integer_slots integer) in omega arith
-
-integer_again : (integer : IntegerType) (bytes : List ℕ) (at : ℕ) → Stands (integer_part integer).bytes bytes at →
-    integer_of (table_at bytes at (integer_part integer)) ≡ Ok integer
-unfolding integer_part integer_of
-integer_again integer bytes at s =
-    let slots = integer_slots integer in
-    let t = table_at bytes at (table_part slots) in
-    let b = few_bits integer in
-    let f = low_flag (is_signed integer) in
-    let reads = table_reads slots bytes at (fits_table slots (omega arith) (omega arith)) tt s in
-    let bits : scalar_of 4 t 0 0 ≡ Ok (bit_width integer) = reads 0 4 0 (omega arith) (omega arith) in
-    let signed : scalar_of 1 t 1 0 ≡ Ok (flag (is_signed integer)) = reads 1 1 0 (omega arith) (omega arith) in
-    rw (bits, signed) (integer_type_again integer)
-
-abbrev decimal_slots : List Given
-decimal_slots = Number 38 ∷ Number 0 ∷ Number 128 ∷ []
-
-abbrev date_slots : List Given
-date_slots = Number 0 ∷ []
-
-whole_type : (t : DataType) → IsWhole (type_part t)
-unfolding type_part
-whole_type (Integer integer) = whole_integer integer
-whole_type Utf8 = whole_table [] tt
-whole_type Flags = whole_table [] tt
-whole_type Decimal128 = whole_table decimal_slots tt
-whole_type Date = whole_table date_slots tt
-whole_type (Dictionary encoding) = whole_table [] tt
-
-short_type : (t : DataType) → length (type_part t).bytes ≤ 50
-unfolding type_part
-short_type (Integer integer) = let s = short_integer integer in omega arith
-short_type Utf8 = let s = short_table [] in omega arith
-short_type Flags = let s = short_table [] in omega arith
-short_type Decimal128 = let s = short_table decimal_slots in omega arith
-short_type Date = let s = short_table date_slots in omega arith
-short_type (Dictionary encoding) = let s = short_table [] in omega arith
-
-decimal_again : (bytes : List ℕ) (at : ℕ) → Stands (table_part decimal_slots).bytes bytes at → decimal_of (table_at bytes at (table_part decimal_slots)) ≡ Ok Decimal128
-unfolding decimal_of
-decimal_again bytes at s =
-    let slots = decimal_slots in
-    let t = table_at bytes at (table_part slots) in
-    let reads = table_reads slots bytes at (fits_table slots (omega arith) (omega arith)) tt s in
-    let precision : scalar_of 4 t 0 0 ≡ Ok 38 = reads 0 4 0 (omega arith) (omega arith) in
-    let scale : scalar_of 4 t 1 0 ≡ Ok 0 = reads 1 4 0 (omega arith) (omega arith) in
-    let bits : scalar_of 4 t 2 128 ≡ Ok 128 = reads 2 4 128 (omega arith) (omega arith) in
-    rw (precision, scale, bits) refl
-
-date_again : (bytes : List ℕ) (at : ℕ) → Stands (table_part date_slots).bytes bytes at → date_of (table_at bytes at (table_part date_slots)) ≡ Ok Date
-unfolding date_of
-date_again bytes at s =
-    let slots = date_slots in
-    let t = table_at bytes at (table_part slots) in
-    let reads = table_reads slots bytes at (fits_table slots (omega arith) (omega arith)) tt s in
-    let unit : scalar_of 2 t 0 1 ≡ Ok 0 = reads 0 2 1 (omega arith) (omega arith) in
-    rw unit refl
-
-type_again : (t : DataType) (bytes : List ℕ) (at : ℕ) → Stands (type_part t).bytes bytes at →
-    type_of (kind_of t) (table_at bytes at (type_part t)) ≡ Ok (values t)
-unfolding type_part type_of
-type_again (Integer integer) bytes at s = rw (integer_again integer bytes at s) refl
-type_again Utf8 bytes at s = refl
-type_again Flags bytes at s = refl
-type_again Decimal128 bytes at s = decimal_again bytes at s
-type_again Date bytes at s = date_again bytes at s
-type_again (Dictionary encoding) bytes at s = refl
 
 -- ---- dictionaries
 
@@ -238,19 +85,15 @@ dictionary_again encoding bytes at small s =
     rw (id, led_table t 1 int led, index, kind) refl
 
 short_given : (t : DataType) (more : List Given) → length (children (dictionary_given t ∷ more)) ≤ 80 + length (children more)
-short_given (Integer integer) more = omega arith
+short_given (Numbers kind) more = omega arith
 short_given Utf8 more = omega arith
 short_given Flags more = omega arith
-short_given Decimal128 more = omega arith
-short_given Date more = omega arith
 short_given (Dictionary encoding) more = let s = short_dictionary encoding in let a = length-append (dictionary_part encoding).bytes (children more) in omega arith
 
 whole_given : (t : DataType) (more : List Given) → AreWhole more → AreWhole (dictionary_given t ∷ more)
-whole_given (Integer integer) more whole = whole
+whole_given (Numbers kind) more whole = whole
 whole_given Utf8 more whole = whole
 whole_given Flags more whole = whole
-whole_given Decimal128 more whole = whole
-whole_given Date more whole = whole
 whole_given (Dictionary encoding) more whole = (whole_dictionary encoding, whole)
 
 -- what the dictionary's slot of a field leads to
@@ -260,11 +103,9 @@ record Encodes (table : TableAt) (t : DataType) : Type 0 where
   says : encoded (values t) encoding ≡ Ok t
 
 encodes : (table : TableAt) (t : DataType) → IsType t → SlotReads table 4 (dictionary_given t) → Encodes table t
-encodes table (Integer integer) is reads = record { encoding = None; found = absent_table table 4 reads; says = refl }
+encodes table (Numbers kind) is reads = record { encoding = None; found = absent_table table 4 reads; says = refl }
 encodes table Utf8 is reads = record { encoding = None; found = absent_table table 4 reads; says = refl }
 encodes table Flags is reads = record { encoding = None; found = absent_table table 4 reads; says = refl }
-encodes table Decimal128 is reads = record { encoding = None; found = absent_table table 4 reads; says = refl }
-encodes table Date is reads = record { encoding = None; found = absent_table table 4 reads; says = refl }
 encodes table (Dictionary encoding) is reads = record {
   encoding = Some (table_at table.bytes reads.place (dictionary_part encoding));
   found = led_table table 4 (dictionary_part encoding) reads;
@@ -278,7 +119,7 @@ short_slots field short =
     let kids = tables_part [] in
     let rest = Offset kids ∷ [] in
     let a = short_text field.name in
-    let c = short_type field.data_type in
+    let c = (row field.data_type).short in
     let d = short_given field.data_type rest in
     let e = short_tables [] in
     let g = ap length (append-nil kids.bytes) in
@@ -320,7 +161,7 @@ value_type_again : (table : TableAt) (t : DataType) → scalar_of 1 table 2 0 �
 unfolding value_type_of table_wanted
 value_type_again table t number led =
     let there = kind_there t table number in
-    rw (there.1, number, type_kind_again t, led_table table 3 (type_part t) led) (type_again t table.bytes led.place led.stands)
+    rw (there.1, number, (row t).known, led_table table 3 (type_part t) led) ((row t).again table.bytes led.place led.stands)
 
 field_again : (field : Field) (bytes : List ℕ) (at : ℕ) → IsField field → Stands (field_part field).bytes bytes at →
     field_in (table_at bytes at (field_part field)) ≡ Ok field
@@ -334,7 +175,7 @@ field_again field bytes at is s =
     let text = led_text table 0 field.name is.named.utf8 (omega arith) (reads 0) in
     let name = name_again table field.name is.named text.0 in
     let low = low_flag field.nullable in
-    let small = low_number t in
+    let small = (is_kind t).1 in
     let nullable : scalar_of 1 table 1 0 ≡ Ok (flag field.nullable) = reads 1 1 0 (omega arith) (omega arith) in
     let number : scalar_of 1 table 2 0 ≡ Ok (type_number t) = reads 2 1 0 (omega arith) (omega arith) in
     let d = encodes table t is.typed (reads 4) in

@@ -1,247 +1,33 @@
 -- What is read of a buffer is what it says.
-use Rattle.std.proofs.Common.{◌≡◌, ◌≢◌, ◌≤◌, ◌<◌, ◌⊎◌, inl, inr, ℕ, zero, suc, ◌+◌, ◌==◌, not, nat_lt, nat_le, ◌&&◌, if◌then◌else◌, Bool, true, false, List, [], ◌∷◌, length, Option, Some, None, Result, Ok, Err, refl, arith, sym, ap, ◌∙◌, subst}
+use Rattle.std.proofs.Common.{◌≡◌, ◌≤◌, ◌<◌, ℕ, zero, suc, ◌+◌, ◌==◌, not, nat_lt, nat_le, ◌&&◌, Bool, true, false, List, [], ◌∷◌, length, Option, Some, None, Ok, refl, arith, sym, ap, ◌∙◌, subst}
 use Rattle.std.specs.Prelude.{IsTrue, slice_get}
 use Rattle.std.specs.List.{range_with_len}
 use Rattle.std.proofs.lemmas.Bool.{and_parts, eqb-true, ltb-true, leb-true, lt-ltb, le-leb}
-use Rattle.std.proofs.lemmas.Bool.Decides.{eqb_tells}
-use Rattle.scan_base.specs.declared.fault.Fault.{Fault}
 use Rattle.scan_base.specs.declared.fault.Fault.TheVariants.{BadFlatbuffer, UnsupportedArrow, LimitReached}
-use Rattle.scan_base.specs.Reading.{◌>>=◌, demand, wanted}
+use Rattle.scan_base.specs.Reading.{demand, wanted}
 use Rattle.scan_base.specs.Lists.{each, repeats}
-use Rattle.flatbuf.specs.Layout.{TableAt, VectorAt, IsBytes, IsScalar, IsReached, IsTable, IsVector, HasRoot, HasScalar, HasTable, HasVector, HasText, HasElement}
+use Rattle.flatbuf.specs.Layout.{TableAt, VectorAt, IsBytes, HasRoot, HasScalar, HasTable, HasVector, HasText}
 use Rattle.flatbuf.specs.Place.{root_of, field_of, scalar_of, table_of, vector_of, text_of, element_of}
-use Rattle.flatbuf.proofs.Readings.{seen_finds, seen_root, seen_scalar, seen_table, seen_vector, seen_text, seen_element}
+use Rattle.flatbuf.proofs.Readings.{seen_finds, seen_root}
 use Rattle.arrow_types.specs.declared.data_type.IntegerType.{IntegerType}
-use Rattle.arrow_types.specs.declared.data_type.IntegerType.TheVariants.{Int8, Int16, Int32, Int64, UInt8, UInt16, UInt32, UInt64}
+use Rattle.arrow_types.specs.declared.data_type.IntegerType.TheVariants.{Int32}
 use Rattle.arrow_types.specs.declared.data_type.DataType.{DataType}
-use Rattle.arrow_types.specs.declared.data_type.DataType.TheVariants.{Integer, Utf8, Bool as Flags, Decimal128, Date, Dictionary}
+use Rattle.arrow_types.specs.declared.data_type.DataType.TheVariants.{Number, Utf8, Bool as Flags, Dictionary}
 use Rattle.arrow_types.specs.declared.data_type.DictionaryEncoding.{DictionaryEncoding}
 use Rattle.arrow_types.specs.declared.schema.Field.{Field}
 use Rattle.arrow_types.specs.declared.schema.Schema.{Schema}
-use Rattle.arrow_types.specs.DataType.{bit_width, is_signed}
 use Rattle.arrow_types.specs.Schema.{same_dictionary}
 use Rattle.arrow_schema.specs.declared.header.HeaderKind.{HeaderKind}
 use Rattle.arrow_schema.specs.declared.header.HeaderKind.TheVariants as header
-use Rattle.arrow_schema.specs.declared.reading.TypeKind.{TypeKind}
-use Rattle.arrow_schema.specs.declared.reading.TypeKind.TheVariants as kinds
-use Rattle.arrow_schema.specs.Fields.{table_wanted, vector_wanted, name_of, integer_type, integer_of, decimal_of, date_of, type_kind, type_of, value_type_of, is_bare, childless, index_of, dictionary_of, encoded, field_in}
-use Rattle.arrow_schema.specs.Header.{MessageAt, header_kind, message_of, field_at, fields_of, is_schema, schema_message_of, schema_in, schema_of}
-use Rattle.arrow_schema.specs.Says.{SaysInteger, SaysDecimal, SaysDate, SaysType, SaysIndex, SaysDictionary, SaysEncoding, SaysField, SaysFieldAt, SaysColumns, SaysSchema}
-use Rattle.arrow_schema.specs.WrittenHeader.{type_number}
-use Rattle.arrow_schema.proofs.Again.{kind_of, type_kind_again, kind_there}
-
--- ---- steps of a reading
-
--- what was read in two steps
-pub bind_ok : {A B : Type 0} (read : Result A Fault) (next : A → Result B Fault) (y : B) → (read >>= next) ≡ Ok y → (x : A) × (read ≡ Ok x) × (next x ≡ Ok y)
-bind_ok (Ok x) next y e = (x, refl, e)
-bind_ok (Err fault) next y e = absurd (let no : ⊥ = cc in no)
-
-pub demand_ok : (holds : Bool) (fault : Fault) (u : Unit {0}) → demand holds fault ≡ Ok u → holds ≡ true
-demand_ok true fault u e = refl
-demand_ok false fault u e = absurd (let no : ⊥ = cc in no)
-
-pub wanted_ok : {A : Type 0} (found : Option A) (fault : Fault) (x : A) → wanted found fault ≡ Ok x → found ≡ Some x
-wanted_ok (Some y) fault x e = cc
-wanted_ok None fault x e = absurd (let no : ⊥ = cc in no)
-
--- the first number that a test finds
-pub chosen : {A : Type 0} (n k : ℕ) (x y : A) (rest : Result A Fault) → (if n == k then Ok x else rest) ≡ Ok y → ((n ≡ k) × (x ≡ y)) ⊎ (rest ≡ Ok y)
-chosen n k x y rest e = elim (eqb_tells n k) [
-  | inl h ↦ let f = rw h.0 at e in inl (h.1, cc)
-  | inr h ↦ inr (rw h.0 at e)
-]
-
-pub refused : {A : Type 0} {P : Type 0} (fault : Fault) (y : A) → Err fault ≡ Ok y → P
-refused fault y e = absurd (let no : ⊥ = cc in no)
-
--- ---- what a slot has, and what is read of it
-
-pub says_scalar : (width : ℕ) (t : TableAt) (slot default n : ℕ) → IsBytes t.bytes → scalar_of width t slot default ≡ Ok n → HasScalar width t slot default n
-says_scalar width t slot default n is e = ((seen_finds (scalar_of width t slot default) (HasScalar width t slot default) (seen_scalar width t slot default is)).value n).0 e
-
-pub reads_scalar : (width : ℕ) (t : TableAt) (slot default n : ℕ) → IsBytes t.bytes → HasScalar width t slot default n → scalar_of width t slot default ≡ Ok n
-reads_scalar width t slot default n is h = ((seen_finds (scalar_of width t slot default) (HasScalar width t slot default) (seen_scalar width t slot default is)).value n).1 h
-
-pub says_table : (t : TableAt) (slot : ℕ) (found : Option TableAt) → IsBytes t.bytes → table_of t slot ≡ Ok found → HasTable t slot found
-says_table t slot found is e = ((seen_finds (table_of t slot) (HasTable t slot) (seen_table t slot is)).value found).0 e
-
-pub reads_table : (t : TableAt) (slot : ℕ) (found : Option TableAt) → IsBytes t.bytes → HasTable t slot found → table_of t slot ≡ Ok found
-reads_table t slot found is h = ((seen_finds (table_of t slot) (HasTable t slot) (seen_table t slot is)).value found).1 h
-
-says_vector : (t : TableAt) (slot : ℕ) (found : Option VectorAt) → IsBytes t.bytes → vector_of t slot ≡ Ok found → HasVector t slot found
-says_vector t slot found is e = ((seen_finds (vector_of t slot) (HasVector t slot) (seen_vector t slot is)).value found).0 e
-
-reads_vector : (t : TableAt) (slot : ℕ) (found : Option VectorAt) → IsBytes t.bytes → HasVector t slot found → vector_of t slot ≡ Ok found
-reads_vector t slot found is h = ((seen_finds (vector_of t slot) (HasVector t slot) (seen_vector t slot is)).value found).1 h
-
-says_text : (t : TableAt) (slot : ℕ) (found : Option (List ℕ)) → IsBytes t.bytes → text_of t slot ≡ Ok found → HasText t slot found
-says_text t slot found is e = ((seen_finds (text_of t slot) (HasText t slot) (seen_text t slot is)).value found).0 e
-
-reads_text : (t : TableAt) (slot : ℕ) (found : Option (List ℕ)) → IsBytes t.bytes → HasText t slot found → text_of t slot ≡ Ok found
-reads_text t slot found is h = ((seen_finds (text_of t slot) (HasText t slot) (seen_text t slot is)).value found).1 h
-
-says_element : (vector : VectorAt) (index : ℕ) (table : TableAt) → element_of vector index ≡ Ok table → HasElement vector index table
-says_element vector index table e = ((seen_finds (element_of vector index) (HasElement vector index) (seen_element vector index)).value table).0 e
-
-reads_element : (vector : VectorAt) (index : ℕ) (table : TableAt) → HasElement vector index table → element_of vector index ≡ Ok table
-reads_element vector index table h = ((seen_finds (element_of vector index) (HasElement vector index) (seen_element vector index)).value table).1 h
-
--- a table or a vector that a slot leads to is of the same buffer
-led_same : (bytes : List ℕ) (place : Option ℕ) (found : TableAt) → IsReached (IsTable bytes) bytes place (Some found) → found.bytes ≡ bytes
-led_same bytes None found r = absurd r
-led_same bytes (Some at) found r = r.there.same
-
-pub bytes_table : (t : TableAt) (slot : ℕ) (found : TableAt) → IsBytes t.bytes → HasTable t slot (Some found) → IsBytes found.bytes
-bytes_table t slot found is h = subst IsBytes (sym (led_same t.bytes h.place found h.reached)) is
-
-vector_same : (bytes : List ℕ) (place : Option ℕ) (found : VectorAt) → IsReached (IsVector bytes) bytes place (Some found) → found.bytes ≡ bytes
-vector_same bytes None found r = absurd r
-vector_same bytes (Some at) found r = r.there.same
-
-pub bytes_vector : (t : TableAt) (slot : ℕ) (found : VectorAt) → IsBytes t.bytes → HasVector t slot (Some found) → IsBytes found.bytes
-bytes_vector t slot found is h = subst IsBytes (sym (vector_same t.bytes h.place found h.reached)) is
-
-pub wanted_table : (t : TableAt) (slot : ℕ) (found : TableAt) → table_wanted t slot ≡ Ok found → table_of t slot ≡ Ok (Some found)
-unfolding table_wanted
-wanted_table t slot found e =
-    let a = bind_ok (table_of t slot) _ found e in
-    a.1 ∙ ap Ok (wanted_ok a.0 BadFlatbuffer found a.2)
-
-wanted_vector : (t : TableAt) (slot : ℕ) (found : VectorAt) → vector_wanted t slot ≡ Ok found → vector_of t slot ≡ Ok (Some found)
-unfolding vector_wanted
-wanted_vector t slot found e =
-    let a = bind_ok (vector_of t slot) _ found e in
-    a.1 ∙ ap Ok (wanted_ok a.0 BadFlatbuffer found a.2)
+use Rattle.arrow_schema.specs.TypeTables.{SaysType, type_number}
+use Rattle.arrow_schema.specs.Fields.{table_wanted, vector_wanted, name_of, value_type_of, is_bare, childless, index_of, dictionary_of, encoded, field_in}
+use Rattle.arrow_schema.specs.Header.{MessageAt, header_kinds, header_kind, message_of, field_at, fields_of, is_schema, schema_message_of, schema_in, schema_of}
+use Rattle.arrow_schema.specs.Says.{SaysIndex, SaysDictionary, SaysEncoding, SaysField, SaysFieldAt, SaysColumns, SaysSchema}
+use Rattle.arrow_schema.proofs.Readings.{bind_ok, demand_ok, wanted_ok, refused, meaning_told, says_scalar, reads_scalar, says_table, reads_table, says_vector, reads_vector, says_text, reads_text, says_element, reads_element, bytes_table, bytes_vector, wanted_table, wanted_vector}
+use Rattle.arrow_schema.proofs.TypeTables.{integer_told, integer_read, type_told, row}
+use Rattle.arrow_schema.proofs.Again.{kind_there}
 
 -- ---- types
-
-integer_is : (signed : Bool) (bits : ℕ) (integer : IntegerType) → integer_type signed bits ≡ Ok integer → (bits ≡ bit_width integer) × (signed ≡ is_signed integer)
-integer_is true bits integer e = elim (chosen bits 8 Int8 integer _ e) [
-  | inl h ↦ rw (← h.1) (h.0, refl)
-  | inr e ↦ elim (chosen bits 16 Int16 integer _ e) [
-    | inl h ↦ rw (← h.1) (h.0, refl)
-    | inr e ↦ elim (chosen bits 32 Int32 integer _ e) [
-      | inl h ↦ rw (← h.1) (h.0, refl)
-      | inr e ↦ elim (chosen bits 64 Int64 integer _ e) [ inl h ↦ rw (← h.1) (h.0, refl) | inr e ↦ refused UnsupportedArrow integer e ]
-    ]
-  ]
-]
-integer_is false bits integer e = elim (chosen bits 8 UInt8 integer _ e) [
-  | inl h ↦ rw (← h.1) (h.0, refl)
-  | inr e ↦ elim (chosen bits 16 UInt16 integer _ e) [
-    | inl h ↦ rw (← h.1) (h.0, refl)
-    | inr e ↦ elim (chosen bits 32 UInt32 integer _ e) [
-      | inl h ↦ rw (← h.1) (h.0, refl)
-      | inr e ↦ elim (chosen bits 64 UInt64 integer _ e) [ inl h ↦ rw (← h.1) (h.0, refl) | inr e ↦ refused UnsupportedArrow integer e ]
-    ]
-  ]
-]
-
-integer_type_is : (integer : IntegerType) → integer_type (is_signed integer) (bit_width integer) ≡ Ok integer
-integer_type_is Int8 = refl
-integer_type_is Int16 = refl
-integer_type_is Int32 = refl
-integer_type_is Int64 = refl
-integer_type_is UInt8 = refl
-integer_type_is UInt16 = refl
-integer_type_is UInt32 = refl
-integer_type_is UInt64 = refl
-
-integer_told : (table : TableAt) (integer : IntegerType) → IsBytes table.bytes → integer_of table ≡ Ok integer → SaysInteger table integer
-unfolding integer_of
-integer_told table integer is e =
-    let a = bind_ok (scalar_of 4 table 0 0) _ integer e in
-    let b = bind_ok (scalar_of 1 table 1 0) _ integer a.2 in
-    let c = integer_is (not (b.0 == 0)) a.0 integer b.2 in
-    record { width = rw (← c.0) (says_scalar 4 table 0 0 a.0 is a.1); signed = (b.0, says_scalar 1 table 1 0 b.0 is b.1, sym c.1) }
-
-integer_read : (table : TableAt) (integer : IntegerType) → IsBytes table.bytes → SaysInteger table integer → integer_of table ≡ Ok integer
-unfolding integer_of
-integer_read table integer is says =
-    rw (reads_scalar 4 table 0 0 (bit_width integer) is says.width, reads_scalar 1 table 1 0 says.signed.0 is says.signed.1, ← says.signed.2) (integer_type_is integer)
-
-decimal_told : (table : TableAt) (t : DataType) → IsBytes table.bytes → decimal_of table ≡ Ok t → (Decimal128 ≡ t) × SaysDecimal table
-unfolding decimal_of
-decimal_told table t is e =
-    let a = bind_ok (scalar_of 4 table 0 0) _ t e in
-    let b = bind_ok (scalar_of 4 table 1 0) _ t a.2 in
-    let c = bind_ok (scalar_of 4 table 2 128) _ t b.2 in
-    let d = bind_ok (demand ((a.0 == 38) && (b.0 == 0) && (c.0 == 128)) UnsupportedArrow) _ t c.2 in
-    let tests = demand_ok ((a.0 == 38) && (b.0 == 0) && (c.0 == 128)) UnsupportedArrow d.0 d.1 in
-    let both = and_parts ((a.0 == 38) && (b.0 == 0)) (c.0 == 128) tests in
-    let first = and_parts (a.0 == 38) (b.0 == 0) both.0 in
-    let last = d.2 in (
-      (let f : Decimal128 ≡ t = cc in f),
-      record {
-        precision = subst (λ (n : ℕ). HasScalar 4 table 0 0 n) (eqb-true a.0 38 first.0) (says_scalar 4 table 0 0 a.0 is a.1);
-        scale = subst (λ (n : ℕ). HasScalar 4 table 1 0 n) (eqb-true b.0 0 first.1) (says_scalar 4 table 1 0 b.0 is b.1);
-        width = subst (λ (n : ℕ). HasScalar 4 table 2 128 n) (eqb-true c.0 128 both.1) (says_scalar 4 table 2 128 c.0 is c.1);
-      },
-    )
-
-decimal_read : (table : TableAt) → IsBytes table.bytes → SaysDecimal table → decimal_of table ≡ Ok Decimal128
-unfolding decimal_of
-decimal_read table is says =
-    rw (reads_scalar 4 table 0 0 38 is says.precision, reads_scalar 4 table 1 0 0 is says.scale, reads_scalar 4 table 2 128 128 is says.width) refl
-
-date_told : (table : TableAt) (t : DataType) → IsBytes table.bytes → date_of table ≡ Ok t → (Date ≡ t) × SaysDate table
-unfolding date_of
-date_told table t is e =
-    let a = bind_ok (scalar_of 2 table 0 1) _ t e in
-    let b = bind_ok (demand (a.0 == 0) UnsupportedArrow) _ t a.2 in
-    let last = b.2 in (
-      (let f : Date ≡ t = cc in f),
-      record { unit = subst (λ (n : ℕ). HasScalar 2 table 0 1 n) (eqb-true a.0 0 (demand_ok (a.0 == 0) UnsupportedArrow b.0 b.1)) (says_scalar 2 table 0 1 a.0 is a.1) },
-    )
-
-date_read : (table : TableAt) → IsBytes table.bytes → SaysDate table → date_of table ≡ Ok Date
-unfolding date_of
-date_read table is says = rw (reads_scalar 2 table 0 1 0 is says.unit) refl
-
--- the number of a kind
-abbrev number_of : TypeKind → ℕ
-number_of kinds.Int = 2
-number_of kinds.Utf8 = 5
-number_of kinds.Bool = 6
-number_of kinds.Decimal = 7
-number_of kinds.Date = 8
-
-kind_is : (number : ℕ) (kind : TypeKind) → type_kind number ≡ Ok kind → number ≡ number_of kind
-kind_is number kind e = elim (chosen number 2 kinds.Int kind _ e) [
-  | inl h ↦ rw (← h.1) h.0
-  | inr e ↦ elim (chosen number 5 kinds.Utf8 kind _ e) [
-    | inl h ↦ rw (← h.1) h.0
-    | inr e ↦ elim (chosen number 6 kinds.Bool kind _ e) [
-      | inl h ↦ rw (← h.1) h.0
-      | inr e ↦ elim (chosen number 7 kinds.Decimal kind _ e) [
-        | inl h ↦ rw (← h.1) h.0
-        | inr e ↦ elim (chosen number 8 kinds.Date kind _ e) [ inl h ↦ rw (← h.1) h.0 | inr e ↦ refused UnsupportedArrow kind e ]
-      ]
-    ]
-  ]
-]
-
-type_told : (kind : TypeKind) (table : TableAt) (t : DataType) → IsBytes table.bytes → type_of kind table ≡ Ok t → (number_of kind ≡ type_number t) × SaysType t table
-unfolding type_of
-type_told kinds.Int table t is e =
-    let a = bind_ok (integer_of table) _ t e in
-    let last = a.2 in
-    let f : Integer a.0 ≡ t = cc in
-    rw (← f) (refl, integer_told table a.0 is a.1)
-type_told kinds.Utf8 table t is e = let f : Utf8 ≡ t = cc in rw (← f) (refl, tt)
-type_told kinds.Bool table t is e = let f : Flags ≡ t = cc in rw (← f) (refl, tt)
-type_told kinds.Decimal table t is e = let d = decimal_told table t is e in rw (← d.0) (refl, d.1)
-type_told kinds.Date table t is e = let d = date_told table t is e in rw (← d.0) (refl, d.1)
-
-type_read : (t : DataType) (table : TableAt) → IsBytes table.bytes → SaysType t table → type_of (kind_of t) table ≡ Ok t
-unfolding type_of
-type_read (Integer integer) table is says = rw (integer_read table integer is says) refl
-type_read Utf8 table is says = refl
-type_read Flags table is says = refl
-type_read Decimal128 table is says = decimal_read table is says
-type_read Date table is says = date_read table is says
-type_read (Dictionary encoding) table is says = absurd says
 
 -- the type of a field's values, by its kind and its table
 record SaysValues (field : TableAt) (t : DataType) : Type 0 where
@@ -256,13 +42,11 @@ values_told field t is e =
     let p = bind_ok (field_of field 2) _ t e in
     let w = bind_ok (wanted p.0 BadFlatbuffer) _ t p.2 in
     let a = bind_ok (scalar_of 1 field 2 0) _ t w.2 in
-    let c = bind_ok (type_kind a.0) _ t a.2 in
-    let d = bind_ok (table_wanted field 3) _ t c.2 in
+    let d = type_told a.0 (table_wanted field 3) t a.2 in
     let typed = says_table field 3 (Some d.0) is (wanted_table field 3 d.0 d.1) in
-    let told = type_told c.0 d.0 t (bytes_table field 3 d.0 is typed) d.2 in
-    let number : a.0 ≡ type_number t = kind_is a.0 c.0 c.1 ∙ told.0 in
+    let told = d.2 (bytes_table field 3 d.0 is typed) in
     record {
-      kind = subst (λ (n : ℕ). HasScalar 1 field 2 0 n) number (says_scalar 1 field 2 0 a.0 is a.1);
+      kind = subst (λ (n : ℕ). HasScalar 1 field 2 0 n) told.0 (says_scalar 1 field 2 0 a.0 is a.1);
       type = d.0;
       typed = typed;
       says = told.1;
@@ -273,8 +57,8 @@ unfolding value_type_of table_wanted
 values_read field t is says =
     let number = reads_scalar 1 field 2 0 (type_number t) is says.kind in
     let there = kind_there t field number in
-    rw (there.1, number, type_kind_again t, reads_table field 3 (Some says.type) is says.typed)
-    (type_read t says.type (bytes_table field 3 says.type is says.typed) says.says)
+    rw (there.1, number, (row t).known, reads_table field 3 (Some says.type) is says.typed)
+    ((row t).read says.type (bytes_table field 3 says.type is says.typed) says.says)
 
 -- ---- dictionaries
 
@@ -320,11 +104,9 @@ dictionary_read table encoding is says =
 
 encoded_told : (values : DataType) (found : Option TableAt) (t : DataType) → ((table : TableAt) → found ≡ Some table → IsBytes table.bytes) → encoded values found ≡ Ok t → SaysEncoding values found t
 encoded_told values None t is e = let same : t ≡ values = cc in same
-encoded_told (Integer integer) (Some table) t is e = refused UnsupportedArrow t e
+encoded_told (Number kind) (Some table) t is e = refused UnsupportedArrow t e
 encoded_told Utf8 (Some table) t is e = (refl, dictionary_told table t (is table refl) e)
 encoded_told Flags (Some table) t is e = refused UnsupportedArrow t e
-encoded_told Decimal128 (Some table) t is e = refused UnsupportedArrow t e
-encoded_told Date (Some table) t is e = refused UnsupportedArrow t e
 encoded_told (Dictionary encoding) (Some table) t is e = refused UnsupportedArrow t e
 
 encoded_read : (values : DataType) (found : Option TableAt) (t : DataType) → ((table : TableAt) → found ≡ Some table → IsBytes table.bytes) → SaysEncoding values found t → encoded values found ≡ Ok t
@@ -462,17 +244,19 @@ each_read vector index (field ∷ more) is are =
     let rest : AreFields vector (index + 1) more = λ (k : ℕ) (place : ℕ) (other : Field) (at : place ≡ index + 1 + k) (h : slice_get more k ≡ Some other). are (suc k) place other (omega arith) h in
     rw (one, each_read vector (index + 1) more is rest) refl
 
-kind_again : (number : ℕ) (kind : HeaderKind) → header_kind number ≡ Ok kind → is_schema kind ≡ true → (number ≡ 1) × (kind ≡ header.Schema)
-kind_again number kind e schema = elim (chosen number 1 header.Schema kind _ e) [
-  | inl h ↦ (h.0, sym h.1)
-  | inr e ↦ elim (chosen number 2 header.DictionaryBatch kind _ e) [
-    | inl h ↦ absurd (let f = rw (← h.1) at schema in let no : ⊥ = cc in no)
-    | inr e ↦ elim (chosen number 3 header.RecordBatch kind _ e) [
-      | inl h ↦ absurd (let f = rw (← h.1) at schema in let no : ⊥ = cc in no)
-      | inr e ↦ refused UnsupportedArrow kind e
-    ]
-  ]
-]
+-- the number of a schema's header
+abbrev IsSchemaKind : ℕ → HeaderKind → Type 0
+IsSchemaKind number kind = is_schema kind ≡ true → (number ≡ 1) × (kind ≡ header.Schema)
+
+kind_again : (number : ℕ) (kind : HeaderKind) → header_kind number ≡ Ok kind → IsSchemaKind number kind
+kind_again number kind e =
+    meaning_told IsSchemaKind header_kinds number kind (here, (other, (other, tt))) e
+  where
+    here : IsSchemaKind 1 header.Schema
+    here schema = (refl, refl)
+
+    other : {P : Type 0} → false ≡ true → P
+    other schema = absurd (let no : ⊥ = cc in no)
 
 -- a message whose header is a schema
 record SaysMessage (bytes : List ℕ) (message : MessageAt) : Type 0 where

@@ -10,12 +10,14 @@ use Rattle.flatbuf.specs.Layout.{TableAt, IsBytes, IsScalar, IsReached, IsText, 
 use Rattle.flatbuf.specs.Place.{number_at}
 use Rattle.flatbuf.proofs.Readings.{byte_of, seen_finds, seen_number}
 use Rattle.arrow_types.specs.declared.data_type.DataType.{DataType}
-use Rattle.arrow_types.specs.declared.data_type.DataType.TheVariants.{Integer, Utf8, Bool as Flags, Decimal128, Date, Dictionary}
+use Rattle.arrow_types.specs.declared.data_type.DataType.TheVariants.{Number, Utf8, Bool as Flags, Dictionary}
 use Rattle.arrow_types.specs.declared.schema.Field.{Field}
 use Rattle.arrow_types.specs.declared.schema.Schema.{Schema}
 use Rattle.arrow_types.specs.Schema.{IsType, IsField, IsSchema}
-use Rattle.arrow_schema.specs.Says.{SaysType, SaysEncoding, SaysField, SaysSchema, ReadIsSaid, ReadIsSchema}
-use Rattle.arrow_schema.proofs.Said.{bytes_table, bytes_vector, bytes_behind, schema_told, schema_read}
+use Rattle.arrow_schema.specs.TypeTables.{SaysType}
+use Rattle.arrow_schema.specs.Says.{SaysEncoding, SaysField, SaysSchema, ReadIsSaid, ReadIsSchema}
+use Rattle.arrow_schema.proofs.Readings.{bytes_table, bytes_vector}
+use Rattle.arrow_schema.proofs.Said.{bytes_behind, schema_told, schema_read}
 
 pub read_is_said : ReadIsSaid
 read_is_said bytes schema is = (schema_told bytes schema is, schema_read bytes schema is)
@@ -41,11 +43,9 @@ text_utf8 bytes None text r = absurd r
 text_utf8 bytes (Some at) text r = r.there.utf8
 
 plain : (t : DataType) (table : TableAt) → SaysType t table → IsType t
-plain (Integer integer) table says = tt
+plain (Number kind) table says = tt
 plain Utf8 table says = tt
 plain Flags table says = tt
-plain Decimal128 table says = tt
-plain Date table says = tt
 plain (Dictionary encoding) table says = absurd says
 
 typed : (values t : DataType) (type : TableAt) (found : Option TableAt) → ((table : TableAt) → found ≡ Some table → IsBytes table.bytes) → SaysType values type → SaysEncoding values found t → IsType t

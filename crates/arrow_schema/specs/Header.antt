@@ -15,7 +15,8 @@ use Rattle.arrow_types.specs.declared.schema.Schema.{Schema}
 use Rattle.arrow_types.specs.Schema.{same_dictionary}
 use Rattle.arrow_schema.specs.declared.header.HeaderKind.{HeaderKind}
 use Rattle.arrow_schema.specs.declared.header.HeaderKind.TheVariants as header
-use Rattle.arrow_schema.specs.Fields.{vector_wanted, meaning_of, field_in}
+use Rattle.arrow_schema.specs.TypeTables.{meaning_of}
+use Rattle.arrow_schema.specs.Fields.{vector_wanted, field_in}
 unfoldable pub use Rattle.arrow_schema.specs.Fields.{table_wanted}
 
 -- ---- messages
@@ -26,9 +27,12 @@ pub record MessageAt : Type 0 where
   pub table : TableAt
 
 -- the kinds of headers that there are here, by their numbers
+abbrev pub header_kinds : List (ℕ × HeaderKind)
+header_kinds =
+    (1, header.Schema) ∷ (2, header.DictionaryBatch) ∷ (3, header.RecordBatch) ∷ []
+
 abbrev pub header_kind : ℕ → Result HeaderKind Fault
-header_kind number = meaning_of ((1, header.Schema) ∷ (2, header.DictionaryBatch)
-    ∷ (3, header.RecordBatch) ∷ []) number
+header_kind number = meaning_of header_kinds number
 
 -- the message that a buffer holds, of metadata version V5, which is 4
 unfoldable pub message_of : List ℕ → Result MessageAt Fault

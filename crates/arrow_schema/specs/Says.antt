@@ -1,7 +1,7 @@
 -- What a buffer says of a schema, in the words of Arrow's `Message.fbs` and `Schema.fbs` and of the
 -- FlatBuffers format: the slots of each table, with no order of reading.
-use Rattle.std.specs.Prelude.{◌≡◌, ◌↔◌, ◌≤◌, ℕ, ◌==◌, not, Bool, false, List, length, Option, Some}
-use Rattle.std.specs.Prelude.{None, Ok, IsTrue, slice_get}
+use Rattle.std.specs.Prelude.{◌≡◌, ◌↔◌, ◌≤◌, ℕ, false, List, length, Option, Some, None, Ok}
+use Rattle.std.specs.Prelude.{IsTrue, slice_get}
 use Rattle.scan_base.specs.Limits.{most_columns, most_name_bytes}
 use Rattle.scan_base.specs.Lists.{repeats}
 use Rattle.flatbuf.specs.Layout.{TableAt, VectorAt, IsBytes, HasRoot, HasScalar, HasTable}
@@ -9,44 +9,14 @@ use Rattle.flatbuf.specs.Layout.{HasVector, HasText, HasElement}
 use Rattle.arrow_types.specs.declared.data_type.IntegerType.{IntegerType}
 use Rattle.arrow_types.specs.declared.data_type.IntegerType.TheVariants.{Int32}
 use Rattle.arrow_types.specs.declared.data_type.DataType.{DataType}
-use Rattle.arrow_types.specs.declared.data_type.DataType.TheVariants.{Integer, Utf8, Bool as Flags}
-use Rattle.arrow_types.specs.declared.data_type.DataType.TheVariants.{Decimal128, Date, Dictionary}
+use Rattle.arrow_types.specs.declared.data_type.DataType.TheVariants.{Utf8, Dictionary}
 use Rattle.arrow_types.specs.declared.data_type.DictionaryEncoding.{DictionaryEncoding}
 use Rattle.arrow_types.specs.declared.schema.Field.{Field}
 use Rattle.arrow_types.specs.declared.schema.Schema.{Schema}
-use Rattle.arrow_types.specs.DataType.{bit_width, is_signed}
 use Rattle.arrow_types.specs.Schema.{same_dictionary, IsSchema}
 use Rattle.arrow_schema.specs.Fields.{is_bare}
 use Rattle.arrow_schema.specs.Header.{schema_of}
-use Rattle.arrow_schema.specs.WrittenHeader.{type_number}
-
--- a bool is true where its byte is not 0
-abbrev pub HasFlag : TableAt → ℕ → Bool → Type 0
-HasFlag table slot flag = (byte : ℕ) × HasScalar 1 table slot 0 byte × (flag ≡ not (byte == 0))
-
--- an Int table: bitWidth, is_signed
-pub record SaysInteger (table : TableAt) (integer : IntegerType) : Type 0 where
-  pub width : HasScalar 4 table 0 0 (bit_width integer)
-  pub signed : HasFlag table 1 (is_signed integer)
-
--- a Decimal table: precision 38, scale 0, bitWidth 128, which is the default
-pub record SaysDecimal (table : TableAt) : Type 0 where
-  pub precision : HasScalar 4 table 0 0 38
-  pub scale : HasScalar 4 table 1 0 0
-  pub width : HasScalar 4 table 2 128 128
-
--- a Date table: its unit is DAY (0), where the default is MILLISECOND (1)
-pub record SaysDate (table : TableAt) : Type 0 where
-  pub unit : HasScalar 2 table 0 1 0
-
--- the table of a type; no type's table says a dictionary
-abbrev pub SaysType : DataType → TableAt → Type 0
-SaysType (Integer integer) table = SaysInteger table integer
-SaysType Utf8 table = Unit {0}
-SaysType Flags table = Unit {0}
-SaysType Decimal128 table = SaysDecimal table
-SaysType Date table = SaysDate table
-SaysType (Dictionary encoding) table = ⊥
+use Rattle.arrow_schema.specs.TypeTables.{HasFlag, SaysInteger, SaysType, type_number}
 
 -- the type of a dictionary's indices: signed numbers of 32 bits where there is no table
 abbrev pub SaysIndex : Option TableAt → IntegerType → Type 0

@@ -1,49 +1,18 @@
 -- How the header of a schema is laid out where it is written, and a header in a stream.
-use Rattle.std.specs.Prelude.{◌≡◌, ℕ, Bool, true, false, List, [], ◌∷◌, ◌++◌, length, map}
+use Rattle.std.specs.Prelude.{◌≡◌, ℕ, List, [], ◌∷◌, ◌++◌, length, map}
 use Rattle.std.specs.Prelude.{replicate, Option, Some, None, option_map, Ok}
 use Rattle.flatbuf.specs.Block.{Part, Given, Absent, Number, Offset, little, padded, table_part}
 use Rattle.flatbuf.specs.Block.{text_part, tables_part}
-use Rattle.arrow_types.specs.declared.data_type.IntegerType.{IntegerType}
 use Rattle.arrow_types.specs.declared.data_type.DataType.{DataType}
-use Rattle.arrow_types.specs.declared.data_type.DataType.TheVariants.{Integer, Utf8, Bool as Flags}
-use Rattle.arrow_types.specs.declared.data_type.DataType.TheVariants.{Decimal128, Date, Dictionary}
 use Rattle.arrow_types.specs.declared.data_type.DictionaryEncoding.{DictionaryEncoding}
 use Rattle.arrow_types.specs.declared.schema.Field.{Field}
 use Rattle.arrow_types.specs.declared.schema.Schema.{Schema}
-use Rattle.arrow_types.specs.DataType.{bit_width, is_signed, encoding_of}
+use Rattle.arrow_types.specs.DataType.{encoding_of}
 use Rattle.arrow_types.specs.Schema.{IsSchema}
 use Rattle.arrow_schema.specs.declared.header.HeaderKind.TheVariants as header
 use Rattle.arrow_schema.specs.Message.{message_bytes}
+use Rattle.arrow_schema.specs.TypeTables.{flag, integer_part, type_number, type_part}
 use Rattle.arrow_schema.specs.Header.{schema_of}
-
--- a truth as a byte
-abbrev pub flag : Bool → ℕ
-flag true = 1
-flag false = 0
-
--- the number of a type's kind; that of a dictionary is the kind of its values
-abbrev pub type_number : DataType → ℕ
-type_number (Integer integer) = 2
-type_number Utf8 = 5
-type_number Flags = 6
-type_number Decimal128 = 7
-type_number Date = 8
-type_number (Dictionary encoding) = 5
-
--- an Int table: its width in bits, and whether it is signed
-unfoldable pub integer_part : IntegerType → Part
-integer_part integer =
-    table_part (Number (bit_width integer) ∷ Number (flag (is_signed integer)) ∷ [])
-
--- the table of a type: that of a Decimal says 38 digits, none after the point, and 128 bits; that
--- of a Date says days
-unfoldable pub type_part : DataType → Part
-type_part (Integer integer) = integer_part integer
-type_part Utf8 = table_part []
-type_part Flags = table_part []
-type_part Decimal128 = table_part (Number 38 ∷ Number 0 ∷ Number 128 ∷ [])
-type_part Date = table_part (Number 0 ∷ [])
-type_part (Dictionary encoding) = table_part []
 
 -- a DictionaryEncoding table: its id, and the type of its indices
 unfoldable pub dictionary_part : DictionaryEncoding → Part

@@ -7,15 +7,15 @@ ghost use Rattle.scan_base.specs.Reading.{Gives, GivesUnlessMemory, RefusesFirst
 ghost use Rattle.scan_base.specs.Lists.{each, repeats};
 ghost use Rattle.arrow_types.specs.Schema.{shares_dictionary, same_dictionary};
 ghost use Rattle.arrow_types.specs.Schema.{IsName, IsType, IsField, IsSchema};
-ghost use Rattle.arrow_schema.specs.Fields.{vector_wanted, name_of, integer_type, integer_of};
-ghost use Rattle.arrow_schema.specs.Fields.{decimal_of, date_of, type_kind, type_of, value_type_of};
-ghost use Rattle.arrow_schema.specs.Fields.{childless, index_of, dictionary_of, encoded, field_in};
+ghost use Rattle.arrow_schema.specs.Fields.{vector_wanted, name_of, value_type_of, childless};
+ghost use Rattle.arrow_schema.specs.Fields.{index_of, dictionary_of, encoded, field_in};
 ghost use Rattle.arrow_schema.specs.Header.{field_at, fields_of};
 ghost use Rattle.arrow_schema.specs.Header.{is_schema, schema_message_of, schema_in, schema_of};
 ghost use Rattle.arrow_schema.specs.MessageView.{message_seen};
 
 use crate::borrowed_fields::{BorrowedField, owned};
-use crate::header::{HeaderKind, Message, read_message, table_wanted};
+use crate::header::{HeaderKind, Message, read_message};
+use crate::type_tables::{integer, type_from};
 use arrayvec::ArrayVec;
 use arrow_types::{DataType, DictionaryEncoding, IntegerType, MAX_COLUMNS, MAX_NAME_BYTES, Schema};
 use flatbuf::{Table, Vector, Width};
@@ -24,16 +24,6 @@ use std::alloc::Global;
 
 // The columns of a schema, held without memory.
 type BorrowedFields<'a> = ArrayVec<BorrowedField<'a>, MAX_COLUMNS>;
-
-/// The kinds of types that there are here.
-#[derive(Clone, Copy)]
-enum TypeKind {
-    Int,
-    Utf8,
-    Bool,
-    Decimal,
-    Date,
-}
 
 #[tactic(auto, unfolding(crate::specs::Fields::vector_wanted))]
 fn vector_wanted<'a>(table: &Table<'a>, slot: u16) -> Result<Vector<'a>, Fault>
@@ -55,84 +45,6 @@ fn name<'a>(field: &Table<'a>) -> Result<&'a str, Fault>
     Ok(name)
 }
 
-fn integer_type(signed: bool, bits: u64) -> Result<IntegerType, Fault>
-    ensures { Gives (λ integer. integer) result (integer_type signed bits) }
-{
-    match (signed, bits) {
-        (true, 8) => Ok(IntegerType::Int8),
-        (true, 16) => Ok(IntegerType::Int16),
-        (true, 32) => Ok(IntegerType::Int32),
-        (true, 64) => Ok(IntegerType::Int64),
-        (false, 8) => Ok(IntegerType::UInt8),
-        (false, 16) => Ok(IntegerType::UInt16),
-        (false, 32) => Ok(IntegerType::UInt32),
-        (false, 64) => Ok(IntegerType::UInt64),
-        _ => Err(Fault::UnsupportedArrow),
-    }
-}
-
-#[tactic(auto, unfolding(crate::specs::Fields::integer_of))]
-fn integer(table: &Table<'_>) -> Result<IntegerType, Fault>
-    ensures { Gives (λ integer. integer) result (integer_of table.now) }
-{
-    let bits = table.scalar(0, Width::Four, 0)?;
-    let signed = table.scalar(1, Width::One, 0)?;
-    integer_type(signed != 0, bits)
-}
-
-#[tactic(auto, unfolding(crate::specs::Fields::decimal_of))]
-fn decimal(table: &Table<'_>) -> Result<DataType, Fault>
-    ensures value { Gives (λ decimal. decimal) result (decimal_of table.now) }
-    ensures valid { IfOk result IsType }
-{
-    let precision = table.scalar(0, Width::Four, 0)?;
-    let scale = table.scalar(1, Width::Four, 0)?;
-    let bits = table.scalar(2, Width::Four, 128)?;
-    if precision != 38 || scale != 0 || bits != 128 {
-        return Err(Fault::UnsupportedArrow);
-    }
-    Ok(DataType::Decimal128)
-}
-
-// A date of whole days.
-#[tactic(auto, unfolding(crate::specs::Fields::date_of))]
-fn date(table: &Table<'_>) -> Result<DataType, Fault>
-    ensures value { Gives (λ date. date) result (date_of table.now) }
-    ensures valid { IfOk result IsType }
-{
-    if table.scalar(0, Width::Two, 1)? != 0 {
-        return Err(Fault::UnsupportedArrow);
-    }
-    Ok(DataType::Date)
-}
-
-fn type_kind(number: u64) -> Result<TypeKind, Fault>
-    ensures { Gives (λ kind. kind) result (type_kind number) }
-{
-    match number {
-        2 => Ok(TypeKind::Int),
-        5 => Ok(TypeKind::Utf8),
-        6 => Ok(TypeKind::Bool),
-        7 => Ok(TypeKind::Decimal),
-        8 => Ok(TypeKind::Date),
-        _ => Err(Fault::UnsupportedArrow),
-    }
-}
-
-#[tactic(auto, unfolding(crate::specs::Fields::type_of))]
-fn type_from(kind: TypeKind, table: &Table<'_>) -> Result<DataType, Fault>
-    ensures value { Gives (λ data_type. data_type) result (type_of kind table.now) }
-    ensures valid { IfOk result IsType }
-{
-    match kind {
-        TypeKind::Int => Ok(DataType::Integer(integer(table)?)),
-        TypeKind::Utf8 => Ok(DataType::Utf8),
-        TypeKind::Bool => Ok(DataType::Bool),
-        TypeKind::Decimal => decimal(table),
-        TypeKind::Date => date(table),
-    }
-}
-
 // The type of a field's values, whose kind is stored.
 #[tactic(auto, unfolding(crate::specs::Fields::value_type_of))]
 fn value_type(field: &Table<'_>) -> Result<DataType, Fault>
@@ -142,9 +54,8 @@ fn value_type(field: &Table<'_>) -> Result<DataType, Fault>
     if field.field(2)?.is_none() {
         return Err(Fault::BadFlatbuffer);
     }
-    let kind = type_kind(field.scalar(2, Width::One, 0)?)?;
-    let table = table_wanted(field, 3)?;
-    type_from(kind, &table)
+    let kind = field.scalar(2, Width::One, 0)?;
+    type_from(kind, field)
 }
 
 #[tactic(auto, unfolding(crate::specs::Fields::childless))]

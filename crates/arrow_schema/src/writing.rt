@@ -7,13 +7,13 @@ ghost use Rattle.arrow_types.specs.Schema.{IsType, IsField, IsSchema};
 ghost use Rattle.arrow_types.specs.DataType.{encoding_of};
 ghost use Rattle.arrow_schema.specs.Message.{message_bytes};
 ghost use Rattle.arrow_schema.specs.Header.{schema_of};
-ghost use Rattle.arrow_schema.specs.WrittenHeader.{type_number, integer_part, type_part};
-ghost use Rattle.arrow_schema.specs.WrittenHeader.{dictionary_part};
-ghost use Rattle.arrow_schema.specs.WrittenHeader.{given_if, field_part, schema_part};
+ghost use Rattle.arrow_schema.specs.WrittenHeader.{dictionary_part, given_if, field_part};
+ghost use Rattle.arrow_schema.specs.WrittenHeader.{schema_part};
 ghost use Rattle.arrow_schema.specs.WrittenHeader.{schema_bytes, encapsulated};
 
 use crate::header::HeaderKind;
-use arrow_types::{DataType, DictionaryEncoding, Field, IntegerType, Schema};
+use crate::type_tables::{integer_block, type_block};
+use arrow_types::{DataType, DictionaryEncoding, Field, Schema};
 use flatbuf::{Block, Builder, Slot};
 use std::alloc::{AllocError, Global};
 
@@ -42,42 +42,6 @@ pub fn write_message(
         Slot::Number(body_length),
     ])?;
     builder.finish(&message)
-}
-
-fn type_number(data_type: DataType) -> u64
-    ensures { result ≡ type_number data_type }
-{
-    match data_type {
-        DataType::Integer(_) => 2,
-        DataType::Utf8 | DataType::Dictionary(_) => 5,
-        DataType::Bool => 6,
-        DataType::Decimal128 => 7,
-        DataType::Date => 8,
-    }
-}
-
-#[tactic(auto, using(flatbuf::proofs::Lengths::fits), unfolding(crate::specs::WrittenHeader::integer_part))]
-fn integer_block(builder: &Builder, integer: IntegerType) -> Result<Block, AllocError>
-    ensures { IfOk result (λ block. block ≡ integer_part integer) }
-{
-    builder.table(&[
-        Slot::Number(u64::from(integer.bit_width())),
-        Slot::Number(u64::from(integer.is_signed())),
-    ])
-}
-
-#[tactic(auto, using(flatbuf::proofs::Lengths::fits), unfolding(crate::specs::WrittenHeader::type_part))]
-fn type_block(builder: &Builder, data_type: DataType) -> Result<Block, AllocError>
-    ensures { IfOk result (λ block. block ≡ type_part data_type) }
-{
-    match data_type {
-        DataType::Integer(integer) => integer_block(builder, integer),
-        DataType::Utf8 | DataType::Bool | DataType::Dictionary(_) => builder.table(&[]),
-        DataType::Decimal128 => {
-            builder.table(&[Slot::Number(38), Slot::Number(0), Slot::Number(128)])
-        }
-        DataType::Date => builder.table(&[Slot::Number(0)]),
-    }
 }
 
 #[tactic(auto, using(crate::proofs::Again::writing), unfolding(crate::specs::WrittenHeader::dictionary_part))]
@@ -115,13 +79,13 @@ fn field_block(builder: &Builder, field: &Field) -> Result<Block, AllocError>
     ensures { IfOk result (λ block. block ≡ field_part field.now) }
 {
     let name = builder.text(field.name.as_str())?;
-    let values = type_block(builder, field.data_type)?;
+    let (kind, values) = type_block(builder, field.data_type)?;
     let dictionary = encoding_block(builder, field.data_type)?;
     let children = builder.tables(&[])?;
     builder.table(&[
         Slot::Offset(&name),
         Slot::Number(u64::from(field.nullable)),
-        Slot::Number(type_number(field.data_type)),
+        Slot::Number(kind),
         Slot::Offset(&values),
         optional(&dictionary),
         Slot::Offset(&children),

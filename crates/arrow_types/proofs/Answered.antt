@@ -5,30 +5,24 @@ use Rattle.std.proofs.lemmas.Bool.{ne_eqb}
 use Rattle.scan_base.specs.Limits.{most_columns}
 use Rattle.scan_base.specs.Lists.{repeats}
 use Rattle.arrow_types.specs.declared.data_type.DataType.{DataType}
-use Rattle.arrow_types.specs.declared.data_type.DataType.TheVariants.{Integer, Utf8, Bool as Flags, Decimal128, Date, Dictionary}
+use Rattle.arrow_types.specs.declared.data_type.DataType.TheVariants.{Number, Utf8, Bool as Flags, Dictionary}
 use Rattle.arrow_types.specs.declared.schema.Field.{Field}
 use Rattle.arrow_types.specs.Schema.{same_dictionary, shares_dictionary, IsType}
 use Rattle.arrow_types.specs.Answer.{answered_at, answered_from}
 
 pub answered_typed : (number : ℕ) (t : DataType) → number ≤ most_columns → IsType (answered_at number t)
-answered_typed number (Integer integer) few = tt
+answered_typed number (Number kind) few = tt
 answered_typed number Utf8 few = tt
 answered_typed number Flags few = tt
-answered_typed number Decimal128 few = tt
-answered_typed number Date few = tt
 answered_typed number (Dictionary encoding) few = omega (arith, few)
 
 unshared : (number later : ℕ) (t other : DataType) → number < later → shares_dictionary (answered_at number t) (answered_at later other) ≡ false
-unshared number later (Integer integer) other low = refl
+unshared number later (Number kind) other low = refl
 unshared number later Utf8 other low = refl
 unshared number later Flags other low = refl
-unshared number later Decimal128 other low = refl
-unshared number later Date other low = refl
-unshared number later (Dictionary encoding) (Integer integer) low = refl
+unshared number later (Dictionary encoding) (Number kind) low = refl
 unshared number later (Dictionary encoding) Utf8 low = refl
 unshared number later (Dictionary encoding) Flags low = refl
-unshared number later (Dictionary encoding) Decimal128 low = refl
-unshared number later (Dictionary encoding) Date low = refl
 unshared number later (Dictionary encoding) (Dictionary other) low = ne_eqb number later (λ (same : number ≡ later). omega (arith, low, same))
 
 abbrev first : List DataType → DataType

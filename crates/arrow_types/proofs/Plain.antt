@@ -5,42 +5,34 @@ use Rattle.std.proofs.lemmas.List.{length-map}
 use Rattle.std.proofs.lemmas.List.Elements.{All-map}
 use Rattle.scan_base.specs.Lists.{repeats}
 use Rattle.arrow_types.specs.declared.data_type.DataType.{DataType}
-use Rattle.arrow_types.specs.declared.data_type.DataType.TheVariants.{Integer, Utf8, Bool as Flags, Decimal128, Date, Dictionary}
+use Rattle.arrow_types.specs.declared.data_type.DataType.TheVariants.{Number, Utf8, Bool as Flags, Dictionary}
 use Rattle.arrow_types.specs.declared.schema.Field.{Field}
 use Rattle.arrow_types.specs.Schema.{same_dictionary, shares_dictionary, IsType, IsField}
 use Rattle.arrow_types.specs.DataType.{encoding_of}
 use Rattle.arrow_types.specs.Answer.{copied_type, plain_field, PlainIsSchema, PlainHasNone, PlainStays}
 
 plain : (t : DataType) → encoding_of (copied_type t) ≡ None
-plain (Integer integer) = refl
+plain (Number kind) = refl
 plain Utf8 = refl
 plain Flags = refl
-plain Decimal128 = refl
-plain Date = refl
 plain (Dictionary encoding) = refl
 
 typed : (t : DataType) → IsType t → IsType (copied_type t)
-typed (Integer integer) is = tt
+typed (Number kind) is = tt
 typed Utf8 is = tt
 typed Flags is = tt
-typed Decimal128 is = tt
-typed Date is = tt
 typed (Dictionary encoding) is = tt
 
 once : (t : DataType) → copied_type (copied_type t) ≡ copied_type t
-once (Integer integer) = refl
+once (Number kind) = refl
 once Utf8 = refl
 once Flags = refl
-once Decimal128 = refl
-once Date = refl
 once (Dictionary encoding) = refl
 
 unshared : (t other : DataType) → shares_dictionary (copied_type t) other ≡ false
-unshared (Integer integer) other = refl
+unshared (Number kind) other = refl
 unshared Utf8 other = refl
 unshared Flags other = refl
-unshared Decimal128 other = refl
-unshared Date other = refl
 unshared (Dictionary encoding) other = refl
 
 none_shared : (field : Field) (others : List Field) → list_any (same_dictionary (plain_field field)) others ≡ false

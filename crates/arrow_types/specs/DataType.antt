@@ -1,9 +1,14 @@
 -- What the types of columns are.
-use Rattle.std.specs.Prelude.{ℕ, Bool, true, false, Option, Some, None}
+use Rattle.std.specs.Prelude.{ℕ, ◌==◌, ◌&&◌, Bool, true, false, Option, Some, None}
+use Rattle.scan_base.specs.Value.{same_flag}
 use Rattle.arrow_types.specs.declared.data_type.IntegerType.{IntegerType}
 use Rattle.arrow_types.specs.declared.data_type.IntegerType.TheVariants.{Int8, Int16, Int32, Int64}
 use Rattle.arrow_types.specs.declared.data_type.IntegerType.TheVariants.{UInt8, UInt16, UInt32}
 use Rattle.arrow_types.specs.declared.data_type.IntegerType.TheVariants.{UInt64}
+use Rattle.arrow_types.specs.declared.data_type.NumberType.{NumberType}
+use Rattle.arrow_types.specs.declared.data_type.NumberType.TheVariants as number
+use Rattle.arrow_types.specs.declared.data_type.Cell.{Cell}
+use Rattle.arrow_types.specs.declared.data_type.Cell.TheVariants as cell
 use Rattle.arrow_types.specs.declared.data_type.DataType.{DataType}
 use Rattle.arrow_types.specs.declared.data_type.DataType.TheVariants.{Dictionary}
 use Rattle.arrow_types.specs.declared.data_type.DictionaryEncoding.{DictionaryEncoding}
@@ -26,6 +31,20 @@ bit_width integer = (integer_form integer).1
 -- whether the numbers have a sign
 abbrev pub is_signed : IntegerType → Bool
 is_signed integer = (integer_form integer).0
+
+-- how a number of a type lies in a slot: a date in 32 bits with a sign, a decimal in 16 bytes
+abbrev pub cell_of : NumberType → Cell
+cell_of (number.Integer integer) = cell.Integer integer
+cell_of number.Decimal = cell.Wide
+cell_of number.Date = cell.Integer Int32
+
+-- whether two are one type
+abbrev pub same_number : NumberType → NumberType → Bool
+same_number (number.Integer one) (number.Integer other) =
+    bit_width one == bit_width other && same_flag (is_signed one) (is_signed other)
+same_number number.Decimal number.Decimal = true
+same_number number.Date number.Date = true
+same_number _ _ = false
 
 -- the dictionary of a type, where it has one
 abbrev pub encoding_of : DataType → Option DictionaryEncoding

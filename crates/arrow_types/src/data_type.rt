@@ -2,7 +2,7 @@
 
 ghost use Rattle.std.specs.Prelude.{◌≡◌};
 ghost use Rattle.arrow_types.specs.Answer.{answered_at, copied_type};
-ghost use Rattle.arrow_types.specs.DataType.{bit_width, is_signed};
+ghost use Rattle.arrow_types.specs.DataType.{bit_width, cell_of, is_signed, same_number};
 
 /// The whole numbers of fixed width.
 #[derive(Clone, Copy, Debug, PartialEq, Eq)]
@@ -25,16 +25,28 @@ pub struct DictionaryEncoding {
     pub index: IntegerType,
 }
 
-/// The type of a column's values. A dictionary's values are Utf8, a decimal is one of 38 digits
-/// with none after the point, and a date is a number of whole days from 1970-01-01 on, in 32 signed
-/// bits.
+/// The types whose values are whole numbers, in whose order they stand. A decimal is one of 38
+/// digits with none after the point. A date is a number of whole days from 1970-01-01 on.
+#[derive(Clone, Copy, Debug, PartialEq, Eq)]
+pub enum NumberType {
+    Integer(IntegerType),
+    Decimal,
+    Date,
+}
+
+/// How a number lies in a slot: as an integer of fixed width, or in 16 bytes with a sign.
+#[derive(Clone, Copy, Debug, PartialEq, Eq)]
+pub enum Cell {
+    Integer(IntegerType),
+    Wide,
+}
+
+/// The type of a column's values. A dictionary's values are Utf8.
 #[derive(Clone, Copy, Debug, PartialEq, Eq)]
 pub enum DataType {
-    Integer(IntegerType),
+    Number(NumberType),
     Utf8,
     Bool,
-    Decimal128,
-    Date,
     Dictionary(DictionaryEncoding),
 }
 
@@ -60,6 +72,34 @@ impl IntegerType {
                 true,
             IntegerType::UInt8 | IntegerType::UInt16 | IntegerType::UInt32 | IntegerType::UInt64 =>
                 false,
+        }
+    }
+}
+
+impl NumberType {
+    /// How a number of this type lies in a slot. Only this says it: what a number means plays no
+    /// part below the doors at which it is read or written.
+    pub fn cell(self) -> Cell
+        ensures { result ≡ cell_of self }
+    {
+        match self {
+            NumberType::Integer(integer) => Cell::Integer(integer),
+            NumberType::Decimal => Cell::Wide,
+            NumberType::Date => Cell::Integer(IntegerType::Int32),
+        }
+    }
+
+    /// Whether two are one type.
+    pub fn is_same(self, other: NumberType) -> bool
+        ensures { result ≡ same_number self other }
+    {
+        match (self, other) {
+            (NumberType::Integer(one), NumberType::Integer(other)) => {
+                one.bit_width() == other.bit_width() && one.is_signed() == other.is_signed()
+            }
+            (NumberType::Decimal, NumberType::Decimal) => true,
+            (NumberType::Date, NumberType::Date) => true,
+            (_, _) => false,
         }
     }
 }

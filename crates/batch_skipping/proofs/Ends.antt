@@ -13,7 +13,7 @@ use Rattle.scan_base.specs.declared.value.Value.{Value}
 use Rattle.scan_base.specs.declared.value.Value.TheVariants.{Null, Bool as Flag, Int, Text}
 use Rattle.scan_base.specs.Value.{is_null}
 use Rattle.arrow_types.specs.declared.data_type.DataType.{DataType}
-use Rattle.arrow_types.specs.declared.data_type.DataType.TheVariants.{Integer, Utf8, Bool as Flags, Decimal128, Date, Dictionary}
+use Rattle.arrow_types.specs.declared.data_type.DataType.TheVariants.{Number, Utf8, Bool as Flags, Dictionary}
 use Rattle.arrays.specs.TypedLayouts.{IsValueOf}
 use Rattle.batch_skipping.specs.Laws.{IsBetween, IsWithin, OwnValuesAreWithin}
 use Rattle.batch_stats.specs.Stats.{StatsAt, ends_of, lesser, greater, stand, stats_of, with_value}
@@ -216,27 +216,19 @@ of_class texts values h = own_within (slice_cmp nat_cmp) Text (is_of texts) text
 -- ---- the values of a type are of one class
 
 abbrev kind_of : DataType → Kind
-kind_of (Integer integer) = numbers
+kind_of (Number number) = numbers
 kind_of Utf8 = texts
 kind_of Flags = flags
-kind_of Decimal128 = numbers
-kind_of Date = numbers
 kind_of (Dictionary encoding) = texts
 
 of_kind : (data_type : DataType) (value : Value) → IsValueOf data_type value → is_of (kind_of data_type) value ≡ true
 of_kind data_type Null is = refl
-of_kind (Integer integer) (Int number) is = refl
-of_kind Decimal128 (Int number) is = refl
-of_kind Date (Int number) is = refl
+of_kind (Number number) (Int n) is = refl
 of_kind Flags (Flag flag) is = refl
 of_kind Utf8 (Text bytes) is = refl
 of_kind (Dictionary encoding) (Text bytes) is = refl
-of_kind (Integer integer) (Flag flag) is = absurd is
-of_kind (Integer integer) (Text bytes) is = absurd is
-of_kind Decimal128 (Flag flag) is = absurd is
-of_kind Decimal128 (Text bytes) is = absurd is
-of_kind Date (Flag flag) is = absurd is
-of_kind Date (Text bytes) is = absurd is
+of_kind (Number number) (Flag flag) is = absurd is
+of_kind (Number number) (Text bytes) is = absurd is
 of_kind Flags (Int number) is = absurd is
 of_kind Flags (Text bytes) is = absurd is
 of_kind Utf8 (Flag flag) is = absurd is

@@ -5,7 +5,7 @@ use Rattle.std.specs.Ordering.{is_le}
 use Rattle.std.specs.declared.cmp.Ordering.{Ordering}
 use Rattle.scan_base.specs.declared.comparison.Comparison.TheVariants.{Equal, LessOrEqual, GreaterOrEqual}
 use Rattle.scan_base.specs.declared.predicate.Operand.{Operand}
-use Rattle.scan_base.specs.declared.predicate.Operand.TheVariants.{Column, Literal, Date}
+use Rattle.scan_base.specs.declared.predicate.Operand.TheVariants.{Column, Literal}
 use Rattle.scan_base.specs.declared.truth.Truth.TheVariants.{False}
 use Rattle.scan_base.specs.declared.value.Value.{Value}
 use Rattle.scan_base.specs.declared.value.Value.TheVariants.{Null, Bool as Flag, Int, Text}
@@ -43,7 +43,6 @@ module _ (stats : ℕ → StatsAt) (cell : ℕ → Value) (allowed : (column : �
   side_within : (operand : Operand ℕ) → IsWithin (side_of stats operand) (operand_value cell operand)
   side_within (Column column) = allowed column
   side_within (Literal value) = literal_within value
-  side_within (Date day) = literal_within (Int day)
 
   among_law : (a : StatsAt) (value : Value) → IsWithin a value → (items : List (Operand ℕ)) →
       has (can_be_among stats a items) (any_equal cell value items) ≡ true

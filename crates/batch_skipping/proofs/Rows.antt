@@ -2,7 +2,7 @@
 use Rattle.std.proofs.Common.{◌≡◌, ℕ, pos, Bool, true, false, List, [], ◌∷◌, codes, refl}
 use Rattle.scan_base.specs.declared.comparison.Comparison.TheVariants.{Equal, NotEqual, Less, Greater, GreaterOrEqual}
 use Rattle.scan_base.specs.declared.predicate.Operand.{Operand}
-use Rattle.scan_base.specs.declared.predicate.Operand.TheVariants.{Column, Literal, Date}
+use Rattle.scan_base.specs.declared.predicate.Operand.TheVariants.{Column, Literal}
 use Rattle.scan_base.specs.declared.truth.Truth.TheVariants.{False, Unknown}
 use Rattle.scan_base.specs.declared.value.Value.{Value}
 use Rattle.scan_base.specs.declared.value.Value.TheVariants.{Null, Int, Text}
@@ -143,9 +143,9 @@ text_beside_numbers : can (λ (column : ℕ). stats_of low) (comparing Equal (Co
 unfolding can_compare
 text_beside_numbers = refl
 
--- d >= DATE '1994-01-01', which is the day 8766, over two batches of dates
+-- d >= DATE '1994-01-01', which is bound as the day 8766, over two batches of dates
 abbrev from_1994 : Pred ℕ
-from_1994 = comparing GreaterOrEqual (Column 0) (Date (pos 8766))
+from_1994 = comparing GreaterOrEqual (Column 0) (Literal (Int (pos 8766)))
 
 dates_before : is_opened (Int (pos 8000) ∷ Int (pos 8700) ∷ []) from_1994 ≡ false
 unfolding can_compare over

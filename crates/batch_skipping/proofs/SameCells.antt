@@ -4,7 +4,7 @@ use Rattle.std.specs.List.{list_all}
 use Rattle.std.proofs.lemmas.Bool.{and_parts}
 use Rattle.scan_base.specs.declared.comparison.Comparison.TheVariants.{Equal}
 use Rattle.scan_base.specs.declared.predicate.Operand.{Operand}
-use Rattle.scan_base.specs.declared.predicate.Operand.TheVariants.{Column, Literal, Date}
+use Rattle.scan_base.specs.declared.predicate.Operand.TheVariants.{Column, Literal}
 use Rattle.scan_base.specs.declared.value.Value.{Value}
 use Rattle.scan_base.specs.Comparison.{compared, nullness}
 use Rattle.scan_base.specs.Predicate.{Pred, conjunction, disjunction, negation, truth_test, comparing, between, membership, null_test, constant, any_equal, operand_names, operand_value, names_only, truth_of, within}
@@ -14,7 +14,6 @@ module _ (names : ℕ → Bool) (cell other : ℕ → Value) (same : (column : �
   same_operand : (operand : Operand ℕ) → operand_names names operand ≡ true → operand_value cell operand ≡ operand_value other operand
   same_operand (Column column) named = same column named
   same_operand (Literal value) named = refl
-  same_operand (Date day) named = refl
 
   same_items : (value : Value) (items : List (Operand ℕ)) → list_all (operand_names names) items ≡ true → any_equal cell value items ≡ any_equal other value items
   same_items value [] named = refl

@@ -6,10 +6,9 @@ use Rattle.scan_base.specs.declared.comparison.Comparison.TheVariants.{Equal, No
 use Rattle.scan_base.specs.declared.comparison.Comparison.TheVariants.{LessOrEqual, Greater}
 use Rattle.scan_base.specs.declared.comparison.Comparison.TheVariants.{GreaterOrEqual}
 use Rattle.scan_base.specs.declared.predicate.Operand.{Operand}
-use Rattle.scan_base.specs.declared.predicate.Operand.TheVariants.{Column, Literal, Date}
+use Rattle.scan_base.specs.declared.predicate.Operand.TheVariants.{Column, Literal}
 use Rattle.scan_base.specs.declared.truth.Truth.TheVariants.{False, Unknown}
 use Rattle.scan_base.specs.declared.value.Value.{Value}
-use Rattle.scan_base.specs.declared.value.Value.TheVariants.{Int}
 use Rattle.scan_base.specs.Comparison.{order_of}
 use Rattle.scan_base.specs.Predicate.{Pred, conjunction, disjunction, negation, truth_test}
 use Rattle.scan_base.specs.Predicate.{comparing, between, membership, null_test, constant}
@@ -18,11 +17,10 @@ use Rattle.batch_skipping.specs.declared.possible_truths.PossibleTruths.{Possibl
 use Rattle.batch_skipping.specs.PossibleTruths.{only, over, over_both}
 use Rattle.batch_stats.specs.Stats.{StatsAt, stats_of, stand, has_nulls}
 
--- a literal, and a date by its day number, is a range of one value
+-- a literal is a range of one value
 abbrev pub side_of : {C : Type 0} → (C → StatsAt) → Operand C → StatsAt
 side_of stats (Column column) = stats column
 side_of stats (Literal value) = stats_of (value ∷ [])
-side_of stats (Date day) = stats_of (Int day ∷ [])
 
 -- whether all values between these ends, and between those, are one value
 abbrev pub is_one_value : Value × Value → Value × Value → Bool

@@ -41,7 +41,7 @@ impl PlaceColumns<'_> {
     {
         match operand {
             Operand::Column(column) => self.has(*column),
-            Operand::Literal(_) | Operand::Date(_) => true,
+            Operand::Literal(_) => true,
         }
     }
 

@@ -18,7 +18,7 @@ use crate::compare::{can_be_null, can_compare};
 use crate::possible_truths::PossibleTruths;
 use crate::text_standing::{TextStanding, texts_can_be_null};
 use batch_stats::{Beginnings, Side};
-use scan_base::{Comparison, Operand, Predicate, Truth, ValueRef};
+use scan_base::{Comparison, Operand, Predicate, Truth};
 
 /// The statistics of the columns of a batch, by what names a column.
 pub trait ColumnStats<C> {
@@ -48,7 +48,6 @@ fn side_of<'a, C, M: ColumnStats<C>>(operand: &'a Operand<C>, batch: &'a M) -> S
     match operand {
         Operand::Column(column) => batch.side(column),
         Operand::Literal(value) => Side::of(value),
-        Operand::Date(day) => Side::of_number(i128::from(*day)),
     }
 }
 
@@ -64,7 +63,6 @@ fn range_of<'a, K: OneClass<'a>, C, M: ColumnStats<C>>(
     match operand {
         Operand::Column(column) => ClassRange::of_side(&batch.side(column)),
         Operand::Literal(value) => Some(K::of_value(value.borrowed())?.alone()),
-        Operand::Date(day) => Some(K::of_value(ValueRef::Int(i128::from(*day)))?.alone()),
     }
 }
 
@@ -75,7 +73,7 @@ fn is_null_alone<C, M: ColumnStats<C>>(operand: &Operand<C>, batch: &M) -> bool
 {
     match operand {
         Operand::Column(column) => batch.side(column).ends.is_none(),
-        Operand::Literal(_) | Operand::Date(_) => false,
+        Operand::Literal(_) => false,
     }
 }
 
@@ -138,7 +136,7 @@ fn beginnings_of<'a, C, M: ColumnStats<C>>(
 {
     match operand {
         Operand::Column(column) => batch.beginnings(column),
-        Operand::Literal(_) | Operand::Date(_) => None,
+        Operand::Literal(_) => None,
     }
 }
 
@@ -149,7 +147,7 @@ fn standing_to<C>(known: &Beginnings<'_>, literal: &Operand<C>) -> Option<TextSt
 {
     match literal {
         Operand::Literal(value) => TextStanding::of(known, value.borrowed()),
-        Operand::Column(_) | Operand::Date(_) => None,
+        Operand::Column(_) => None,
     }
 }
 
@@ -188,7 +186,7 @@ fn literal_compared<C, M: ColumnStats<C>>(
 {
     match left {
         Operand::Literal(_) => begun_compared(comparison, left, right, batch),
-        Operand::Column(_) | Operand::Date(_) => None,
+        Operand::Column(_) => None,
     }
 }
 

@@ -1,7 +1,6 @@
 //! What some values are between, and how many of them are null.
 
 ghost use Rattle.std.specs.Prelude.{◌≡◌, [], ◌∷◌, Some};
-ghost use Rattle.scan_base.specs.declared.value.Value.TheVariants.{Int};
 ghost use Rattle.scan_base.specs.Value.{value_of};
 ghost use Rattle.batch_stats.specs.Sides.{side_at};
 ghost use Rattle.batch_stats.specs.Stats.{stats_of};
@@ -52,20 +51,6 @@ impl<'a> Side<'a> {
                 }),
                 nulls: 0,
             },
-        }
-    }
-
-    /// One number.
-    pub fn of_number(number: i128) -> Side<'a>
-        ensures { side_at result ≡ stats_of (Int number ∷ []) }
-    {
-        let value = ValueRef::Int(number);
-        Side {
-            ends: Some(Ends {
-                least: value,
-                greatest: value,
-            }),
-            nulls: 0,
         }
     }
 }

@@ -2,7 +2,7 @@
 use Rattle.std.proofs.Common.{◌≡◌, ◌&&◌, ℕ, ◌+◌, Bool, List, [], ◌∷◌, ◌++◌, Option, refl, ap, ◌∙◌, append_assoc}
 use Rattle.arrow_types.specs.declared.schema.Schema.{Schema}
 use Rattle.arrow_types.specs.declared.data_type.DataType.{DataType}
-use Rattle.arrow_types.specs.declared.data_type.DataType.TheVariants.{Integer, Utf8, Bool as Flags, Decimal128, Date, Dictionary}
+use Rattle.arrow_types.specs.declared.data_type.DataType.TheVariants.{Dictionary}
 use Rattle.arrow_types.specs.declared.schema.Field.{Field}
 use Rattle.arrow_types.specs.Answer.{answered_at}
 use Rattle.ipc_batch.specs.SaidRows.{Rows}
@@ -50,17 +50,8 @@ breaks_before format schema all rows others a b failed failed' splits (bytes, is
 -- ---- the columns that are written
 
 same_answered : (number : ℕ) (t other : DataType) → same_type (answered_at number t) other ≡ same_type t other
-same_answered number (Integer integer) other = refl
-same_answered number Utf8 other = refl
-same_answered number Flags other = refl
-same_answered number Decimal128 other = refl
-same_answered number Date other = refl
-same_answered number (Dictionary encoding) (Integer integer) = refl
-same_answered number (Dictionary encoding) Utf8 = refl
-same_answered number (Dictionary encoding) Flags = refl
-same_answered number (Dictionary encoding) Decimal128 = refl
-same_answered number (Dictionary encoding) Date = refl
 same_answered number (Dictionary encoding) (Dictionary other) = refl
+same_answered number _ _ = refl
 
 -- with other ids of their dictionaries they are the same columns
 same_numbered : (number : ℕ) (fields others : List Field) → same_fields (numbered_from number fields) others ≡ same_fields fields others

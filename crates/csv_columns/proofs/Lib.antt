@@ -10,6 +10,5 @@ pub mod Left
 mod Taken
 pub mod Placed
 mod Ranges
-mod Signs
 pub mod Tried
 pub mod Each

@@ -8,7 +8,8 @@ use Rattle.std.proofs.lemmas.List.Sums.{AllPass-from_list_all}
 use Rattle.arrow_types.specs.declared.schema.Field.{Field}
 use Rattle.csv_columns.specs.SpelledColumns.{mark_of, spelled, word_of}
 use Rattle.csv_columns.specs.inside.Marks.{IsUnmarked}
-use Rattle.csv_columns.proofs.Words.{is_inner, no_colon, no_mark, word_inner}
+use Rattle.number_words.proofs.TypeWords.{is_plain}
+use Rattle.csv_columns.proofs.Words.{no_colon, no_mark, word_plain}
 
 -- what stands before the mark of a column
 abbrev body : Field → List ℕ
@@ -22,10 +23,10 @@ long column = length-append column.name (58 ∷ word_of column.data_type)
 
 -- ---- the mark
 
-last_inner : (word : List ℕ) → list_all is_inner word ≡ true → get_or (58 ∷ word) (length word) 0 ≢ 63
-last_inner [] inner e = absurd (omega (arith, e))
-last_inner (byte ∷ word) inner e =
-    no_mark (get_or (byte ∷ word) (length word) 0) (AllPass-from_list_all is_inner (byte ∷ word) inner (length word) 0 (omega arith)) e
+last_plain : (word : List ℕ) → list_all is_plain word ≡ true → get_or (58 ∷ word) (length word) 0 ≢ 63
+last_plain [] plain e = absurd (omega (arith, e))
+last_plain (byte ∷ word) plain e =
+    no_mark (get_or (byte ∷ word) (length word) 0) (AllPass-from_list_all is_plain (byte ∷ word) plain (length word) 0 (omega arith)) e
 
 -- that part ends with no mark
 ends_plain : (column : Field) (front : List ℕ) → body column ≢ front ++ mark_of true
@@ -33,7 +34,7 @@ ends_plain column front e =
     let word = word_of column.data_type in
     let place : length column.name + length word ≡ length front = omega (arith, long column, ap length e, length-append front (mark_of true)) in
     let last : get_or (body column) (length front) 0 ≡ 63 = ap (λ (xs : List ℕ). get_or xs (length front) 0) e ∙ get_or-append_seam front 63 [] 0 in
-    last_inner word (word_inner column.data_type)
+    last_plain word (word_plain column.data_type)
     (sym (get_or-append-add column.name (58 ∷ word) (length word) 0) ∙ ap (λ (n : ℕ). get_or (body column) n 0) place ∙ last)
 
 front_is : (nullable marked : Truth) (front own text : List ℕ) → text ≡ front ++ mark_of nullable → IsUnmarked nullable text → own ++ mark_of marked ≡ text
@@ -60,7 +61,7 @@ has_colon front column is none =
 none_in_word : (column : Field) (j : ℕ) → j < length (word_of column.data_type) → get_or (body column) (length column.name + suc j) 0 ≢ 58
 none_in_word column j low e =
     let word = word_of column.data_type in
-    no_colon (get_or word j 0) (AllPass-from_list_all is_inner word (word_inner column.data_type) j 0 low)
+    no_colon (get_or word j 0) (AllPass-from_list_all is_plain word (word_plain column.data_type) j 0 low)
     (sym (get_or-append-add column.name (58 ∷ word) (suc j) 0) ∙ e)
 
 place_is : (column : Field) (at : ℕ) → at < length (body column) → get_or (body column) at 0 ≡ 58 → ((k : ℕ) → at < k → k < length (body column) → get_or (body column) k 0 ≢ 58)

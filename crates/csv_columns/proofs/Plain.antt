@@ -15,11 +15,9 @@ ArePlain fields = All (λ (field : Field). encoding_of field.data_type ≡ None)
 
 -- a type without a dictionary shares none
 shares_none : (one other : DataType) → encoding_of one ≡ None → shares_dictionary one other ≡ false
-shares_none (type.Integer integer) other plain = refl
+shares_none (type.Number kind) other plain = refl
 shares_none type.Utf8 other plain = refl
 shares_none type.Bool other plain = refl
-shares_none type.Decimal128 other plain = refl
-shares_none type.Date other plain = refl
 shares_none (type.Dictionary encoding) other plain = absurd (none-some encoding (sym plain))
 
 -- so a column shares none with any

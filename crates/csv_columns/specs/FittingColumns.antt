@@ -7,13 +7,13 @@ use Rattle.std.specs.List.{list_all, list_any}
 use Rattle.std.specs.Option.{is_some}
 use Rattle.scan_base.specs.declared.fault.Fault.{Fault}
 use Rattle.scan_base.specs.declared.fault.Fault.TheVariants.{BadBatch, LimitReached, OutOfMemory}
-use Rattle.arrow_types.specs.declared.data_type.IntegerType.TheVariants.{Int64}
 use Rattle.arrow_types.specs.declared.data_type.DataType.{DataType}
-use Rattle.arrow_types.specs.declared.data_type.DataType.TheVariants.{Integer, Utf8, Bool}
-use Rattle.arrow_types.specs.declared.data_type.DataType.TheVariants.{Decimal128, Date}
+use Rattle.arrow_types.specs.declared.data_type.DataType.TheVariants.{Number, Utf8, Bool}
+use Rattle.arrow_types.specs.declared.data_type.NumberType.{NumberType}
 use Rattle.arrow_types.specs.declared.schema.Field.{Field}
 use Rattle.arrow_types.specs.declared.schema.Schema.{Schema}
 use Rattle.arrow_types.specs.Schema.{IsName}
+use Rattle.number_words.specs.NumberTexts.{types_tried}
 use Rattle.csv_columns.specs.Refusals.{FailsFirst, IsTooWide, WhyNoName}
 use Rattle.csv_columns.specs.FieldValues.{value_in}
 
@@ -28,14 +28,15 @@ takes data_type field = is_empty field || is_some (value_in data_type field)
 abbrev pub takes_all : DataType → List (List ℕ) → Truth
 takes_all data_type fields = list_all (takes data_type) fields
 
--- the first type that takes all fields, and texts where none of the others does
+-- the first of these types of numbers that takes all fields, and texts where none does
+abbrev pub number_found : List NumberType → List (List ℕ) → DataType
+number_found [] fields = Utf8
+number_found (kind ∷ kinds) fields =
+    if takes_all (Number kind) fields then Number kind else number_found kinds fields
+
+-- the first type that takes all fields
 abbrev pub type_found : List (List ℕ) → DataType
-type_found fields =
-    if takes_all Bool fields then Bool else
-    if takes_all (Integer Int64) fields then Integer Int64 else
-    if takes_all Decimal128 fields then Decimal128 else
-    if takes_all Date fields then Date else
-    Utf8
+type_found fields = if takes_all Bool fields then Bool else number_found types_tried fields
 
 -- the fields of a column
 abbrev pub column_of : ℕ → List (List (List ℕ)) → List (List ℕ)

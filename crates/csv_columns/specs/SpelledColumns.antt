@@ -2,28 +2,16 @@
 use Rattle.std.specs.Prelude.{◌≡◌, ◌<◌, ℕ, Bool as Truth, true, false, List, [], ◌∷◌, ◌++◌, length}
 use Rattle.std.specs.Prelude.{map, get_or, codes}
 use Rattle.csv.specs.Records.{trimmed}
-use Rattle.arrow_types.specs.declared.data_type.IntegerType.TheVariants.{Int8, Int16, Int32, Int64}
-use Rattle.arrow_types.specs.declared.data_type.IntegerType.TheVariants.{UInt8, UInt16, UInt32}
-use Rattle.arrow_types.specs.declared.data_type.IntegerType.TheVariants.{UInt64}
 use Rattle.arrow_types.specs.declared.data_type.DataType.{DataType}
-use Rattle.arrow_types.specs.declared.data_type.DataType.TheVariants.{Integer, Bool, Decimal128}
-use Rattle.arrow_types.specs.declared.data_type.DataType.TheVariants.{Date}
+use Rattle.arrow_types.specs.declared.data_type.DataType.TheVariants.{Number, Bool}
 use Rattle.arrow_types.specs.declared.schema.Field.{Field}
 use Rattle.arrow_types.specs.declared.schema.Schema.{Schema}
+use Rattle.number_words.specs.NumberTexts.{word}
 
 -- the word for a type
 abbrev pub word_of : DataType → List ℕ
-word_of (Integer Int8) = codes "int8"
-word_of (Integer Int16) = codes "int16"
-word_of (Integer Int32) = codes "int32"
-word_of (Integer Int64) = codes "int64"
-word_of (Integer UInt8) = codes "uint8"
-word_of (Integer UInt16) = codes "uint16"
-word_of (Integer UInt32) = codes "uint32"
-word_of (Integer UInt64) = codes "uint64"
+word_of (Number kind) = word kind
 word_of Bool = codes "bool"
-word_of Decimal128 = codes "decimal"
-word_of Date = codes "date"
 word_of _ = codes "utf8"
 
 -- a question mark where nulls may stand

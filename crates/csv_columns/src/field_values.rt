@@ -8,9 +8,8 @@ ghost use Rattle.arrow_types.specs.declared.data_type.DataType.TheVariants as ty
 ghost use Rattle.arrays.specs.TypedLayouts.{IsValueOf};
 ghost use Rattle.csv_columns.specs.FieldValues.{said_as, value_in};
 
-use crate::number::{kept_in, number_in};
-use arrow_types::{DataType, IntegerType};
-use calendar::day_in;
+use arrow_types::{DataType, NumberType};
+use number_words::read;
 use scan_base::{Fault, ValueRef, read_text};
 
 /// The value that a field says in a column of a type, if it says one. It takes no memory.
@@ -30,10 +29,8 @@ fn said_as<'a>(data_type: DataType, text: &'a str) -> Option<ValueRef<'a>>
     ensures typed { IfSome result (λ value. IsValueOf data_type (value_of value)) }
 {
     match data_type {
-        DataType::Integer(integer) => integer_said(integer, text),
-        DataType::Decimal128 => decimal_said(text),
+        DataType::Number(kind) => number_said(kind, text),
         DataType::Bool => flag_said(text),
-        DataType::Date => day_said(text),
         DataType::Utf8 => text_said(text),
         DataType::Dictionary(_) => text_said(text),
     }
@@ -49,21 +46,11 @@ fn text_said<'a>(text: &'a str) -> Option<ValueRef<'a>>
     Some(ValueRef::Text(text))
 }
 
-fn integer_said<'a>(integer: IntegerType, text: &str) -> Option<ValueRef<'a>>
-    ensures value { option_map value_of result ≡ said_as (type.Integer integer) text.now }
-    ensures typed { IfSome result (λ value. IsValueOf (type.Integer integer) (value_of value)) }
+fn number_said<'a>(kind: NumberType, text: &str) -> Option<ValueRef<'a>>
+    ensures value { option_map value_of result ≡ said_as (type.Number kind) text.now }
+    ensures typed { IfSome result (λ value. IsValueOf (type.Number kind) (value_of value)) }
 {
-    match kept_in(integer, number_in(text)) {
-        Some(number) => Some(ValueRef::Int(number)),
-        None => None,
-    }
-}
-
-fn decimal_said<'a>(text: &str) -> Option<ValueRef<'a>>
-    ensures value { option_map value_of result ≡ said_as type.Decimal128 text.now }
-    ensures typed { IfSome result (λ value. IsValueOf type.Decimal128 (value_of value)) }
-{
-    match number_in(text) {
+    match read(kind, text) {
         Some(number) => Some(ValueRef::Int(number)),
         None => None,
     }
@@ -79,15 +66,5 @@ fn flag_said<'a>(text: &str) -> Option<ValueRef<'a>>
         Some(ValueRef::Bool(false))
     } else {
         None
-    }
-}
-
-fn day_said<'a>(text: &str) -> Option<ValueRef<'a>>
-    ensures value { option_map value_of result ≡ said_as type.Date text.now }
-    ensures typed { IfSome result (λ value. IsValueOf type.Date (value_of value)) }
-{
-    match day_in(text) {
-        Some(day) => Some(ValueRef::Int(i128::from(day))),
-        None => None,
     }
 }

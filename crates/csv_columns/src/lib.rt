@@ -11,7 +11,6 @@ mod columns;
 mod field;
 mod field_values;
 mod name;
-mod number;
 mod reading;
 mod records;
 mod type_candidates;

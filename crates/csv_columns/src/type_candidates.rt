@@ -1,21 +1,27 @@
 //! Which types take the fields of a column.
 
-ghost use Rattle.std.specs.Prelude.{◌≡◌, ◌&&◌, ◌∷◌, [], ◌++◌, ℕ, List, None};
+ghost use Rattle.std.specs.Prelude.{◌≡◌, ◌<◌, ◌&&◌, ◌∷◌, [], ◌++◌, ℕ, List, None, MatchOption};
+ghost use Rattle.std.specs.Prelude.{false, get_or, length, map, true};
 ghost use Rattle.arrow_types.specs.Schema.{IsType};
 ghost use Rattle.arrow_types.specs.DataType.{encoding_of};
-ghost use Rattle.csv_columns.specs.FittingColumns.{is_empty, takes, type_found};
+ghost use Rattle.arrow_types.specs.declared.data_type.DataType.TheVariants.{Number};
+ghost use Rattle.number_words.specs.NumberTexts.{types_tried};
+ghost use Rattle.csv_columns.specs.FittingColumns.{is_empty, takes, takes_all, type_found};
 ghost use Rattle.std.specs.List.{list_any};
 
 use crate::value_in;
-use arrow_types::{DataType, IntegerType};
+use arrow_types::DataType;
+use number_words::TYPES_TRIED;
 
-/// Which types take all fields of a column so far, and whether one of these is empty.
+// How many types of numbers are tried.
+const KINDS: usize = TYPES_TRIED.len();
+
+/// Which types take all fields of a column so far, and whether one of these is empty. The types of
+/// numbers stand in the order in which they are tried.
 #[derive(Clone, Copy)]
 pub(crate) struct TypeCandidates {
     flag: bool,
-    integer: bool,
-    decimal: bool,
-    day: bool,
+    numbers: [bool; KINDS],
     empty: bool,
 }
 
@@ -27,6 +33,16 @@ fn still_takes(so_far: bool, data_type: DataType, field: &[u8]) -> bool
     so_far && (field.is_empty() || value_in(data_type, field).is_some())
 }
 
+// The place of the first that is true.
+fn first_true(flags: &[bool]) -> Option<usize>
+    ensures { MatchOption result
+        ((k : ℕ) → k < length flags.now → get_or flags.now k false ≡ false)
+        (λ at. (at < length flags.now) × (get_or flags.now at false ≡ true)
+        × ((k : ℕ) → k < at → get_or flags.now k false ≡ false)) }
+{
+    flags.iter().position(|flag| *flag)
+}
+
 impl TypeCandidates {
     ghost use Rattle.csv_columns.specs.inside.Tests.{HasSeen};
 
@@ -36,9 +52,7 @@ impl TypeCandidates {
     {
         TypeCandidates {
             flag: true,
-            integer: true,
-            decimal: true,
-            day: true,
+            numbers: [true; KINDS],
             empty: false,
         }
     }
@@ -50,11 +64,25 @@ impl TypeCandidates {
     {
         TypeCandidates {
             flag: still_takes(self.flag, DataType::Bool, field),
-            integer: still_takes(self.integer, DataType::Integer(IntegerType::Int64), field),
-            decimal: still_takes(self.decimal, DataType::Decimal128, field),
-            day: still_takes(self.day, DataType::Date, field),
+            numbers: self.numbers_with(field),
             empty: self.empty || field.is_empty(),
         }
+    }
+
+    // The types of numbers that take one more field, too.
+    fn numbers_with(self, field: &[u8]) -> [bool; KINDS]
+        ensures { (fields : List (List ℕ)) →
+            self.numbers ≡ map (λ kind. takes_all (Number kind) fields) types_tried →
+            result ≡ map (λ kind. takes_all (Number kind) (fields ++ field.now ∷ [])) types_tried }
+    {
+        let mut numbers = self.numbers;
+        for place in 0..KINDS {
+            let data_type = DataType::Number(TYPES_TRIED[place]);
+            let before = numbers[place];
+            let fits = still_takes(before, data_type, field);
+            numbers[place] = fits;
+        }
+        numbers
     }
 
     /// The first type that takes all fields, and texts where none of the others does.
@@ -65,15 +93,11 @@ impl TypeCandidates {
         ensures typed { IsType result }
     {
         if self.flag {
-            DataType::Bool
-        } else if self.integer {
-            DataType::Integer(IntegerType::Int64)
-        } else if self.decimal {
-            DataType::Decimal128
-        } else if self.day {
-            DataType::Date
-        } else {
-            DataType::Utf8
+            return DataType::Bool;
+        }
+        match first_true(&self.numbers) {
+            Some(place) => DataType::Number(TYPES_TRIED[place]),
+            None => DataType::Utf8,
         }
     }
 

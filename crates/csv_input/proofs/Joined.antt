@@ -27,11 +27,9 @@ abbrev pub ArePlain : List Field → Type 0
 ArePlain fields = All (λ (field : Field). encoding_of field.data_type ≡ None) fields
 
 led_one : (data_type : DataType) (values : List Value) (layout : Layout) (column : ColumnAt) → encoding_of data_type ≡ None → IsLedBy data_type values layout column
-led_one (type.Integer integer) values layout column plain = tt
+led_one (type.Number kind) values layout column plain = tt
 led_one type.Utf8 values layout column plain = tt
 led_one type.Bool values layout column plain = tt
-led_one type.Decimal128 values layout column plain = tt
-led_one type.Date values layout column plain = tt
 led_one (type.Dictionary encoding) values layout column plain = absurd (none-some encoding (sym plain))
 
 led : (fields : List Field) (dictionaries : Dictionaries) (columns : List ColumnAt) → ArePlain fields → AreOfTypes fields columns → AreLedBy fields dictionaries columns

@@ -8,6 +8,3 @@ mod Faulty
 mod Columnar
 mod Lengthy
 pub mod Taken
-mod Elements
-mod Alike
-mod Dates

@@ -2,4 +2,3 @@
 pub mod Chunks
 pub mod Cells
 pub mod Batches
-pub mod ValueLists

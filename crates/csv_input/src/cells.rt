@@ -8,8 +8,7 @@ ghost use Rattle.arrays.specs.WrittenSlots.{text_bytes, texts_joined};
 ghost use Rattle.csv_input.specs.inside.Cells.{AreCells, HasWrongCell, IsColumnIn, WhyNoColumn};
 
 use crate::chunk::Chunk;
-use crate::column_of_values;
-use array_select::MOST_OFFSET;
+use array_select::{MOST_OFFSET, column_of_values};
 use arrays::Column;
 use arrow_types::Field;
 use csv_columns::cell_in;

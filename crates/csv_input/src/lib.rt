@@ -7,20 +7,16 @@
 mod batch;
 mod cells;
 mod chunk;
-mod columns;
 mod input;
 mod message;
 mod outcome;
-mod packed_columns;
 mod reading;
 mod record_chunks;
 mod table;
 mod text;
-mod value_lists;
 mod wrong_lines;
 mod wrong_records;
 
-pub use crate::columns::column_of_values;
 pub use crate::input::read_csv;
 pub use crate::message::schema_message;
 pub use crate::outcome::{RecordFault, WrongRecord};

@@ -6,7 +6,8 @@ ghost use Rattle.csv_input.specs.inside.Batches.{HasTaken};
 
 use crate::chunk::Chunk;
 use array_select::MOST_BATCH_ROWS;
-use arrow_types::{DataType, Field, IntegerType};
+use arrays::cell_width;
+use arrow_types::{DataType, Field};
 use csv::ByteRecord;
 use csv_columns::Records;
 use std::alloc::{AllocError, Global};
@@ -19,18 +20,10 @@ fn fixed_bytes(column: &Field) -> usize
     ensures { result ≤ 17 }
 {
     match column.data_type {
-        DataType::Integer(integer) => 1 + integer_bytes(integer),
-        DataType::Decimal128 => 17,
+        DataType::Number(kind) => 1 + cell_width(kind.cell()),
         DataType::Bool => 1,
-        DataType::Date | DataType::Utf8 | DataType::Dictionary(_) => 5,
+        DataType::Utf8 | DataType::Dictionary(_) => 5,
     }
-}
-
-// How many bytes an integer has.
-fn integer_bytes(integer: IntegerType) -> usize
-    ensures { result ≤ 8 }
-{
-    integer.bit_width() as usize / 8
 }
 
 // Whether a batch has as many records, or as many bytes, as it may have.

@@ -5,7 +5,7 @@ use Rattle.std.proofs.lemmas.List.FromFn.{length-map-range_with_len, get_or-map-
 use Rattle.scan_base.specs.declared.value.Value.{Value}
 use Rattle.scan_base.specs.declared.value.Value.TheVariants.{Null}
 use Rattle.arrow_types.specs.declared.data_type.DataType.{DataType}
-use Rattle.arrow_types.specs.declared.data_type.DataType.TheVariants.{Integer, Utf8, Bool, Decimal128, Date, Dictionary}
+use Rattle.arrow_types.specs.declared.data_type.DataType.TheVariants.{Number, Utf8, Bool, Dictionary}
 use Rattle.arrow_types.specs.declared.schema.Field.{Field}
 use Rattle.arrays.specs.Column.{ColumnAt, slot_of, values_of}
 use Rattle.arrays.specs.Batch.{AreLong, row_of, rows_of}
@@ -75,11 +75,9 @@ long_as made column same =
 -- an answered column has the values of the column
 pub answered_values : (data_type : DataType) (column made : ColumnAt) → IsAnswered data_type column made → values_of made ≡ values_of column
 answered_values (Dictionary encoding) column made is = is.0
-answered_values (Integer integer) column made is = ap values_of is
+answered_values (Number kind) column made is = ap values_of is
 answered_values Utf8 column made is = ap values_of is
 answered_values Bool column made is = ap values_of is
-answered_values Decimal128 column made is = ap values_of is
-answered_values Date column made is = ap values_of is
 
 pub answered_long : (fields : List Field) (columns made : List ColumnAt) (rows : ℕ) → AreAnswered fields columns made → AreLong rows columns → AreLong rows made
 answered_long [] [] [] rows are long = long

@@ -10,7 +10,7 @@ use Rattle.scan_base.specs.Limits.{most_values}
 use Rattle.arrow_types.specs.declared.data_type.IntegerType.TheVariants.{Int32}
 use Rattle.arrow_types.specs.declared.data_type.DictionaryEncoding.{DictionaryEncoding}
 use Rattle.arrow_types.specs.declared.data_type.DataType.{DataType}
-use Rattle.arrow_types.specs.declared.data_type.DataType.TheVariants.{Integer, Utf8, Bool as Flags, Decimal128, Date, Dictionary}
+use Rattle.arrow_types.specs.declared.data_type.DataType.TheVariants.{Number, Utf8, Bool as Flags, Dictionary}
 use Rattle.arrow_types.specs.declared.schema.Field.{Field}
 use Rattle.arrow_types.specs.declared.schema.Schema.{Schema}
 use Rattle.arrays.specs.declared.layout.Layout.{Layout}
@@ -70,11 +70,9 @@ dressable_coded typed (field ∷ fields) (column ∷ columns) stand are =
     (by field.data_type are.0, dressable_coded typed fields columns (λ k d low. stand (suc k) d (omega (arith, low))) are.1)
   where
     by : (t : DataType) → IsDressable t column → IsCodable t column
-    by (Integer integer) is = tt
+    by (Number kind) is = tt
     by Utf8 is = tt
     by Flags is = tt
-    by Decimal128 is = tt
-    by Date is = tt
     by (Dictionary encoding) is = texts_held typed column (stand 0 column (omega arith)) is
 dressable_coded typed [] (column ∷ columns) stand are = absurd are
 dressable_coded typed (field ∷ fields) [] stand are = absurd are
@@ -91,11 +89,9 @@ answered_typed (field ∷ fields) (column ∷ columns) (m ∷ made) are answered
     same t is e = subst (λ (c : ColumnAt). IsOfType t c.layout) (sym e) is
 
     by : (t : DataType) → IsDressable t column → IsAnswered t column m → IsOfType t m.layout
-    by (Integer integer) is e = same (Integer integer) is e
+    by (Number kind) is e = same (Number kind) is e
     by Utf8 is e = same Utf8 is e
     by Flags is e = same Flags is e
-    by Decimal128 is e = same Decimal128 is e
-    by Date is e = same Date is e
     by (Dictionary encoding) is e = subst (IsOfType (Dictionary encoding)) (sym e.1.layout) tt
 answered_typed [] [] (m ∷ made) are answered = absurd answered
 answered_typed [] (column ∷ columns) made are answered = absurd are
@@ -164,11 +160,9 @@ answered_led number (field ∷ fields) (column ∷ columns) (m ∷ made) rows di
   where
     by : (t : DataType) → IsAnswered t column m → IsNumbered number t → HasTexts (if is_coded t then number ∷ coded_from (number + 1) fields else coded_from (number + 1) fields) rows dictionaries →
         IsLedBy t (values_led_to t dictionaries) m.layout m × HasTexts (coded_from (number + 1) fields) rows dictionaries
-    by (Integer integer) is own has = (tt, has)
+    by (Number kind) is own has = (tt, has)
     by Utf8 is own has = (tt, has)
     by Flags is own has = (tt, has)
-    by Decimal128 is own has = (tt, has)
-    by Date is own has = (tt, has)
     by (Dictionary encoding) is own has =
         let over = is.1 in
         let led : values_under dictionaries encoding.id ≡ over.cells.dictionary =
@@ -212,11 +206,9 @@ dictionaries_whole schema number (field ∷ fields) (column ∷ columns) seen se
         (map (λ values. (number, values)) (column_dictionary t column) ++ dictionaries_of (number + 1) fields columns) sents →
         AllZip (λ number sent. SaysWhole schema number (firsts (cells_in number rows)) sent)
         (if is_coded t then number ∷ coded_from (number + 1) fields else coded_from (number + 1) fields) sents
-    by rest (Integer integer) e says = rest sents says
+    by rest (Number kind) e says = rest sents says
     by rest Utf8 e says = rest sents says
     by rest Flags e says = rest sents says
-    by rest Decimal128 e says = rest sents says
-    by rest Date e says = rest sents says
     by rest (Dictionary encoding) e says = of sents says
       where
         own : IsNumbered number (Dictionary encoding)

@@ -7,7 +7,7 @@ use Rattle.scan_base.specs.declared.value.Value.{Value}
 use Rattle.scan_base.specs.declared.value.Value.TheVariants.{Text}
 use Rattle.scan_base.specs.Value.{is_null}
 use Rattle.arrow_types.specs.declared.data_type.DataType.{DataType}
-use Rattle.arrow_types.specs.declared.data_type.DataType.TheVariants.{Integer, Utf8, Bool as Flags, Decimal128, Date, Dictionary}
+use Rattle.arrow_types.specs.declared.data_type.DataType.TheVariants.{Number, Utf8, Bool as Flags, Dictionary}
 use Rattle.arrow_types.specs.declared.schema.Field.{Field}
 use Rattle.arrays.specs.declared.layout.Layout.{Layout}
 use Rattle.arrays.specs.declared.layout.Layout.TheVariants as layout
@@ -158,11 +158,9 @@ written_short number (field ∷ fields) (column ∷ columns) (m ∷ made) dictio
     by : ((some : List ColumnDictionary) → map dictionary_seen some ≡ dictionaries_of (number + 1) fields columns →
         all_written some + length (body_of (batch_buffers_written made)) ≤ dressed_length fields columns) → (t : DataType) → IsAnswered t column m → map dictionary_seen dictionaries ≡ map (λ values. (number, values)) (column_dictionary t column) ++ dictionaries_of (number + 1) fields columns →
         all_written dictionaries + length (body_of (batch_buffers_written (m ∷ made))) ≤ column_length t column + dressed_length fields columns
-    by rest (Integer integer) e are = same rest (Integer integer) refl e are
+    by rest (Number kind) e are = same rest (Number kind) refl e are
     by rest Utf8 e are = same rest Utf8 refl e are
     by rest Flags e are = same rest Flags refl e are
-    by rest Decimal128 e are = same rest Decimal128 refl e are
-    by rest Date e are = same rest Date refl e are
     by rest (Dictionary encoding) over are = of rest dictionaries over are
 written_short number [] [] (m ∷ made) dictionaries answered is = absurd answered
 written_short number [] (column ∷ columns) made dictionaries answered is = absurd answered
@@ -176,9 +174,7 @@ coded_short (field ∷ fields) [] = omega arith
 coded_short (field ∷ fields) (column ∷ columns) = omega (arith, one field.data_type, coded_short fields columns)
   where
     one : (t : DataType) → column_bytes t column ≤ column_length t column
-    one (Integer integer) = omega arith
+    one (Number kind) = omega arith
     one Utf8 = omega arith
     one Flags = omega arith
-    one Decimal128 = omega arith
-    one Date = omega arith
     one (Dictionary encoding) = omega arith

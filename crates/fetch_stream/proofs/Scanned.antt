@@ -6,7 +6,7 @@ use Rattle.std.proofs.lemmas.List.Folds.{list_any-append}
 use Rattle.scan_base.specs.declared.fault.Fault.{Fault}
 use Rattle.arrow_types.specs.declared.data_type.DictionaryEncoding.{DictionaryEncoding}
 use Rattle.arrow_types.specs.declared.data_type.DataType.{DataType}
-use Rattle.arrow_types.specs.declared.data_type.DataType.TheVariants.{Integer, Utf8, Bool as Flag, Decimal128, Date, Dictionary}
+use Rattle.arrow_types.specs.declared.data_type.DataType.TheVariants.{Utf8, Dictionary}
 use Rattle.arrow_types.specs.declared.schema.Field.{Field}
 use Rattle.arrow_types.specs.declared.schema.Schema.{Schema}
 use Rattle.arrow_types.specs.Answer.{answered_at, answered_from, LieBehind, LiesAs}
@@ -32,26 +32,16 @@ use Rattle.fetch_stream.specs.inside.GivenBatches.{GoesOn, GivesNext, GivesNoneY
 
 texts_as : (known : Layout) → IsOfType Utf8 known → IsTextLayout known
 texts_as (layout.Texts cells) is = tt
-texts_as (layout.Indices cells) is = absurd is
-texts_as (layout.Integers cells) is = absurd is
-texts_as (layout.Decimals cells) is = absurd is
-texts_as (layout.Bools cells) is = absurd is
+texts_as _ is = absurd is
 
 texts_by : (encoding : DictionaryEncoding) (known : Layout) → IsOfType (Dictionary encoding) known → IsTextLayout known
 texts_by encoding (layout.Indices cells) is = tt
-texts_by encoding (layout.Texts cells) is = absurd is
-texts_by encoding (layout.Integers cells) is = absurd is
-texts_by encoding (layout.Decimals cells) is = absurd is
-texts_by encoding (layout.Bools cells) is = absurd is
+texts_by encoding _ is = absurd is
 
 -- a column of a type can be answered as one
 of_type : (t : DataType) (column : ColumnAt) → IsOfType t column.layout → IsDressable t column
-of_type (Integer integer) column is = is
-of_type Utf8 column is = is
-of_type Flag column is = is
-of_type Decimal128 column is = is
-of_type Date column is = is
 of_type (Dictionary encoding) column is = texts_by encoding column.layout is
+of_type other column is = is
 
 pub typed_dressable : (fields : List Field) (columns : List ColumnAt) → AreOfTypes fields columns → AreDressable fields columns
 typed_dressable [] [] typed = tt
@@ -67,29 +57,17 @@ one_dressable number t lies own column is behind typed = subst (λ (o : DataType
     same u e = subst (λ (o : DataType). IsOfType o column.layout) e typed
 
     by : (t : DataType) → LiesAs t lies → IsDressable (answered_at number t) column
-    by (Integer integer) (inl e) = same (Integer integer) e
-    by (Integer integer) (inr e) = same (Integer integer) e
-    by Utf8 (inl e) = same Utf8 e
-    by Utf8 (inr e) = same Utf8 e
-    by Flag (inl e) = same Flag e
-    by Flag (inr e) = same Flag e
-    by Decimal128 (inl e) = same Decimal128 e
-    by Decimal128 (inr e) = same Decimal128 e
-    by Date (inl e) = same Date e
-    by Date (inr e) = same Date e
     by (Dictionary encoding) (inl e) = texts_by encoding column.layout (same (Dictionary encoding) e)
     by (Dictionary encoding) (inr e) = texts_as column.layout (same Utf8 e)
+    by other (inl e) = same other e
+    by other (inr e) = same other e
 
 one_numbered : (number : ℕ) (t own : DataType) → own ≡ answered_at number t → IsNumbered number own
 one_numbered number t own is = subst (IsNumbered number) (sym is) (by t)
   where
     by : (t : DataType) → IsNumbered number (answered_at number t)
-    by (Integer integer) = tt
-    by Utf8 = tt
-    by Flag = tt
-    by Decimal128 = tt
-    by Date = tt
     by (Dictionary encoding) = (refl, refl)
+    by other = tt
 
 abbrev first : List DataType → DataType
 first [] = Utf8

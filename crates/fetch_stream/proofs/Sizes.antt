@@ -7,7 +7,7 @@ use Rattle.std.proofs.lemmas.List.FromFn.{length-map-range_with_len}
 use Rattle.scan_base.specs.declared.value.Value.{Value}
 use Rattle.scan_base.specs.declared.value.Value.TheVariants as value
 use Rattle.arrow_types.specs.declared.data_type.DataType.{DataType}
-use Rattle.arrow_types.specs.declared.data_type.DataType.TheVariants.{Integer, Utf8, Bool as Flags, Decimal128, Date, Dictionary}
+use Rattle.arrow_types.specs.declared.data_type.DataType.TheVariants.{Dictionary}
 use Rattle.arrow_types.specs.declared.data_type.IntegerType.{IntegerType}
 use Rattle.arrow_types.specs.declared.data_type.IntegerType.TheVariants.{Int8, Int16, Int32, Int64, UInt8, UInt16, UInt32, UInt64}
 use Rattle.arrow_types.specs.declared.schema.Field.{Field}
@@ -143,12 +143,8 @@ coded_slot known first len one h =
     rw one (omega (arith, texts, short_validity column refl))
 
 one_column : (t : DataType) (column : ColumnAt) → column.len ≡ 1 → is_long_text (slot_of column 0) ≡ false → column_length t column ≤ most_cell_bytes
-one_column (Integer integer) column one h = one_slot column.layout column.first column.len one h
-one_column Utf8 column one h = one_slot column.layout column.first column.len one h
-one_column Flags column one h = one_slot column.layout column.first column.len one h
-one_column Decimal128 column one h = one_slot column.layout column.first column.len one h
-one_column Date column one h = one_slot column.layout column.first column.len one h
 one_column (Dictionary encoding) column one h = coded_slot column.layout column.first column.len one h
+one_column other column one h = one_slot column.layout column.first column.len one h
 
 -- ---- a batch of one row
 

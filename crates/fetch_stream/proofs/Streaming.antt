@@ -9,7 +9,7 @@ use Rattle.scan_base.specs.Limits.{most_columns}
 use Rattle.scan_base.specs.Reading.{◌>>=◌}
 use Rattle.scan_base.specs.Lists.{each}
 use Rattle.arrow_types.specs.declared.data_type.DataType.{DataType}
-use Rattle.arrow_types.specs.declared.data_type.DataType.TheVariants.{Integer, Utf8, Bool as Flags, Decimal128, Date, Dictionary}
+use Rattle.arrow_types.specs.declared.data_type.DataType.TheVariants.{Dictionary}
 use Rattle.arrow_types.specs.declared.schema.Field.{Field}
 use Rattle.arrow_types.specs.declared.schema.Schema.{Schema}
 use Rattle.arrow_types.specs.Schema.{IsSchema}
@@ -253,12 +253,8 @@ cut_dressable [] [] from to are = tt
 cut_dressable (field ∷ fields) (column ∷ columns) from to are = (by field.data_type are.0, cut_dressable fields columns from to are.1)
   where
     by : (t : DataType) → IsDressable t column → IsDressable t (cut column from to)
-    by (Integer integer) is = is
-    by Utf8 is = is
-    by Flags is = is
-    by Decimal128 is = is
-    by Date is = is
     by (Dictionary encoding) is = is
+    by other is = is
 cut_dressable [] (column ∷ columns) from to are = absurd are
 cut_dressable (field ∷ fields) [] from to are = absurd are
 

@@ -1,9 +1,8 @@
 -- Streams put together.
-use Rattle.std.proofs.Common.{◌≡◌, ℕ, suc, ◌+◌, ◌<◌, ◌==◌, ◌&&◌, Bool as Truth, true, false, List, [], ◌∷◌, ◌++◌, length, map, drop, get_or, All, Some, None, Result, Ok, Err, refl, sym, ap, subst, ◌∙◌, add-one, drop-cons, append_assoc, append-nil}
+use Rattle.std.proofs.Common.{◌≡◌, ℕ, suc, ◌+◌, ◌<◌, ◌&&◌, Bool as Truth, true, false, List, [], ◌∷◌, ◌++◌, length, map, drop, get_or, All, Some, None, Result, Ok, Err, refl, sym, ap, subst, ◌∙◌, add-one, drop-cons, append_assoc, append-nil}
 use Rattle.std.specs.Prelude.{if◌then◌else◌}
 use Rattle.std.specs.List.{flat_map, list_all}
 use Rattle.std.specs.Str.{bytes_eq}
-use Rattle.std.proofs.lemmas.Bool.Decides.{Decides-eqb}
 use Rattle.std.proofs.lemmas.Slice.Eq.{bytes_eq-Decides}
 use Rattle.std.proofs.lemmas.List.Elements.{All-head, All-tail}
 use Rattle.scan_base.specs.declared.fault.Fault.{Fault}
@@ -13,10 +12,10 @@ use Rattle.scan_base.specs.Lists.{each}
 use Rattle.scan_base.proofs.ReadingLaws.{behind, behind_more}
 use Rattle.scan_base.specs.Value.{same_flag}
 use Rattle.arrow_types.specs.declared.data_type.DataType.{DataType}
-use Rattle.arrow_types.specs.declared.data_type.DataType.TheVariants.{Integer, Utf8, Bool, Decimal128, Date, Dictionary}
+use Rattle.arrow_types.specs.declared.data_type.DataType.TheVariants.{Number}
 use Rattle.arrow_types.specs.declared.schema.Field.{Field}
 use Rattle.arrow_types.specs.declared.schema.Schema.{Schema}
-use Rattle.arrow_types.specs.DataType.{bit_width, is_signed}
+use Rattle.arrow_types.proofs.SameNumber.{same_number_self}
 use Rattle.ipc_batch.specs.State.{Known}
 use Rattle.ipc_batch.specs.SaidRows.{Rows}
 use Rattle.ipc_batch.proofs.Lengths.{fine, both}
@@ -36,12 +35,8 @@ both_true : (a b : Truth) → a ≡ true → b ≡ true → (a && b) ≡ true
 both_true a b p q = rw (p, q) refl
 
 type_same : (t : DataType) → same_type t t ≡ true
-type_same (Integer a) = both_true (bit_width a == bit_width a) (same_flag (is_signed a) (is_signed a)) ((Decides-eqb (bit_width a) (bit_width a)).1 refl) (flag_same (is_signed a))
-type_same Utf8 = refl
-type_same Bool = refl
-type_same Decimal128 = refl
-type_same Date = refl
-type_same (Dictionary a) = refl
+type_same (Number kind) = same_number_self kind
+type_same other = refl
 
 field_same : (f : Field) → same_field f f ≡ true
 field_same f =

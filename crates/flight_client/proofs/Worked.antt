@@ -3,7 +3,8 @@ use Rattle.std.proofs.Common.{◌≡◌, pos, true, [], ◌∷◌, Some, None, O
 use Rattle.std.specs.Fmt.{digits}
 use Rattle.scan_base.specs.declared.fault.Fault.TheVariants.{BadBatch, SchemaMismatch, BadSql, ResultTooLarge, Transport}
 use Rattle.scan_base.specs.declared.value.Value.TheVariants.{Int}
-use Rattle.arrow_types.specs.declared.data_type.DataType.TheVariants.{Utf8, Decimal128}
+use Rattle.arrow_types.specs.declared.data_type.DataType.TheVariants.{Number, Utf8}
+use Rattle.arrow_types.specs.declared.data_type.NumberType.TheVariants.{Decimal}
 use Rattle.arrow_types.specs.declared.schema.Schema.{Schema}
 use Rattle.ipc_batch.specs.State.{State}
 use Rattle.ipc_batch.specs.SaidRows.{Rows}
@@ -24,7 +25,7 @@ sql_status = (λ e. cc, inl sql)
 
 -- one column a
 abbrev column_a : Schema
-column_a = record { fields = record { name = codes "a"; nullable = true; data_type = Decimal128 } ∷ [] }
+column_a = record { fields = record { name = codes "a"; nullable = true; data_type = Number Decimal } ∷ [] }
 
 -- and texts of that name
 abbrev texts_a : Schema

@@ -12,20 +12,20 @@ use Rattle.flatbuf.specs.Fits.{FitsTable}
 use Rattle.flatbuf.proofs.Written.{vtable_reads, table_reads}
 use Rattle.flatbuf.proofs.Lengths.{whole_table, whole_text, whole_tables}
 use Rattle.flatbuf.proofs.Led.{led_table, led_vector, Elements, absent_table, buffer_reads}
-use Rattle.arrow_types.specs.declared.data_type.IntegerType.{IntegerType}
 use Rattle.arrow_types.specs.declared.data_type.DataType.{DataType}
-use Rattle.arrow_types.specs.declared.data_type.DataType.TheVariants.{Integer, Utf8, Bool as Flags, Decimal128, Date, Dictionary}
+use Rattle.arrow_types.specs.declared.data_type.DataType.TheVariants.{Dictionary}
 use Rattle.arrow_types.specs.declared.data_type.DictionaryEncoding.{DictionaryEncoding}
 use Rattle.arrow_types.specs.declared.schema.Field.{Field}
 use Rattle.arrow_types.specs.declared.schema.Schema.{Schema}
-use Rattle.arrow_types.specs.DataType.{bit_width, is_signed}
 use Rattle.arrow_types.specs.Schema.{IsField, IsSchema}
 use Rattle.arrow_schema.specs.declared.header.HeaderKind.TheVariants as header
 use Rattle.arrow_schema.specs.Fields.{table_wanted, vector_wanted}
 use Rattle.arrow_schema.specs.Header.{schema_in, schema_message_of, schema_of}
 use Rattle.arrow_schema.specs.Message.{message_part}
-use Rattle.arrow_schema.specs.WrittenHeader.{flag, integer_part, type_part, dictionary_part, dictionary_given, field_slots, field_part, schema_part, schema_bytes, encapsulated}
+use Rattle.arrow_schema.specs.TypeTables.{integer_part}
+use Rattle.arrow_schema.specs.WrittenHeader.{dictionary_part, dictionary_given, field_slots, field_part, schema_part, schema_bytes, encapsulated}
 use Rattle.arrow_schema.proofs.Messages.{short_message, fits_message, messages_read}
+use Rattle.arrow_schema.proofs.TypeTables.{whole_integer, whole_type}
 use Rattle.arrow_schema.proofs.Again.{fits_dictionary, fits_field, fits_fields, fits_schema, whole_schema, short_schema, schemas_read}
 use Rattle.ipc_batch.specs.Parts.{body_claimed}
 use Rattle.ipc_batch.specs.State.{Known}
@@ -43,19 +43,6 @@ past_end slots bytes place fits stands slot past =
 
 -- ---- blocks are whole
 
-whole_integer : (integer : IntegerType) → IsWhole (integer_part integer)
-unfolding integer_part
-whole_integer integer = whole_table (Number (bit_width integer) ∷ Number (flag (is_signed integer)) ∷ []) tt
-
-whole_type : (t : DataType) → IsWhole (type_part t)
-unfolding type_part
-whole_type (Integer integer) = whole_integer integer
-whole_type Utf8 = whole_table [] tt
-whole_type Flags = whole_table [] tt
-whole_type Decimal128 = whole_table (Number 38 ∷ Number 0 ∷ Number 128 ∷ []) tt
-whole_type Date = whole_table (Number 0 ∷ []) tt
-whole_type (Dictionary encoding) = whole_table [] tt
-
 abbrev dictionary_slots : DictionaryEncoding → List Given
 dictionary_slots encoding = Number encoding.id ∷ Offset (integer_part encoding.index) ∷ []
 
@@ -64,12 +51,8 @@ unfolding dictionary_part
 whole_dictionary encoding = whole_table (dictionary_slots encoding) (whole_integer encoding.index, tt)
 
 whole_given : (t : DataType) (more : List Given) → AreWhole more → AreWhole (dictionary_given t ∷ more)
-whole_given (Integer integer) more whole = whole
-whole_given Utf8 more whole = whole
-whole_given Flags more whole = whole
-whole_given Decimal128 more whole = whole
-whole_given Date more whole = whole
 whole_given (Dictionary encoding) more whole = (whole_dictionary encoding, whole)
+whole_given other more whole = whole
 
 whole_slots : (field : Field) → AreWhole (field_slots field)
 whole_slots field =
@@ -94,15 +77,11 @@ unfolding dictionary_part
 dictionary_ends encoding bytes place stands = past_end (dictionary_slots encoding) bytes place (fits_dictionary encoding) stands
 
 encoding_ends : (table : TableAt) (t : DataType) → SlotReads table 4 (dictionary_given t) → (found : TableAt) → table_of table 4 ≡ Ok (Some found) → EndsAt found 2
-encoding_ends table (Integer integer) reads found e = absurd (none_found table found 4 reads e)
-encoding_ends table Utf8 reads found e = absurd (none_found table found 4 reads e)
-encoding_ends table Flags reads found e = absurd (none_found table found 4 reads e)
-encoding_ends table Decimal128 reads found e = absurd (none_found table found 4 reads e)
-encoding_ends table Date reads found e = absurd (none_found table found 4 reads e)
 encoding_ends table (Dictionary encoding) reads found e =
     let there = table_at table.bytes reads.place (dictionary_part encoding) in
     let same : there ≡ found = found_is table there found 4 (led_table table 4 (dictionary_part encoding) reads) e in
     subst (λ (t : TableAt). EndsAt t 2) same (dictionary_ends encoding table.bytes reads.place reads.stands)
+encoding_ends table other reads found e = absurd (none_found table found 4 reads e)
 
 field_plain : (field : Field) (bytes : List ℕ) (place : ℕ) → IsField field → Stands (field_part field).bytes bytes place → IsPlainField (table_at bytes place (field_part field))
 unfolding field_part

@@ -1,7 +1,8 @@
 //! Dates: texts that are read, and days that are printed.
 
 use crate::words::{Word, told};
-use calendar::{date_shown, day_in};
+use arrow_types::NumberType;
+use number_words::{NumberText, day_in};
 use scan_base::Fault;
 use std::alloc::Global;
 
@@ -17,5 +18,5 @@ pub fn day(alloc: Global, text: &str) -> Result<String, Fault> {
 /// What is printed of a day, by its number.
 pub fn shown(alloc: Global, number: &str) -> Result<String, Fault> {
     let day = number.parse::<i128>().map_err(|_| Fault::BadFrame)?;
-    Ok(String::from_str(alloc, date_shown(day).as_str())?)
+    Ok(String::from_str(alloc, NumberText::new().literal(NumberType::Date, day))?)
 }

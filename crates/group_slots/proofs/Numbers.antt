@@ -8,7 +8,8 @@ use Rattle.std.proofs.lemmas.List.Elements.{All-get_or}
 use Rattle.std.specs.List.{range_with_len}
 use Rattle.arrow_types.specs.declared.data_type.IntegerType.{IntegerType}
 use Rattle.arrow_types.specs.declared.data_type.IntegerType.TheVariants as integer
-use Rattle.arrow_types.specs.declared.data_type.DataType.TheVariants.{Integer}
+use Rattle.arrow_types.specs.declared.data_type.DataType.TheVariants.{Number}
+use Rattle.arrow_types.specs.declared.data_type.NumberType.TheVariants.{Integer}
 use Rattle.scan_base.specs.declared.value.Value.{Value}
 use Rattle.scan_base.specs.declared.value.Value.TheVariants.{Null, Int, Text, Bool as Flag}
 use Rattle.arrays.specs.Column.{ColumnAt, IsColumn, slot_of, values_of}
@@ -35,7 +36,7 @@ IsShortOrNull (Int number) = IsShort number
 IsShortOrNull (Flag flag) = ⊥
 IsShortOrNull (Text text) = ⊥
 
-of_value : (kind : IntegerType) (value : Value) → IsValueOf (Integer kind) value → IsShortOrNull value
+of_value : (kind : IntegerType) (value : Value) → IsValueOf (Number (Integer kind)) value → IsShortOrNull value
 of_value kind Null is = tt
 of_value kind (Int number) is = integer_short kind number is
 of_value kind (Flag flag) is = absurd is
@@ -44,10 +45,10 @@ of_value kind (Text text) is = absurd is
 pub slot_short : ValuesAreOfTheirType → (column : ColumnAt) → IsColumn column → IsIntegers column.layout → (j : ℕ) → j < column.len →
     IsShortOrNull (slot_of column j)
 slot_short law column is integers j there =
-    let all = law (Integer integers.0) column is integers.1 in
+    let all = law (Number (Integer integers.0)) column is integers.1 in
     let at : get_or (values_of column) j Null ≡ slot_of column j =
     get_or-map-range_with_len (slot_of column) 0 column.len j j Null there (omega arith) in
     let within : j < length (values_of column) =
     omega (arith, there, length-map (range_with_len 0 column.len) (slot_of column), length-range_with_len 0 column.len) in
     subst IsShortOrNull at (of_value integers.0 (get_or (values_of column) j Null)
-    (All-get_or (IsValueOf (Integer integers.0)) (values_of column) j Null within all))
+    (All-get_or (IsValueOf (Number (Integer integers.0))) (values_of column) j Null within all))

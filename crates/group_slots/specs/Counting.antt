@@ -3,11 +3,11 @@ use Rattle.std.specs.Prelude.{◌≡◌, ◌≤◌, ◌<◌, ◌≤ℤ◌, ℕ, 
 use Rattle.std.specs.Prelude.{length, get_or, slice_get, slice_set, Some}
 use Rattle.std.specs.List.{sum_by}
 use Rattle.arrow_types.specs.declared.data_type.IntegerType.{IntegerType}
-use Rattle.arrow_types.specs.declared.data_type.DataType.TheVariants.{Integer}
+use Rattle.arrow_types.specs.declared.data_type.Cell.TheVariants.{Integer}
 use Rattle.arrays.specs.declared.layout.Layout.{Layout}
 use Rattle.arrays.specs.Batch.{row_of}
 use Rattle.arrays.specs.Column.{ColumnAt}
-use Rattle.arrays.specs.TypedLayouts.{IsOfType}
+use Rattle.arrays.specs.TypedLayouts.{LieIn}
 use Rattle.typed_plan.specs.declared.plan.Aggregate.{Aggregate}
 use Rattle.typed_plan.specs.declared.plan.Aggregate.TheVariants.{Key, CountRows, Count, Sum}
 use Rattle.group_slots.specs.declared.tally.Tally.{Tally}
@@ -15,7 +15,7 @@ use Rattle.group_slots.specs.Tallies.{no_rows, added}
 
 -- the slots are whole numbers of at most 64 bits
 abbrev pub IsIntegers : Layout → Type 0
-IsIntegers layout = (integer : IntegerType) × IsOfType (Integer integer) layout
+IsIntegers layout = (integer : IntegerType) × LieIn (Integer integer) layout
 
 -- the number is no larger than one of 64 bits
 pub record IsShort (number : ℤ) : Type 0 where

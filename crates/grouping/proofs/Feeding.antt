@@ -6,7 +6,8 @@ use Rattle.std.proofs.lemmas.List.{get_or_default, length-append, length-map}
 use borrow.Author.Tests.{ltb-true}
 use Rattle.arrow_types.specs.declared.data_type.DataType.{DataType}
 use Rattle.scan_base.specs.declared.fault.Fault.{Fault}
-use Rattle.arrow_types.specs.declared.data_type.DataType.TheVariants.{Integer, Utf8, Bool as Flag, Decimal128, Date, Dictionary}
+use Rattle.arrow_types.specs.declared.data_type.DataType.TheVariants.{Number}
+use Rattle.arrow_types.specs.declared.data_type.NumberType.TheVariants.{Integer}
 use Rattle.arrays.specs.Batch.{BatchAt, row_of}
 use Rattle.arrays.specs.Column.{ColumnAt}
 use Rattle.arrays.specs.TypedLayouts.{AreOf, IsOfType}
@@ -32,12 +33,8 @@ as_many [] (c ∷ columns) are = absurd are
 as_many (t ∷ types) [] are = absurd are
 
 summed : (t : DataType) (c : ColumnAt) → can_sum t ≡ true → IsOfType t c.layout → IsIntegers c.layout
-summed (Integer kind) c can of = (kind, of)
-summed Utf8 c can of = cc
-summed Flag c can of = cc
-summed Decimal128 c can of = cc
-summed Date c can of = cc
-summed (Dictionary encoding) c can of = cc
+summed (Number (Integer kind)) c can of = (kind, of)
+summed _ c can of = cc
 
 -- a column that is summed has whole numbers
 integers_at : (types : List DataType) (columns : List ColumnAt) (place : ℕ) (found : ColumnAt) → AreOf types columns →

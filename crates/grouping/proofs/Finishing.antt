@@ -14,7 +14,8 @@ use Rattle.scan_base.specs.declared.value.Value.{Value}
 use Rattle.scan_base.specs.declared.value.Value.TheVariants.{Null, Int}
 use Rattle.arrow_types.specs.Answer.{copied_type}
 use Rattle.arrow_types.specs.declared.data_type.DataType.{DataType}
-use Rattle.arrow_types.specs.declared.data_type.DataType.TheVariants.{Integer, Decimal128}
+use Rattle.arrow_types.specs.declared.data_type.DataType.TheVariants.{Number}
+use Rattle.arrow_types.specs.declared.data_type.NumberType.TheVariants.{Integer, Decimal}
 use Rattle.arrow_types.specs.declared.data_type.IntegerType.TheVariants.{Int64}
 use Rattle.arrays.specs.Batch.{BatchAt, rows_of}
 use Rattle.arrays.specs.Column.{ColumnAt, slot_of, values_of}
@@ -120,7 +121,7 @@ count_value item (inl is) key tally = ap (λ (item : Aggregate). item_value key 
 count_value item (inr (column, is)) key tally = ap (λ (item : Aggregate). item_value key item tally) is
 
 count_type : (keys : List ℕ) (types : List DataType) (item : Aggregate) → (item ≡ CountRows) ⊎ ((column : ℕ) × (item ≡ Count column)) →
-    copied_type (item_type keys types item) ≡ Integer Int64
+    copied_type (item_type keys types item) ≡ Number (Integer Int64)
 count_type keys types item (inl is) = ap (λ (item : Aggregate). copied_type (item_type keys types item)) is
 count_type keys types item (inr (column, is)) = ap (λ (item : Aggregate). copied_type (item_type keys types item)) is
 
@@ -128,20 +129,20 @@ count_type keys types item (inr (column, is)) = ap (λ (item : Aggregate). copie
 pub counted_column : (answer : GroupRows) (item from to : ℕ) (slice : List Tally) (column : ColumnAt) → AreTallies answer item slice →
     (get_or answer.items.now item (Key 0) ≡ CountRows) ⊎ ((counted : ℕ) × (get_or answer.items.now item (Key 0) ≡ Count counted)) →
     from ≤ to → to ≤ length (groups_in answer).found →
-    values_of column ≡ map (λ (tally : Tally). Int (pos tally.count)) (take (to - from) (drop from slice)) → IsOfType (Integer Int64) column.layout → column.len ≡ to - from →
+    values_of column ≡ map (λ (tally : Tally). Int (pos tally.count)) (take (to - from) (drop from slice)) → IsOfType (Number (Integer Int64)) column.layout → column.len ≡ to - from →
     IsItemColumn (groups_in answer) item from (to - from) column
 counted_column answer item from to slice column are is ordered within values typed long =
-    tally_column (groups_in answer) item from to slice (λ (tally : Tally). Int (pos tally.count)) (Integer Int64) column are.whole are.long ordered within
+    tally_column (groups_in answer) item from to slice (λ (tally : Tally). Int (pos tally.count)) (Number (Integer Int64)) column are.whole are.long ordered within
     (count_value (get_or answer.items.now item (Key 0)) is) (count_type answer.keys.now answer.types.now (get_or answer.items.now item (Key 0)) is) values typed long
 
 -- the column of sums is that of an item that sums
 pub summed_column : (answer : GroupRows) (item from to summed : ℕ) (slice : List Tally) (column : ColumnAt) → AreTallies answer item slice →
     get_or answer.items.now item (Key 0) ≡ Sum summed → from ≤ to → to ≤ length (groups_in answer).found →
     values_of column ≡ map (λ (tally : Tally). if tally.count == 0 then Null else Int tally.sum) (take (to - from) (drop from slice)) →
-    IsOfType Decimal128 column.layout → column.len ≡ to - from →
+    IsOfType (Number Decimal) column.layout → column.len ≡ to - from →
     IsItemColumn (groups_in answer) item from (to - from) column
 summed_column answer item from to summed slice column are is ordered within values typed long =
-    tally_column (groups_in answer) item from to slice (λ (tally : Tally). if tally.count == 0 then Null else Int tally.sum) Decimal128 column are.whole are.long ordered within
+    tally_column (groups_in answer) item from to slice (λ (tally : Tally). if tally.count == 0 then Null else Int tally.sum) (Number Decimal) column are.whole are.long ordered within
     (λ key tally. ap (λ (item : Aggregate). item_value key item tally) is) (ap (λ (item : Aggregate). copied_type (item_type answer.keys.now answer.types.now item)) is) values typed long
 
 -- ---- the column of a key

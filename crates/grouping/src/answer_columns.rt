@@ -4,8 +4,9 @@ ghost use Rattle.std.specs.Prelude.{◌≡◌, ◌≤◌, ◌==◌, ◌-◌, pos
 ghost use Rattle.std.specs.Prelude.{if◌then◌else◌};
 ghost use Rattle.scan_base.specs.Limits.{most_rows};
 ghost use Rattle.scan_base.specs.declared.value.Value.TheVariants as value;
-ghost use Rattle.arrow_types.specs.declared.data_type.DataType.TheVariants as type;
-ghost use Rattle.arrow_types.specs.declared.data_type.IntegerType.TheVariants as integer;
+ghost use Rattle.arrow_types.specs.declared.data_type.DataType.TheVariants.{Number};
+ghost use Rattle.arrow_types.specs.declared.data_type.NumberType.TheVariants.{Decimal, Integer};
+ghost use Rattle.arrow_types.specs.declared.data_type.IntegerType.TheVariants.{Int64};
 ghost use Rattle.arrays.specs.Column.{values_of};
 ghost use Rattle.arrays.specs.TypedLayouts.{IsOfType};
 ghost use Rattle.group_slots.specs.HeldTallies.{tallies_in};
@@ -33,7 +34,7 @@ pub(crate) fn count_column(
     ensures values { IfOk result
         (λ made. values_of made ≡ map (λ tally. value.Int (pos tally.count))
         (take (to - from) (drop from (tallies_in tallies.now)))) }
-    ensures typed { IfOk result (λ made. IsOfType (type.Integer integer.Int64) made.layout) }
+    ensures typed { IfOk result (λ made. IsOfType (Number (Integer Int64)) made.layout) }
     ensures long { IfOk result (λ made. made.len ≡ to - from) }
 {
     match tallies {
@@ -62,7 +63,7 @@ pub(crate) fn sum_column(
     ensures values { IfOk result (λ made. values_of made
         ≡ map (λ tally. if tally.count == 0 then value.Null else value.Int tally.sum)
         (take (to - from) (drop from (tallies_in tallies.now)))) }
-    ensures typed { IfOk result (λ made. IsOfType type.Decimal128 made.layout) }
+    ensures typed { IfOk result (λ made. IsOfType (Number Decimal) made.layout) }
     ensures long { IfOk result (λ made. made.len ≡ to - from) }
 {
     match tallies {
@@ -79,7 +80,7 @@ fn column_of_counts(alloc: Global, counts: &[u64]) -> Result<Column, AllocError>
     requires { All (λ count. count ≤ most_rows) counts.now }
     ensures values { IfOk result
         (λ made. values_of made ≡ map (λ count. value.Int (pos count)) counts.now) }
-    ensures typed { IfOk result (λ made. IsOfType (type.Integer integer.Int64) made.layout) }
+    ensures typed { IfOk result (λ made. IsOfType (Number (Integer Int64)) made.layout) }
     ensures long { IfOk result (λ made. made.len ≡ length counts.now) }
 {
     let mut numbers = Vec::with_capacity(alloc, counts.len())?;
@@ -93,7 +94,7 @@ fn column_of_counts(alloc: Global, counts: &[u64]) -> Result<Column, AllocError>
 fn column_of_sums(alloc: Global, tallies: &[Tally]) -> Result<Column, AllocError>
     ensures values { IfOk result (λ made. values_of made
         ≡ map (λ tally. if tally.count == 0 then value.Null else value.Int tally.sum) tallies.now) }
-    ensures typed { IfOk result (λ made. IsOfType type.Decimal128 made.layout) }
+    ensures typed { IfOk result (λ made. IsOfType (Number Decimal) made.layout) }
     ensures long { IfOk result (λ made. made.len ≡ length tallies.now) }
 {
     let mut sums = Vec::with_capacity(alloc, tallies.len())?;

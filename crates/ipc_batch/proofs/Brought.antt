@@ -1,5 +1,5 @@
 -- What is read of a message is what it brings.
-use Rattle.std.proofs.Common.{◌≡◌, ◌≤◌, inl, inr, ℕ, ◌==◌, nat_le, true, List, length, is_none, Option, Some, None, Ok, refl, sym, ap, ◌∙◌, subst}
+use Rattle.std.proofs.Common.{◌≡◌, ◌≤◌, ℕ, ◌==◌, nat_le, true, List, length, is_none, Option, Some, None, Ok, refl, sym, ap, ◌∙◌, subst}
 use Rattle.std.proofs.lemmas.Bool.{eqb-true, leb-true, le-leb}
 use Rattle.scan_base.specs.declared.fault.Fault.TheVariants.{BadFlatbuffer, UnsupportedArrow, BadBatch}
 use Rattle.scan_base.specs.Reading.{demand}
@@ -8,9 +8,9 @@ use Rattle.flatbuf.specs.Place.{root_of, scalar_of, table_of, structs_of}
 use Rattle.flatbuf.proofs.Readings.{seen_finds, seen_root, seen_structs}
 use Rattle.arrow_schema.specs.declared.header.HeaderKind.{HeaderKind}
 use Rattle.arrow_schema.specs.declared.header.HeaderKind.TheVariants as kinds
-use Rattle.arrow_schema.specs.Header.{MessageAt, header_kind, message_of, body_length_of}
+use Rattle.arrow_schema.specs.Header.{MessageAt, header_kinds, header_kind, message_of, body_length_of}
 use Rattle.arrow_schema.specs.Message.{kind_number}
-use Rattle.arrow_schema.proofs.Said.{bind_ok, demand_ok, wanted_ok, chosen, refused, says_scalar, reads_scalar, says_table, reads_table}
+use Rattle.arrow_schema.proofs.Readings.{bind_ok, demand_ok, wanted_ok, meaning_told, says_scalar, reads_scalar, says_table, reads_table}
 use Rattle.ipc_batch.specs.Parts.{PartsAt, nodes_in, places_in, structs_wanted, body_claimed, parts_of}
 use Rattle.ipc_batch.specs.SaidRows.{Sent}
 use Rattle.ipc_batch.specs.Brings.{SaysMessage, SaysRecordBatch}
@@ -18,13 +18,7 @@ use Rattle.ipc_batch.specs.Brings.{SaysMessage, SaysRecordBatch}
 -- ---- the Message table
 
 kind_told : (number : ℕ) (kind : HeaderKind) → header_kind number ≡ Ok kind → number ≡ kind_number kind
-kind_told number kind e = elim (chosen number 1 kinds.Schema kind _ e) [
-  | inl h ↦ rw (← h.1) h.0
-  | inr e ↦ elim (chosen number 2 kinds.DictionaryBatch kind _ e) [
-    | inl h ↦ rw (← h.1) h.0
-    | inr e ↦ elim (chosen number 3 kinds.RecordBatch kind _ e) [ inl h ↦ rw (← h.1) h.0 | inr e ↦ refused UnsupportedArrow kind e ]
-  ]
-]
+kind_told number kind e = meaning_told (λ (n : ℕ) (k : HeaderKind). n ≡ kind_number k) header_kinds number kind (refl, (refl, (refl, tt))) e
 
 kind_read : (kind : HeaderKind) → header_kind (kind_number kind) ≡ Ok kind
 kind_read kinds.Schema = refl

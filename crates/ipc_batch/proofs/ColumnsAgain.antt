@@ -9,9 +9,12 @@ use Rattle.scan_base.specs.declared.fault.Fault.TheVariants.{BadBatch}
 use Rattle.scan_base.specs.Reading.{◌>>=◌, demand}
 use Rattle.scan_base.specs.Lists.{each}
 use Rattle.arrow_types.specs.declared.data_type.DictionaryEncoding.{DictionaryEncoding}
-use Rattle.arrow_types.specs.declared.data_type.IntegerType.{IntegerType}
+use Rattle.arrow_types.specs.declared.data_type.NumberType.{NumberType}
+use Rattle.arrow_types.specs.declared.data_type.Cell.{Cell}
+use Rattle.arrow_types.specs.declared.data_type.Cell.TheVariants as cell
 use Rattle.arrow_types.specs.declared.data_type.DataType.{DataType}
-use Rattle.arrow_types.specs.declared.data_type.DataType.TheVariants.{Integer, Utf8, Bool, Decimal128, Date, Dictionary}
+use Rattle.arrow_types.specs.declared.data_type.DataType.TheVariants.{Number, Utf8, Bool, Dictionary}
+use Rattle.arrow_types.specs.DataType.{cell_of}
 use Rattle.arrow_types.specs.declared.schema.Field.{Field}
 use Rattle.arrays.specs.declared.layout.Layout.{Layout}
 use Rattle.arrays.specs.declared.layout.Layout.TheVariants as layout
@@ -22,7 +25,7 @@ use Rattle.std.proofs.lemmas.List.Sums.{sum_by-cons}
 use Rattle.arrays.specs.Buffers.{values_layout, texts_layout, buffer_count}
 use Rattle.arrays.specs.Column.{ColumnAt, IsColumn, slot_of, values_of, whole}
 use Rattle.arrays.specs.Batch.{row_of, rows_of}
-use Rattle.arrays.specs.TypedLayouts.{IsOfType, AreOfTypes}
+use Rattle.arrays.specs.TypedLayouts.{LieIn, IsOfType, AreOfTypes}
 use Rattle.arrays.specs.Nulls.{null_count}
 use Rattle.array_buffers.specs.ColumnBuffers.{validity_written, validity_read, values_written, written_by, HasShortTexts, IsLedBy, SaySlots, buffers_written as column_written}
 use Rattle.array_buffers.proofs.ColumnsAgain.{columns_again as slots_again}
@@ -135,15 +138,15 @@ values_again answered dictionary body column places packed others read is values
       values = values;
     }
 
-integers_front : (integer : IntegerType) (dictionaries : Dictionaries) (body : List ℕ) (column : ColumnAt) (places : List BufferPlace) (buffers others : List (List ℕ)) →
-    SaySlots (Integer integer) [] (validity_read column) buffers column.len (values_of column) → each (buffer_at body) places ≡ Ok (validity_written column ∷ (buffers ++ others)) →
-    Front (Integer integer) dictionaries column.len body column places others
+numbers_front : (kind : NumberType) (dictionaries : Dictionaries) (body : List ℕ) (column : ColumnAt) (places : List BufferPlace) (buffers others : List (List ℕ)) →
+    SaySlots (Number kind) [] (validity_read column) buffers column.len (values_of column) → each (buffer_at body) places ≡ Ok (validity_written column ∷ (buffers ++ others)) →
+    Front (Number kind) dictionaries column.len body column places others
 unfolding front_of
-integers_front integer dictionaries body column places [] others say found = absurd say
-integers_front integer dictionaries body column places (packed ∷ []) others say found =
-    let v = values_again (Integer integer) [] body column places packed others say.0 say.1 say.2 found in
-    record { front = record { layout = v.layout; behind = v.more }; read = subst (λ (xs : List BufferPlace). front_of (Integer integer) dictionaries column.len body (node_written column) xs ≡ Ok (record { layout = v.layout; behind = v.more })) (sym v.is) (rw v.read refl); behind = v.behind; values = v.values }
-integers_front integer dictionaries body column places (packed ∷ more ∷ buffers) others say found = absurd say
+numbers_front kind dictionaries body column places [] others say found = absurd say
+numbers_front kind dictionaries body column places (packed ∷ []) others say found =
+    let v = values_again (Number kind) [] body column places packed others say.0 say.1 say.2 found in
+    record { front = record { layout = v.layout; behind = v.more }; read = subst (λ (xs : List BufferPlace). front_of (Number kind) dictionaries column.len body (node_written column) xs ≡ Ok (record { layout = v.layout; behind = v.more })) (sym v.is) (rw v.read refl); behind = v.behind; values = v.values }
+numbers_front kind dictionaries body column places (packed ∷ more ∷ buffers) others say found = absurd say
 
 bools_front : (dictionaries : Dictionaries) (body : List ℕ) (column : ColumnAt) (places : List BufferPlace) (buffers others : List (List ℕ)) →
     SaySlots Bool [] (validity_read column) buffers column.len (values_of column) → each (buffer_at body) places ≡ Ok (validity_written column ∷ (buffers ++ others)) →
@@ -154,26 +157,6 @@ bools_front dictionaries body column places (packed ∷ []) others say found =
     let v = values_again Bool [] body column places packed others say.0 say.1 say.2 found in
     record { front = record { layout = v.layout; behind = v.more }; read = subst (λ (xs : List BufferPlace). front_of Bool dictionaries column.len body (node_written column) xs ≡ Ok (record { layout = v.layout; behind = v.more })) (sym v.is) (rw v.read refl); behind = v.behind; values = v.values }
 bools_front dictionaries body column places (packed ∷ more ∷ buffers) others say found = absurd say
-
-decimals_front : (dictionaries : Dictionaries) (body : List ℕ) (column : ColumnAt) (places : List BufferPlace) (buffers others : List (List ℕ)) →
-    SaySlots Decimal128 [] (validity_read column) buffers column.len (values_of column) → each (buffer_at body) places ≡ Ok (validity_written column ∷ (buffers ++ others)) →
-    Front Decimal128 dictionaries column.len body column places others
-unfolding front_of
-decimals_front dictionaries body column places [] others say found = absurd say
-decimals_front dictionaries body column places (packed ∷ []) others say found =
-    let v = values_again Decimal128 [] body column places packed others say.0 say.1 say.2 found in
-    record { front = record { layout = v.layout; behind = v.more }; read = subst (λ (xs : List BufferPlace). front_of Decimal128 dictionaries column.len body (node_written column) xs ≡ Ok (record { layout = v.layout; behind = v.more })) (sym v.is) (rw v.read refl); behind = v.behind; values = v.values }
-decimals_front dictionaries body column places (packed ∷ more ∷ buffers) others say found = absurd say
-
-dates_front : (dictionaries : Dictionaries) (body : List ℕ) (column : ColumnAt) (places : List BufferPlace) (buffers others : List (List ℕ)) →
-    SaySlots Date [] (validity_read column) buffers column.len (values_of column) → each (buffer_at body) places ≡ Ok (validity_written column ∷ (buffers ++ others)) →
-    Front Date dictionaries column.len body column places others
-unfolding front_of
-dates_front dictionaries body column places [] others say found = absurd say
-dates_front dictionaries body column places (packed ∷ []) others say found =
-    let v = values_again Date [] body column places packed others say.0 say.1 say.2 found in
-    record { front = record { layout = v.layout; behind = v.more }; read = subst (λ (xs : List BufferPlace). front_of Date dictionaries column.len body (node_written column) xs ≡ Ok (record { layout = v.layout; behind = v.more })) (sym v.is) (rw v.read refl); behind = v.behind; values = v.values }
-dates_front dictionaries body column places (packed ∷ more ∷ buffers) others say found = absurd say
 
 indices_front : (encoding : DictionaryEncoding) (dictionaries : Dictionaries) (body : List ℕ) (column : ColumnAt) (places : List BufferPlace) (buffers others : List (List ℕ)) →
     SaySlots (Dictionary encoding) (values_under dictionaries encoding.id) (validity_read column) buffers column.len (values_of column) → each (buffer_at body) places ≡ Ok (validity_written column ∷ (buffers ++ others)) →
@@ -188,14 +171,10 @@ indices_front encoding dictionaries body column places (packed ∷ more ∷ buff
 pub front_again : (data_type : DataType) (dictionaries : Dictionaries) (body : List ℕ) (column : ColumnAt) (places : List BufferPlace) (others : List (List ℕ)) →
     IsColumn column → IsOfType data_type column.layout → IsLedBy data_type (values_led_to data_type dictionaries) column.layout column → HasShortTexts column →
     each (buffer_at body) places ≡ Ok (column_written column ++ others) → Front data_type dictionaries column.len body column places others
-front_again (Integer integer) dictionaries body column places others stands of led short found =
-    integers_front integer dictionaries body column places (values_written column) others (slots_again (Integer integer) [] column stands of led short) found
+front_again (Number kind) dictionaries body column places others stands of led short found =
+    numbers_front kind dictionaries body column places (values_written column) others (slots_again (Number kind) [] column stands of led short) found
 front_again Bool dictionaries body column places others stands of led short found =
     bools_front dictionaries body column places (values_written column) others (slots_again Bool [] column stands of led short) found
-front_again Decimal128 dictionaries body column places others stands of led short found =
-    decimals_front dictionaries body column places (values_written column) others (slots_again Decimal128 [] column stands of led short) found
-front_again Date dictionaries body column places others stands of led short found =
-    dates_front dictionaries body column places (values_written column) others (slots_again Date [] column stands of led short) found
 front_again Utf8 dictionaries body column places others stands of led short found =
     texts_front_again dictionaries body column places (values_written column) others (slots_again Utf8 [] column stands of led short) found
 front_again (Dictionary encoding) dictionaries body column places others stands of led short found =
@@ -253,10 +232,13 @@ pub rows_again : (rows : ℕ) (read columns : List ColumnAt) → AllByRecursion 
 rows_again rows read columns are same = map_same (row_of read) (row_of columns) 0 rows (λ j first low. row_again rows j read columns are same (omega arith))
 
 -- a column has as many buffers as its type wants
+numbers_buffers : (cell : Cell) (known : Layout) (column : ColumnAt) → LieIn cell known → suc (length (written_by known column)) ≡ 2
+numbers_buffers (cell.Integer integer) (layout.Integers cells) column of = refl
+numbers_buffers cell.Wide (layout.Decimals cells) column of = refl
+numbers_buffers cell known column of = absurd of
+
 type_buffers : (data_type : DataType) (known : Layout) (column : ColumnAt) → IsOfType data_type known → suc (length (written_by known column)) ≡ buffer_count data_type
-type_buffers (Integer integer) (layout.Integers cells) column of = refl
-type_buffers Decimal128 (layout.Decimals cells) column of = refl
-type_buffers Date (layout.Integers cells) column of = refl
+type_buffers (Number kind) known column of = numbers_buffers (cell_of kind) known column of
 type_buffers Bool (layout.Bools cells) column of = refl
 type_buffers Utf8 (layout.Texts cells) column of = refl
 type_buffers (Dictionary encoding) (layout.Indices cells) column of = refl

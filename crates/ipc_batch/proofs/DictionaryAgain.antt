@@ -18,9 +18,9 @@ use Rattle.flatbuf.proofs.Written.{table_reads}
 use Rattle.flatbuf.proofs.Lengths.{whole_table, short_table, fits_table}
 use Rattle.flatbuf.proofs.Led.{led_table}
 use Rattle.arrow_types.specs.declared.data_type.DataType.{DataType}
-use Rattle.arrow_types.specs.declared.data_type.DataType.TheVariants.{Integer, Utf8, Bool as Flags, Decimal128, Date, Dictionary}
+use Rattle.arrow_types.specs.declared.data_type.DataType.TheVariants.{Number, Utf8, Bool as Flags, Dictionary}
 use Rattle.arrow_schema.specs.declared.header.HeaderKind.TheVariants.{DictionaryBatch}
-use Rattle.arrow_schema.specs.WrittenHeader.{flag}
+use Rattle.arrow_schema.specs.TypeTables.{flag}
 use Rattle.arrow_schema.specs.Header.{MessageAt, table_wanted}
 use Rattle.arrow_schema.specs.Message.{message_part, message_bytes, MessageReads}
 use Rattle.arrow_schema.proofs.Messages.{messages_read, short_message}
@@ -240,20 +240,16 @@ tells id values is_delta batch header body low same fits header_is body_is =
 
 led_own : (dictionaries : Dictionaries) (id : ℕ) (values : List Value) (data_type : DataType) → has_id id data_type ≡ true → values_led_to data_type (with_values id values dictionaries) ≡ values
 led_own dictionaries id values (Dictionary encoding) is = rw (eqb-true encoding.id id is) (under_set dictionaries id values)
-led_own dictionaries id values (Integer integer) is = cc
+led_own dictionaries id values (Number kind) is = cc
 led_own dictionaries id values Utf8 is = cc
 led_own dictionaries id values Flags is = cc
-led_own dictionaries id values Decimal128 is = cc
-led_own dictionaries id values Date is = cc
 
 led_others : (dictionaries : Dictionaries) (id : ℕ) (values : List Value) (data_type : DataType) → has_id id data_type ≡ false →
     values_led_to data_type (with_values id values dictionaries) ≡ values_led_to data_type dictionaries
 led_others dictionaries id values (Dictionary encoding) other = under_other dictionaries id encoding.id values (ne_eqb id encoding.id (λ same. eqb-false encoding.id id other (sym same)))
-led_others dictionaries id values (Integer integer) other = refl
+led_others dictionaries id values (Number kind) other = refl
 led_others dictionaries id values Utf8 other = refl
 led_others dictionaries id values Flags other = refl
-led_others dictionaries id values Decimal128 other = refl
-led_others dictionaries id values Date other = refl
 
 pub dictionaries_again : DictionariesReadBack
 unfolding dictionary_news

@@ -10,9 +10,9 @@ use Rattle.flatbuf.specs.Layout.{Stands}
 use Rattle.flatbuf.specs.Place.{bytes_at}
 use Rattle.flatbuf.proofs.Readings.{seen_finds, seen_bytes}
 use Rattle.arrow_types.specs.declared.data_type.DataType.{DataType}
-use Rattle.arrow_types.specs.declared.data_type.DataType.TheVariants.{Integer, Utf8, Bool as Flags, Decimal128, Date, Dictionary}
+use Rattle.arrow_types.specs.declared.data_type.DataType.TheVariants.{Number, Utf8, Bool as Flags, Dictionary}
 use Rattle.arrow_types.specs.declared.schema.Field.{Field}
-use Rattle.arrow_schema.proofs.Said.{bind_ok, demand_ok}
+use Rattle.arrow_schema.proofs.Readings.{bind_ok, demand_ok}
 use Rattle.arrays.specs.declared.layout.Layout.{Layout}
 use Rattle.arrays.specs.declared.layout.Layout.TheVariants.{Texts}
 use Rattle.arrays.specs.Texts.{TextsAt}
@@ -170,10 +170,8 @@ front_told : (t : DataType) (rows : ℕ) (body : List ℕ) (dictionaries : Dicti
     front_of t dictionaries rows body node places ≡ Ok front → AtFront (source_of rows body dictionaries) t node places front
 unfolding front_of
 front_told Utf8 rows body dictionaries node places front e = texts_told rows body dictionaries node places front e
-front_told (Integer integer) rows body dictionaries node places front e = values_told (Integer integer) rows body dictionaries node places front refl refl e
+front_told (Number kind) rows body dictionaries node places front e = values_told (Number kind) rows body dictionaries node places front refl refl e
 front_told Flags rows body dictionaries node places front e = values_told Flags rows body dictionaries node places front refl refl e
-front_told Decimal128 rows body dictionaries node places front e = values_told Decimal128 rows body dictionaries node places front refl refl e
-front_told Date rows body dictionaries node places front e = values_told Date rows body dictionaries node places front refl refl e
 front_told (Dictionary encoding) rows body dictionaries node places front e = values_told (Dictionary encoding) rows body dictionaries node places front refl refl e
 
 -- what is read of a column's buffers
@@ -222,10 +220,8 @@ front_read : (t : DataType) (rows : ℕ) (body : List ℕ) (dictionaries : Dicti
     (h : HoldsColumn (source_of rows body dictionaries) t node (slice_get places) column) → front_of t dictionaries rows body node places ≡ Ok (front_behind h.layout (buffer_count t) places)
 unfolding front_of
 front_read Utf8 rows body dictionaries node places column h = texts_read rows body dictionaries node places column h
-front_read (Integer integer) rows body dictionaries node places column h = values_read (Integer integer) rows body dictionaries node places column refl h
+front_read (Number kind) rows body dictionaries node places column h = values_read (Number kind) rows body dictionaries node places column refl h
 front_read Flags rows body dictionaries node places column h = values_read Flags rows body dictionaries node places column refl h
-front_read Decimal128 rows body dictionaries node places column h = values_read Decimal128 rows body dictionaries node places column refl h
-front_read Date rows body dictionaries node places column h = values_read Date rows body dictionaries node places column refl h
 front_read (Dictionary encoding) rows body dictionaries node places column h = values_read (Dictionary encoding) rows body dictionaries node places column refl h
 
 -- ---- all columns

@@ -17,7 +17,8 @@ use Rattle.arrow_schema.specs.declared.header.HeaderKind.{HeaderKind}
 use Rattle.arrow_schema.specs.declared.header.HeaderKind.TheVariants as kinds
 use Rattle.arrow_schema.specs.Header.{MessageAt, table_wanted, message_of, header_of, schema_in}
 use Rattle.arrow_schema.specs.Says.{SaysColumns}
-use Rattle.arrow_schema.proofs.Said.{bind_ok, demand_ok, says_scalar, reads_scalar, says_table, reads_table, wanted_table, bytes_table, header_told, header_read}
+use Rattle.arrow_schema.proofs.Readings.{bind_ok, demand_ok, says_scalar, reads_scalar, says_table, reads_table, wanted_table, bytes_table}
+use Rattle.arrow_schema.proofs.Said.{header_told, header_read}
 use Rattle.arrays.specs.Texts.{TextsAt, texts_slot, texts_values}
 use Rattle.scan_base.specs.Limits.{most_values}
 use Rattle.arrays.specs.Dictionary.{extended_by}

@@ -4,9 +4,12 @@ use Rattle.std.proofs.lemmas.Bool.{lt-leb, leb-true, eqb-true, and_parts}
 use Rattle.flatbuf.proofs.Standing.{stands_within}
 use Rattle.arrow_types.specs.declared.data_type.IntegerType.{IntegerType}
 use Rattle.arrow_types.specs.declared.data_type.IntegerType.TheVariants.{Int8, Int16, Int32, Int64, UInt8, UInt16, UInt32, UInt64}
+use Rattle.arrow_types.specs.declared.data_type.Cell.{Cell}
+use Rattle.arrow_types.specs.declared.data_type.Cell.TheVariants as cell
 use Rattle.arrow_types.specs.declared.data_type.DataType.{DataType}
-use Rattle.arrow_types.specs.declared.data_type.DataType.TheVariants.{Integer, Utf8, Bool as Flags, Decimal128, Date, Dictionary}
-use Rattle.arrow_schema.proofs.Said.{bind_ok, demand_ok}
+use Rattle.arrow_types.specs.declared.data_type.DataType.TheVariants.{Number, Utf8, Bool as Flags, Dictionary}
+use Rattle.arrow_types.specs.DataType.{cell_of}
+use Rattle.arrow_schema.proofs.Readings.{bind_ok, demand_ok}
 use Rattle.scan_base.specs.declared.value.Value.{Value}
 use Rattle.arrays.specs.declared.layout.Layout.{Layout}
 use Rattle.arrays.specs.Number.{byte_width}
@@ -16,7 +19,7 @@ use Rattle.arrays.specs.Decimals.{decimals_of}
 use Rattle.arrays.specs.Bools.{bools_of}
 use Rattle.arrays.specs.Indices.{indices_of}
 use Rattle.arrays.specs.Texts.{TextsAt, texts_stand, texts_of}
-use Rattle.arrays.specs.Buffers.{values_layout}
+use Rattle.arrays.specs.Buffers.{numbers_layout, values_layout}
 use Rattle.arrays.specs.Column.{ColumnAt}
 use Rattle.scan_base.specs.declared.fault.Fault.TheVariants.{BadBatch}
 use Rattle.scan_base.specs.Reading.{demand}
@@ -50,29 +53,28 @@ integers_room UInt16 rows n room = omega arith
 integers_room UInt32 rows n room = omega arith
 integers_room UInt64 rows n room = omega arith
 
-values_room : (t : DataType) (dictionary : List Value) (bits : Option (List ℕ)) (packed : List ℕ) (rows : ℕ) (layout : Layout) → values_layout t dictionary bits packed rows ≡ Ok layout → rows ≤ 8 * length packed
-unfolding values_layout integers_of bools_of decimals_of indices_of
-values_room (Integer integer) dictionary bits packed rows layout e =
+numbers_room : (cell : Cell) (bits : Option (List ℕ)) (packed : List ℕ) (rows : ℕ) (layout : Layout) → numbers_layout cell bits packed rows ≡ Ok layout → rows ≤ 8 * length packed
+unfolding integers_of decimals_of
+numbers_room (cell.Integer integer) bits packed rows layout e =
     let a = bind_ok (integers_of integer bits packed rows) _ layout e in
     let b = bind_ok (validity_of bits rows) _ a.0 a.1 in
     let c = bind_ok (demand (nat_le (byte_width integer * rows) (length packed)) BadBatch) _ a.0 b.2 in
     integers_room integer rows (length packed) (leb-true (byte_width integer * rows) (length packed) (demand_ok (nat_le (byte_width integer * rows) (length packed)) BadBatch c.0 c.1))
-values_room Flags dictionary bits packed rows layout e =
-    let a = bind_ok (bools_of bits packed rows) _ layout e in
-    let b = bind_ok (validity_of bits rows) _ a.0 a.1 in
-    let c = bind_ok (demand (nat_le rows (8 * length packed)) BadBatch) _ a.0 b.2 in
-    leb-true rows (8 * length packed) (demand_ok (nat_le rows (8 * length packed)) BadBatch c.0 c.1)
-values_room Decimal128 dictionary bits packed rows layout e =
+numbers_room cell.Wide bits packed rows layout e =
     let a = bind_ok (decimals_of bits packed rows) _ layout e in
     let b = bind_ok (validity_of bits rows) _ a.0 a.1 in
     let c = bind_ok (demand (nat_le (16 * rows) (length packed)) BadBatch) _ a.0 b.2 in
     let room = leb-true (16 * rows) (length packed) (demand_ok (nat_le (16 * rows) (length packed)) BadBatch c.0 c.1) in
     omega arith
-values_room Date dictionary bits packed rows layout e =
-    let a = bind_ok (integers_of Int32 bits packed rows) _ layout e in
+
+values_room : (t : DataType) (dictionary : List Value) (bits : Option (List ℕ)) (packed : List ℕ) (rows : ℕ) (layout : Layout) → values_layout t dictionary bits packed rows ≡ Ok layout → rows ≤ 8 * length packed
+unfolding values_layout bools_of indices_of
+values_room (Number kind) dictionary bits packed rows layout e = numbers_room (cell_of kind) bits packed rows layout e
+values_room Flags dictionary bits packed rows layout e =
+    let a = bind_ok (bools_of bits packed rows) _ layout e in
     let b = bind_ok (validity_of bits rows) _ a.0 a.1 in
-    let c = bind_ok (demand (nat_le (byte_width Int32 * rows) (length packed)) BadBatch) _ a.0 b.2 in
-    integers_room Int32 rows (length packed) (leb-true (byte_width Int32 * rows) (length packed) (demand_ok (nat_le (byte_width Int32 * rows) (length packed)) BadBatch c.0 c.1))
+    let c = bind_ok (demand (nat_le rows (8 * length packed)) BadBatch) _ a.0 b.2 in
+    leb-true rows (8 * length packed) (demand_ok (nat_le rows (8 * length packed)) BadBatch c.0 c.1)
 values_room (Dictionary encoding) dictionary bits packed rows layout e =
     let a = bind_ok (indices_of encoding.index bits packed dictionary rows) _ layout e in
     let b = bind_ok (validity_of bits rows) _ a.0 a.1 in
@@ -111,10 +113,8 @@ layout_room source Utf8 own bits layout h =
     let a = texts_room bits texts.offsets texts.bytes source.rows h.0 texts.slots in
     let b = length_within source.body (own 1) texts.offsets texts.cut in
     omega arith
-layout_room source (Integer integer) own bits layout h = held_room source (Integer integer) own bits layout h
+layout_room source (Number kind) own bits layout h = held_room source (Number kind) own bits layout h
 layout_room source Flags own bits layout h = held_room source Flags own bits layout h
-layout_room source Decimal128 own bits layout h = held_room source Decimal128 own bits layout h
-layout_room source Date own bits layout h = held_room source Date own bits layout h
 layout_room source (Dictionary encoding) own bits layout h = held_room source (Dictionary encoding) own bits layout h
 
 few_rows : (body : List ℕ) (source : BatchBody) (t : DataType) (node : FieldNode) (own : ℕ → Option BufferPlace) (column : ColumnAt) →

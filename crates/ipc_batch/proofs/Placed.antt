@@ -8,12 +8,14 @@ use Rattle.scan_base.specs.declared.fault.Fault.TheVariants.{BadBatch}
 use Rattle.scan_base.specs.declared.value.Value.{Value}
 use Rattle.scan_base.specs.Reading.{◌>>=◌, demand}
 use Rattle.arrow_types.specs.declared.data_type.IntegerType.{IntegerType}
-use Rattle.arrow_types.specs.declared.data_type.IntegerType.TheVariants.{Int32}
+use Rattle.arrow_types.specs.declared.data_type.Cell.{Cell}
+use Rattle.arrow_types.specs.declared.data_type.Cell.TheVariants as cell
 use Rattle.arrow_types.specs.declared.data_type.DataType.{DataType}
-use Rattle.arrow_types.specs.declared.data_type.DataType.TheVariants.{Integer, Utf8, Bool as Flags, Decimal128, Date, Dictionary}
+use Rattle.arrow_types.specs.declared.data_type.DataType.TheVariants.{Number, Utf8, Bool as Flags, Dictionary}
+use Rattle.arrow_types.specs.DataType.{cell_of}
 use Rattle.arrow_types.specs.declared.schema.Field.{Field}
 use Rattle.arrow_schema.specs.Header.{MessageAt, header_of}
-use Rattle.arrow_schema.proofs.Said.{bind_ok, demand_ok}
+use Rattle.arrow_schema.proofs.Readings.{bind_ok, demand_ok}
 use Rattle.arrays.specs.declared.layout.Layout.{Layout}
 use Rattle.arrays.specs.Number.{byte_width}
 use Rattle.arrays.specs.Validity.{validity_of}
@@ -22,7 +24,7 @@ use Rattle.arrays.specs.Decimals.{decimals_of}
 use Rattle.arrays.specs.Bools.{bools_of}
 use Rattle.arrays.specs.Texts.{TextsAt, texts_of, texts_stand}
 use Rattle.arrays.specs.Indices.{IndicesAt, indices_of, index_stands}
-use Rattle.arrays.specs.Buffers.{buffer_count, values_layout}
+use Rattle.arrays.specs.Buffers.{buffer_count, numbers_layout, values_layout}
 use Rattle.arrays.specs.Column.{ColumnAt}
 use Rattle.ipc_batch.specs.declared.parts.FieldNode.{FieldNode}
 use Rattle.ipc_batch.specs.declared.parts.BufferPlace.{BufferPlace}
@@ -78,13 +80,15 @@ texts_bad validity offsets bytes len =
     let stand = λ (bits : Option (List Bool)). texts_stand (record { validity = bits; offsets = offsets; bytes = bytes; len = len }) in
     only_then IsBad (validity_of validity len) _ (validity_bad validity len) (λ bits. only_then IsBad (demand (stand bits) BadBatch) _ (bad (stand bits)) (λ _. tt))
 
+numbers_bad : (cell : Cell) (validity : Option (List ℕ)) (values : List ℕ) (len : ℕ) → Only IsBad (numbers_layout cell validity values len)
+numbers_bad (cell.Integer integer) validity values len = only_then IsBad (integers_of integer validity values len) _ (integers_bad integer validity values len) (λ cells. tt)
+numbers_bad cell.Wide validity values len = only_then IsBad (decimals_of validity values len) _ (decimals_bad validity values len) (λ cells. tt)
+
 layout_bad : (data_type : DataType) (dictionary : List Value) (validity : Option (List ℕ)) (values : List ℕ) (len : ℕ) → Only IsBad (values_layout data_type dictionary validity values len)
 unfolding values_layout
-layout_bad (Integer integer) dictionary validity values len = only_then IsBad (integers_of integer validity values len) _ (integers_bad integer validity values len) (λ cells. tt)
+layout_bad (Number kind) dictionary validity values len = numbers_bad (cell_of kind) validity values len
 layout_bad Utf8 dictionary validity values len = refl
 layout_bad Flags dictionary validity values len = only_then IsBad (bools_of validity values len) _ (bools_bad validity values len) (λ cells. tt)
-layout_bad Decimal128 dictionary validity values len = only_then IsBad (decimals_of validity values len) _ (decimals_bad validity values len) (λ cells. tt)
-layout_bad Date dictionary validity values len = only_then IsBad (integers_of Int32 validity values len) _ (integers_bad Int32 validity values len) (λ cells. tt)
 layout_bad (Dictionary encoding) dictionary validity values len =
     only_then IsBad (indices_of encoding.index validity values dictionary len) _ (indices_bad encoding.index validity values dictionary len) (λ cells. tt)
 
@@ -134,10 +138,8 @@ front_bad : (data_type : DataType) (dictionaries : Dictionaries) (rows : ℕ) (b
     Only IsBad (front_of data_type dictionaries rows body node places)
 unfolding front_of
 front_bad Utf8 dictionaries rows body node places = texts_front_bad rows body node places
-front_bad (Integer integer) dictionaries rows body node places = values_front_bad (Integer integer) [] rows body node places
+front_bad (Number kind) dictionaries rows body node places = values_front_bad (Number kind) [] rows body node places
 front_bad Flags dictionaries rows body node places = values_front_bad Flags [] rows body node places
-front_bad Decimal128 dictionaries rows body node places = values_front_bad Decimal128 [] rows body node places
-front_bad Date dictionaries rows body node places = values_front_bad Date [] rows body node places
 front_bad (Dictionary encoding) dictionaries rows body node places =
     values_front_bad (Dictionary encoding) (values_led_to (Dictionary encoding) dictionaries) rows body node places
 
@@ -220,10 +222,8 @@ front_placed : (data_type : DataType) (dictionaries : Dictionaries) (rows : ℕ)
     front_of data_type dictionaries rows body node places ≡ Ok front → IsPlaced rows body node places (buffer_count data_type) front
 unfolding front_of
 front_placed Utf8 dictionaries rows body node places front e = texts_placed rows body node places front e
-front_placed (Integer integer) dictionaries rows body node places front e = values_placed (Integer integer) [] rows body node places front e
+front_placed (Number kind) dictionaries rows body node places front e = values_placed (Number kind) [] rows body node places front e
 front_placed Flags dictionaries rows body node places front e = values_placed Flags [] rows body node places front e
-front_placed Decimal128 dictionaries rows body node places front e = values_placed Decimal128 [] rows body node places front e
-front_placed Date dictionaries rows body node places front e = values_placed Date [] rows body node places front e
 front_placed (Dictionary encoding) dictionaries rows body node places front e =
     values_placed (Dictionary encoding) (values_led_to (Dictionary encoding) dictionaries) rows body node places front e
 

@@ -8,7 +8,8 @@ use Rattle.scan_base.specs.declared.value.Value.{Value}
 use Rattle.scan_base.specs.declared.value.Value.TheVariants.{Text}
 use Rattle.scan_base.specs.Reading.{◌>>=◌}
 use Rattle.flatbuf.specs.Place.{scalar_of, field_of, vtable_of, table_of, vector_of, element_of, items_at, structs_of, text_of}
-use Rattle.arrow_schema.specs.Fields.{table_wanted, vector_wanted, name_of, integer_of, type_of, value_type_of, childless, dictionary_of, field_in}
+use Rattle.arrow_schema.specs.Fields.{table_wanted, vector_wanted, name_of, value_type_of, childless, dictionary_of, field_in}
+use Rattle.arrow_schema.specs.TypeTables.{integer_of}
 use Rattle.arrow_schema.specs.Header.{message_of, field_at, fields_of, schema_in}
 use Rattle.arrays.specs.Number.{element_at}
 use Rattle.arrays.specs.Texts.{texts_of}
@@ -128,10 +129,10 @@ abbrev told : List (List Value)
 told = (Text (codes "a") ∷ []) ∷ (Text (codes "b") ∷ []) ∷ (Text (codes "a") ∷ []) ∷ (Text (codes "c") ∷ []) ∷ []
 
 dictionaries : rows_read None (schema_of_int8 ∷ dictionary_a ∷ indices_0 ∷ dictionary_delta_b ∷ indices_1_0 ∷ dictionary_c ∷ indices_0 ∷ []) ≡ Ok told
-unfolding scalar_of field_of vtable_of table_of vector_of element_of items_at structs_of text_of table_wanted vector_wanted message_of name_of integer_of type_of value_type_of childless dictionary_of field_in field_at fields_of schema_in element_at texts_of indices_of values_layout extended_by word_at structs_wanted buffer_at body_claimed parts_of dictionary_parts validity_at texts_in_buffers values_in_buffers front_of counts_agree schema_sent batch_parts batch_sent dictionary_sent known_after news_of chars encode_utf8 is_utf8
+unfolding scalar_of field_of vtable_of table_of vector_of element_of items_at structs_of text_of table_wanted vector_wanted message_of name_of integer_of value_type_of childless dictionary_of field_in field_at fields_of schema_in element_at texts_of indices_of values_layout extended_by word_at structs_wanted buffer_at body_claimed parts_of dictionary_parts validity_at texts_in_buffers values_in_buffers front_of counts_agree schema_sent batch_parts batch_sent dictionary_sent known_after news_of chars encode_utf8 is_utf8
 dictionaries = refl
 
 -- index 1 of one value
 index_outside : rows_read None (schema_of_int8 ∷ dictionary_a ∷ indices_1 ∷ []) ≡ Err BadBatch
-unfolding scalar_of field_of vtable_of table_of vector_of element_of items_at structs_of text_of table_wanted vector_wanted message_of name_of integer_of type_of value_type_of childless dictionary_of field_in field_at fields_of schema_in element_at texts_of indices_of values_layout extended_by word_at structs_wanted buffer_at body_claimed parts_of dictionary_parts validity_at texts_in_buffers values_in_buffers front_of counts_agree schema_sent batch_parts batch_sent dictionary_sent known_after news_of chars encode_utf8 is_utf8
+unfolding scalar_of field_of vtable_of table_of vector_of element_of items_at structs_of text_of table_wanted vector_wanted message_of name_of integer_of value_type_of childless dictionary_of field_in field_at fields_of schema_in element_at texts_of indices_of values_layout extended_by word_at structs_wanted buffer_at body_claimed parts_of dictionary_parts validity_at texts_in_buffers values_in_buffers front_of counts_agree schema_sent batch_parts batch_sent dictionary_sent known_after news_of chars encode_utf8 is_utf8
 index_outside = refl

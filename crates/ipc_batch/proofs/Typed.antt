@@ -4,9 +4,11 @@ use Rattle.scan_base.specs.declared.fault.Fault.TheVariants.{BadBatch}
 use Rattle.scan_base.specs.declared.value.Value.{Value}
 use Rattle.scan_base.specs.Reading.{◌>>=◌, demand}
 use Rattle.arrow_types.specs.declared.data_type.IntegerType.{IntegerType}
-use Rattle.arrow_types.specs.declared.data_type.IntegerType.TheVariants.{Int32}
+use Rattle.arrow_types.specs.declared.data_type.Cell.{Cell}
+use Rattle.arrow_types.specs.declared.data_type.Cell.TheVariants as cell
 use Rattle.arrow_types.specs.declared.data_type.DataType.{DataType}
-use Rattle.arrow_types.specs.declared.data_type.DataType.TheVariants.{Integer, Utf8, Bool as Flags, Decimal128, Date, Dictionary}
+use Rattle.arrow_types.specs.declared.data_type.DataType.TheVariants.{Number, Utf8, Bool as Flags, Dictionary}
+use Rattle.arrow_types.specs.DataType.{cell_of}
 use Rattle.arrow_types.specs.declared.schema.Field.{Field}
 use Rattle.arrays.specs.declared.layout.Layout.{Layout}
 use Rattle.arrays.specs.declared.layout.Layout.TheVariants as layout
@@ -17,9 +19,9 @@ use Rattle.arrays.specs.Decimals.{DecimalsAt, decimals_of}
 use Rattle.arrays.specs.Bools.{BoolsAt, bools_of}
 use Rattle.arrays.specs.Texts.{TextsAt}
 use Rattle.arrays.specs.Indices.{IndicesAt, indices_of}
-use Rattle.arrays.specs.Buffers.{values_layout}
+use Rattle.arrays.specs.Buffers.{numbers_layout, values_layout}
 use Rattle.arrays.specs.Column.{ColumnAt, whole}
-use Rattle.arrays.specs.TypedLayouts.{IsOfType, AreOfTypes}
+use Rattle.arrays.specs.TypedLayouts.{LieIn, IsOfType, AreOfTypes}
 use Rattle.ipc_batch.specs.declared.parts.FieldNode.{FieldNode}
 use Rattle.ipc_batch.specs.declared.parts.BufferPlace.{BufferPlace}
 use Rattle.ipc_batch.specs.Parts.{buffer_at}
@@ -37,26 +39,25 @@ integers_typed integer validity values len cells e =
     let same : record { integer = integer; validity = a.0; values = values; len = len } ≡ cells = cc in
     sym (ap (λ (x : IntegersAt). x.integer) same)
 
+numbers_typed : (cell : Cell) (validity : Option (List ℕ)) (values : List ℕ) (len : ℕ) (found : Layout) → numbers_layout cell validity values len ≡ Ok found → LieIn cell found
+numbers_typed (cell.Integer integer) validity values len found e =
+    let a = both (integers_of integer validity values len) (λ (cells : IntegersAt). fine (layout.Integers cells)) found e in
+    let same : layout.Integers a.0 ≡ found = let b = a.2 in cc in
+    subst (LieIn (cell.Integer integer)) same (integers_typed integer validity values len a.0 a.1)
+numbers_typed cell.Wide validity values len found e =
+    let a = both (decimals_of validity values len) (λ (cells : DecimalsAt). fine (layout.Decimals cells)) found e in
+    let same : layout.Decimals a.0 ≡ found = let b = a.2 in cc in
+    subst (LieIn cell.Wide) same tt
+
 layout_typed : (data_type : DataType) (dictionary : List Value) (validity : Option (List ℕ)) (values : List ℕ) (len : ℕ) (found : Layout) →
     values_layout data_type dictionary validity values len ≡ Ok found → IsOfType data_type found
 unfolding values_layout
-layout_typed (Integer integer) dictionary validity values len found e =
-    let a = both (integers_of integer validity values len) (λ (cells : IntegersAt). fine (layout.Integers cells)) found e in
-    let same : layout.Integers a.0 ≡ found = let b = a.2 in cc in
-    subst (IsOfType (Integer integer)) same (integers_typed integer validity values len a.0 a.1)
+layout_typed (Number kind) dictionary validity values len found e = numbers_typed (cell_of kind) validity values len found e
 layout_typed Utf8 dictionary validity values len found e = cc
 layout_typed Flags dictionary validity values len found e =
     let a = both (bools_of validity values len) (λ (cells : BoolsAt). fine (layout.Bools cells)) found e in
     let same : layout.Bools a.0 ≡ found = let b = a.2 in cc in
     subst (IsOfType Flags) same tt
-layout_typed Decimal128 dictionary validity values len found e =
-    let a = both (decimals_of validity values len) (λ (cells : DecimalsAt). fine (layout.Decimals cells)) found e in
-    let same : layout.Decimals a.0 ≡ found = let b = a.2 in cc in
-    subst (IsOfType Decimal128) same tt
-layout_typed Date dictionary validity values len found e =
-    let a = both (integers_of Int32 validity values len) (λ (cells : IntegersAt). fine (layout.Integers cells)) found e in
-    let same : layout.Integers a.0 ≡ found = let b = a.2 in cc in
-    subst (IsOfType Date) same (integers_typed Int32 validity values len a.0 a.1)
 layout_typed (Dictionary encoding) dictionary validity values len found e =
     let a = both (indices_of encoding.index validity values dictionary len) (λ (cells : IndicesAt). fine (layout.Indices cells)) found e in
     let same : layout.Indices a.0 ≡ found = let b = a.2 in cc in
@@ -94,10 +95,8 @@ front_typed : (data_type : DataType) (dictionaries : Dictionaries) (rows : ℕ) 
     front_of data_type dictionaries rows body node places ≡ Ok front → IsOfType data_type front.layout
 unfolding front_of
 front_typed Utf8 dictionaries rows body node places front e = texts_typed rows body node places front e
-front_typed (Integer integer) dictionaries rows body node places front e = values_typed (Integer integer) [] rows body node places front e
+front_typed (Number kind) dictionaries rows body node places front e = values_typed (Number kind) [] rows body node places front e
 front_typed Flags dictionaries rows body node places front e = values_typed Flags [] rows body node places front e
-front_typed Decimal128 dictionaries rows body node places front e = values_typed Decimal128 [] rows body node places front e
-front_typed Date dictionaries rows body node places front e = values_typed Date [] rows body node places front e
 front_typed (Dictionary encoding) dictionaries rows body node places front e =
     values_typed (Dictionary encoding) (values_led_to (Dictionary encoding) dictionaries) rows body node places front e
 

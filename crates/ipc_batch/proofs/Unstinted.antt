@@ -9,11 +9,13 @@ use Rattle.scan_base.specs.Reading.{◌>>=◌, demand, wanted}
 use Rattle.scan_base.specs.Lists.{repeats}
 use Rattle.flatbuf.specs.Layout.{TableAt, VectorAt}
 use Rattle.flatbuf.specs.Place.{number_at, target_of, vtable_of, field_of, scalar_at, scalar_of, led_from, through, table_of, vector_of, element_of, items_at, text_of}
-use Rattle.arrow_types.specs.declared.data_type.IntegerType.TheVariants.{Int8, Int16, Int32, Int64, UInt8, UInt16, UInt32, UInt64}
+use Rattle.arrow_types.specs.declared.data_type.NumberType.TheVariants.{Integer}
 use Rattle.arrow_types.specs.declared.data_type.DataType.{DataType}
-use Rattle.arrow_types.specs.declared.data_type.DataType.TheVariants.{Integer, Utf8, Bool as Flags, Decimal128, Date, Dictionary}
+use Rattle.arrow_types.specs.declared.data_type.DataType.TheVariants.{Number, Utf8, Bool as Flags, Dictionary}
 use Rattle.arrow_types.specs.Schema.{same_dictionary}
-use Rattle.arrow_schema.specs.Fields.{table_wanted, vector_wanted, meaning_of, name_of, integer_type, integer_of, decimal_of, date_of, type_of, value_type_of, is_bare, childless, index_of, dictionary_of, encoded, field_in}
+use Rattle.arrow_schema.specs.TypeTables.{meaning_of, signed_types, unsigned_types, integer_type, integer_of, decimal_of, date_of, type_readings}
+use Rattle.arrow_schema.proofs.Readings.{HoldOf}
+use Rattle.arrow_schema.specs.Fields.{table_wanted, vector_wanted, name_of, value_type_of, is_bare, childless, index_of, dictionary_of, encoded, field_in}
 use Rattle.arrow_schema.specs.Header.{MessageAt, header_of, body_length_of, field_at, fields_of, schema_in}
 use Rattle.arrow_schema.specs.declared.header.HeaderKind.{HeaderKind}
 use Rattle.arrow_schema.specs.declared.header.HeaderKind.TheVariants as header
@@ -126,8 +128,8 @@ name field =
     (λ found. only_then IsOther (wanted found LimitReached) _ (only_wanted IsOther found LimitReached limit) (λ name. only_then IsOther (demand (nat_lt 0 (length name) && nat_le (length name) most_name_bytes) LimitReached) _ (only_demand IsOther (nat_lt 0 (length name) && nat_le (length name) most_name_bytes) LimitReached limit) (λ _. tt)))
 
 whole_type : (signed : Bool) (bits : ℕ) → Only IsOther (integer_type signed bits)
-whole_type true bits = meaning ((8, Int8) ∷ (16, Int16) ∷ (32, Int32) ∷ (64, Int64) ∷ []) bits
-whole_type false bits = meaning ((8, UInt8) ∷ (16, UInt16) ∷ (32, UInt32) ∷ (64, UInt64) ∷ []) bits
+whole_type true bits = meaning signed_types bits
+whole_type false bits = meaning unsigned_types bits
 
 integer : (table : TableAt) → Only IsOther (integer_of table)
 unfolding integer_of
@@ -153,17 +155,24 @@ chosen : {A B : Type 0} (here : Bool) (x : A) (rest : Result A Fault) (next : A 
 chosen true x rest next one other = one
 chosen false x rest next one other = other
 
+-- what is read after what a number stands for among rows
+meant : {A B : Type 0} (rows : List (ℕ × A)) (number : ℕ) (next : A → Result B Fault) → HoldOf (λ (key : ℕ) (x : A). Only IsOther (next x)) rows → Only IsOther (meaning_of rows number >>= next)
+meant [] number next hold = unsupported
+meant (row ∷ rows) number next hold = chosen (number == row.0) row.1 (meaning_of rows number) next hold.0 (meant rows number next hold.1)
+
 value_type : (field : TableAt) → Only IsOther (value_type_of field)
-unfolding value_type_of type_of
+unfolding value_type_of
 value_type table =
     only_then IsOther (field_of table 2) _ (field table 2)
     (λ place. only_then IsOther (wanted place BadFlatbuffer) _ (only_wanted IsOther place BadFlatbuffer outside)
     (λ _. only_then IsOther (scalar_of 1 table 2 0) _ (scalar 1 table 2 0)
-    (λ number. chosen (number == 2) _ _ _ (only_then IsOther (table_wanted table 3) _ (table_has table 3) (λ found. only_then IsOther (integer_of found) _ (integer found) (λ integer. tt)))
-    (chosen (number == 5) _ _ _ (only_then IsOther (table_wanted table 3) _ (table_has table 3) (λ found. tt))
-    (chosen (number == 6) _ _ _ (only_then IsOther (table_wanted table 3) _ (table_has table 3) (λ found. tt))
-    (chosen (number == 7) _ _ _ (only_then IsOther (table_wanted table 3) _ (table_has table 3) (λ found. decimal found))
-    (chosen (number == 8) _ _ _ (only_then IsOther (table_wanted table 3) _ (table_has table 3) (λ found. date found)) unsupported)))))))
+    (λ number. meant type_readings number (λ (reading : TableAt → Result DataType Fault). table_wanted table 3 >>= reading) (
+      read (λ found. integer_of found >>= λ integer. Ok (Number (Integer integer))) (λ found. only_then IsOther (integer_of found) _ (integer found) (λ integer. tt)),
+      (read (λ found. Ok Utf8) (λ found. tt), (read (λ found. Ok Flags) (λ found. tt), (read decimal_of decimal, (read date_of date, tt)))),
+    ))))
+  where
+    read : (reading : TableAt → Result DataType Fault) → ((found : TableAt) → Only IsOther (reading found)) → Only IsOther (table_wanted table 3 >>= reading)
+    read reading each = only_then IsOther (table_wanted table 3) reading (table_has table 3) each
 
 children : (field : TableAt) → Only IsOther (childless field)
 unfolding childless
@@ -185,10 +194,8 @@ dictionary table =
 encoding : (values : DataType) (found : Option TableAt) → Only IsOther (encoded values found)
 encoding values None = tt
 encoding Utf8 (Some table) = dictionary table
-encoding (Integer width) (Some table) = unsupported
+encoding (Number kind) (Some table) = unsupported
 encoding Flags (Some table) = unsupported
-encoding Decimal128 (Some table) = unsupported
-encoding Date (Some table) = unsupported
 encoding (Dictionary other) (Some table) = unsupported
 
 column : (field : TableAt) → Only IsOther (field_in field)

@@ -11,7 +11,8 @@ use Rattle.arrow_types.specs.declared.schema.Schema.{Schema}
 use Rattle.arrow_schema.specs.declared.header.HeaderKind.{HeaderKind}
 use Rattle.arrow_schema.specs.declared.header.HeaderKind.TheVariants as kinds
 use Rattle.arrow_schema.specs.Message.{kind_number}
-use Rattle.arrow_schema.specs.Says.{HasFlag, SaysColumns}
+use Rattle.arrow_schema.specs.TypeTables.{HasFlag}
+use Rattle.arrow_schema.specs.Says.{SaysColumns}
 use Rattle.arrays.specs.declared.layout.Layout.TheVariants.{Texts}
 use Rattle.arrays.specs.Texts.{TextsAt, texts_values}
 use Rattle.arrays.specs.Column.{whole}

@@ -10,7 +10,7 @@ use Rattle.flatbuf.specs.Block.{Part, Number, Offset, little, padded, table_part
 use Rattle.flatbuf.specs.WrittenTables.{table_at}
 use Rattle.arrow_schema.specs.Header.{MessageAt, body_length_of}
 use Rattle.scan_base.specs.Limits.{most_columns}
-use Rattle.arrow_schema.specs.WrittenHeader.{flag}
+use Rattle.arrow_schema.specs.TypeTables.{flag}
 use Rattle.ipc_batch.specs.declared.parts.FieldNode.{FieldNode}
 use Rattle.ipc_batch.specs.declared.parts.BufferPlace.{BufferPlace}
 use Rattle.ipc_batch.specs.Parts.{parts_of, buffer_at}

@@ -14,7 +14,7 @@ ghost use Rattle.ipc_batch.specs.inside.PartsView.{parts_seen, front_seen};
 use crate::dictionaries::Dictionaries;
 use crate::parts::{BufferPlace, FieldNode, Parts, buffer, check_place};
 use arrays::{Column, Slots, Texts};
-use arrow_types::{DataType, Field, IntegerType};
+use arrow_types::{DataType, Field};
 use bytes::Bytes;
 use scan_base::Fault;
 use std::alloc::Global;
@@ -136,10 +136,8 @@ fn layout(
 {
     let rows = source.rows as usize;
     Ok(match data_type {
-        DataType::Integer(integer) => Slots::integers(integer, bits, packed, rows)?,
+        DataType::Number(number) => Slots::numbers(number.cell(), bits, packed, rows)?,
         DataType::Bool => Slots::bools(bits, packed, rows)?,
-        DataType::Decimal128 => Slots::decimals(bits, packed, rows)?,
-        DataType::Date => Slots::integers(IntegerType::Int32, bits, packed, rows)?,
         DataType::Dictionary(encoding) => {
             let dictionary = source.dictionaries.get(alloc, encoding.id)?;
             Slots::indices(encoding.index, bits, packed, dictionary, rows)?

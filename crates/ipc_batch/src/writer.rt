@@ -6,7 +6,7 @@ ghost use Rattle.flatbuf.specs.Block.{Number, Offset, table_part};
 ghost use Rattle.arrow_schema.specs.declared.header.HeaderKind.TheVariants.{DictionaryBatch};
 ghost use Rattle.scan_base.specs.Limits.{most_columns};
 ghost use Rattle.arrow_schema.specs.Message.{message_bytes};
-ghost use Rattle.arrow_schema.specs.WrittenHeader.{flag};
+ghost use Rattle.arrow_schema.specs.TypeTables.{flag};
 ghost use Rattle.arrays.specs.Texts.{texts_values};
 ghost use Rattle.ipc_batch.specs.WrittenMessages.{body_of, batch_buffers_written, parts_written};
 ghost use Rattle.ipc_batch.specs.WrittenMessages.{body_length};

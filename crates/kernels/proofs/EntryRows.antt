@@ -11,7 +11,7 @@ use Rattle.scan_base.specs.declared.value.Value.{Value}
 use Rattle.scan_base.specs.declared.value.Value.TheVariants.{Null}
 use Rattle.scan_base.specs.declared.comparison.Comparison.TheVariants.{Equal}
 use Rattle.scan_base.specs.declared.predicate.Operand.{Operand}
-use Rattle.scan_base.specs.declared.predicate.Operand.TheVariants.{Column, Literal, Date}
+use Rattle.scan_base.specs.declared.predicate.Operand.TheVariants.{Column, Literal}
 use Rattle.scan_base.specs.Comparison.{compared, nullness}
 use Rattle.scan_base.specs.Predicate.{Pred, conjunction, disjunction, negation, truth_test, comparing, between, membership, null_test, constant, any_equal, operand_names, operand_value, names_only, truth_of, within}
 use Rattle.scan_base.specs.Truth.{truth_and, truth_or, truth_not, truth_is, negated_if, truth_from}
@@ -32,7 +32,6 @@ operand_alone : (number : ℕ) (cell : ℕ → Value) (operand : Operand ℕ) �
     operand_value cell operand ≡ operand_value (λ (column : ℕ). cell number) operand
 operand_alone number cell (Column column) named = ap cell (eqb-true column number named)
 operand_alone number cell (Literal value) named = refl
-operand_alone number cell (Date day) named = refl
 
 items_alone : (number : ℕ) (cell : ℕ → Value) (value : Value) (items : List (Operand ℕ)) → list_all (operand_names (λ column. column == number)) items ≡ true →
     any_equal cell value items ≡ any_equal (λ (column : ℕ). cell number) value items
@@ -72,7 +71,6 @@ alone_truth number cell (constant truth) named = refl
 operand_any : (passes : ℕ → Bool) → ((column : ℕ) → passes column ≡ true) → (operand : Operand ℕ) → operand_names passes operand ≡ true
 operand_any passes all (Column column) = all column
 operand_any passes all (Literal value) = refl
-operand_any passes all (Date day) = refl
 
 items_any : (passes : ℕ → Bool) → ((column : ℕ) → passes column ≡ true) → (items : List (Operand ℕ)) → list_all (operand_names passes) items ≡ true
 items_any passes all [] = refl

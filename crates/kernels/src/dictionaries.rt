@@ -83,7 +83,7 @@ fn column_named(operand: &Operand<usize>) -> Option<usize>
 {
     match operand {
         Operand::Column(number) => Some(*number),
-        Operand::Literal(_) | Operand::Date(_) => None,
+        Operand::Literal(_) => None,
     }
 }
 
@@ -93,7 +93,7 @@ fn names_no_other(operand: &Operand<usize>, number: usize) -> bool
 {
     match operand {
         Operand::Column(column) => *column == number,
-        Operand::Literal(_) | Operand::Date(_) => true,
+        Operand::Literal(_) => true,
     }
 }
 
@@ -116,7 +116,7 @@ fn alone_in_two(left: &Operand<usize>, right: &Operand<usize>) -> Option<usize>
 {
     let found = match left {
         Operand::Column(number) => Some(*number),
-        Operand::Literal(_) | Operand::Date(_) => column_named(right),
+        Operand::Literal(_) => column_named(right),
     };
     match found {
         Some(number) if names_no_other(left, number) && names_no_other(right, number) => Some(

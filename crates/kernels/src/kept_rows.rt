@@ -97,7 +97,6 @@ pub fn select(
         ≡ filter (all_keep columns.now.columns.now columns.now.read.now
         (map pred_of predicates.now)) (range_with_len from (to - from))) }
 {
-    selection.reserve(to - from)?;
     let mut at = from;
     while at < to {
         let end = to.min(at + BLOCK_ROWS);

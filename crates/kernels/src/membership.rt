@@ -134,10 +134,6 @@ fn push_item(
             push_number(codes, integer, *number)?;
             Ok(true)
         }
-        Operand::Date(day) => {
-            push_number(codes, integer, i128::from(*day))?;
-            Ok(true)
-        }
         _ => Ok(false),
     }
 }

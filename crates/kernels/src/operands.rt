@@ -1,4 +1,4 @@
-//! Operands that are compared: columns, literals and dates. BETWEEN and IN by their comparisons.
+//! Operands that are compared: columns and literals. BETWEEN and IN by their comparisons.
 
 ghost use Rattle.std.specs.Prelude.{◌≡◌, ℕ, IsTrue, length, nat_lt, IfOk};
 ghost use Rattle.std.specs.List.{list_all};
@@ -42,7 +42,6 @@ fn side_of(operand: &Operand<usize>) -> OperandSide<'_>
     match operand {
         Operand::Column(number) => OperandSide::Column(*number),
         Operand::Literal(value) => OperandSide::Value(value.borrowed()),
-        Operand::Date(day) => OperandSide::Value(ValueRef::Int(i128::from(*day))),
     }
 }
 

@@ -1,18 +1,20 @@
 -- The tree that FROM names is well typed, and has the types of the columns of its places.
 use Rattle.std.proofs.Common.{◌≡◌, ℕ, Bool, true, false, not, if◌then◌else◌, List, [], ◌∷◌, ◌++◌, length}
 use Rattle.std.proofs.Common.{nat_lt, None, Result, Ok, Err, refl, sym, ap, subst, ◌∙◌}
+use denote.Enum.Bare.{same_true, true_same}
 use Rattle.std.specs.List.{list_all}
 use Rattle.std.proofs.lemmas.Bool.{and_from}
 use Rattle.std.proofs.lemmas.List.{length-map, map-append}
 use Rattle.arrow_types.specs.declared.data_type.DataType.{DataType}
 use Rattle.scan_base.specs.declared.fault.Fault.{Fault}
-use Rattle.scan_base.specs.declared.fault.Fault.TheVariants.{NotInSubset}
+use Rattle.scan_base.specs.declared.fault.Fault.TheVariants.{NotInSubset, TypeClash}
 use Rattle.sql_query.specs.declared.query.Equality.{Equality}
 use Rattle.sql_query.specs.declared.query.Join.{Join}
 use Rattle.sql_query.specs.declared.query.Place.{Place}
 use Rattle.table_versions.specs.Database.{Database}
 use Rattle.typed_plan.specs.declared.class.Class.{Class}
-use Rattle.typed_plan.specs.declared.class.Class.TheVariants.{Number, Text, Truth, Date}
+use Rattle.typed_plan.specs.contracts.class.Class.{the_type}
+use Rattle.typed_plan.specs.Class.{same_class, bound_class}
 use Rattle.query_binder.specs.NameRules.{crosses, equality_fault, joins_fault}
 use Rattle.typed_plan.specs.Faults.{◌then◌, must, first_in, compare_fault}
 use Rattle.query_binder.specs.NameClasses.{class_of_name}
@@ -31,22 +33,9 @@ must_none false fault e = cc
 
 -- two classes that agree do so in either order
 compare_turned : (a b : Result Class Fault) → compare_fault a b ≡ None → compare_fault b a ≡ None
-compare_turned (Ok Number) (Ok Number) e = refl
-compare_turned (Ok Number) (Ok Text) e = cc
-compare_turned (Ok Number) (Ok Truth) e = cc
-compare_turned (Ok Number) (Ok Date) e = cc
-compare_turned (Ok Text) (Ok Number) e = cc
-compare_turned (Ok Text) (Ok Text) e = refl
-compare_turned (Ok Text) (Ok Truth) e = cc
-compare_turned (Ok Text) (Ok Date) e = cc
-compare_turned (Ok Truth) (Ok Number) e = cc
-compare_turned (Ok Truth) (Ok Text) e = cc
-compare_turned (Ok Truth) (Ok Truth) e = refl
-compare_turned (Ok Truth) (Ok Date) e = cc
-compare_turned (Ok Date) (Ok Number) e = cc
-compare_turned (Ok Date) (Ok Text) e = cc
-compare_turned (Ok Date) (Ok Truth) e = cc
-compare_turned (Ok Date) (Ok Date) e = refl
+compare_turned (Ok a) (Ok b) e =
+    let one : a ≡ b = same_true the_type tt a b (must_none (same_class a b) TypeClash e) in
+    ap (λ same. must same TypeClash) (true_same the_type b a (sym one))
 compare_turned (Ok a) (Err fault) e = cc
 compare_turned (Err fault) b e = cc
 
@@ -81,7 +70,7 @@ equality_typed seam scope equality e =
     let b = class_of_name scope equality.right in
     let parts = then_none (compare_fault a b) (must (crosses seam left right) NotInSubset) e in (
       key_agrees (scope_types scope) seam left right
-          (compare_follows a b (class_of_number (scope_types scope) left) (class_of_number (scope_types scope) right)
+          (compare_follows bound_class a b (class_of_number (scope_types scope) left) (class_of_number (scope_types scope) right)
           (class_follows scope equality.left) (class_follows scope equality.right) parts.0),
       key_spans seam left right (must_none (crosses seam left right) NotInSubset parts.1),
     )

@@ -15,18 +15,18 @@ use Rattle.scan_base.specs.declared.value.Value.TheVariants.{Null, Bool as Flag,
 use Rattle.scan_base.specs.Comparison.{compared}
 use Rattle.scan_base.specs.Predicate.{Pred, cell_in}
 use Rattle.scan_base.specs.Truth.{truth_from, keeps}
-use Rattle.sql_query.specs.declared.query.ColumnName.{ColumnName}
+use Rattle.sql_query.specs.declared.query.Term.{Term}
 use Rattle.sql_query.specs.declared.query.Equality.{Equality}
 use Rattle.sql_query.specs.declared.query.Join.{Join}
 use Rattle.sql_query.specs.Sentence.{Sentence}
 use Rattle.table_versions.specs.Table.{Row}
 use Rattle.table_versions.specs.Database.{Database}
 use Rattle.typed_plan.specs.declared.plan.JoinKey.{JoinKey}
-use Rattle.typed_plan.specs.Scope.{Scope, numbered}
+use Rattle.typed_plan.specs.Scope.{Scope, numbered, term_operand}
 use Rattle.typed_plan.specs.JoinedRows.{place_columns, place_rows, scope_of, fits_on, extensions, rows_after, rows_between}
 use Rattle.typed_plan.specs.JoinedRows.{meets_where, kept_rows}
-use Rattle.typed_plan.specs.NumberedPredicates.{predicate_map}
-use Rattle.typed_plan.proofs.Numbered.{truth_of-map}
+use Rattle.typed_plan.specs.NumberedPredicates.{predicate_bind}
+use Rattle.typed_plan.proofs.Numbered.{truth_of-bind}
 use Rattle.typed_plan.specs.Plan.{Tree, joined as both, is_true, fits, joined_rows, tree_rows}
 use Rattle.query_binder.specs.PlannedTree.{place_tree, join_key, keys_of, joins_tree, from_tree, numbered_filter, where_kept}
 use Rattle.query_binder.specs.PlannedTree.{plan_for}
@@ -123,14 +123,14 @@ filter-all [] = refl
 filter-all (x ∷ xs) = ap (λ ys. x ∷ ys) (filter-all xs)
 
 -- what WHERE leaves of the rows of a tree
-where_are : (scope : Scope) (filtering : Option (Pred ColumnName)) (tree : Tree) (database : Database)
+where_are : (scope : Scope) (filtering : Option (Pred Term)) (tree : Tree) (database : Database)
     (cut : List Row → List Row) →
     tree_rows (where_kept (numbered_filter scope filtering) tree) database cut
     ≡ filter (meets_where scope filtering) (tree_rows tree database cut)
 where_are scope None tree database cut = sym (filter-all (tree_rows tree database cut))
 where_are scope (Some predicate) tree database cut =
-    filter_agree (is_true (predicate_map (numbered scope) predicate)) (meets_where scope (Some predicate))
-    (λ row. ap keeps (truth_of-map (cell_in row) (numbered scope) predicate)) (tree_rows tree database cut)
+    filter_agree (is_true (predicate_bind (term_operand scope) predicate)) (meets_where scope (Some predicate))
+    (λ row. ap keeps (truth_of-bind (cell_in row) (term_operand scope) predicate)) (tree_rows tree database cut)
 
 -- the tree gives the rows of FROM and WHERE
 pub rows_are : (query : Sentence) (database : Database) (a b : ℕ) →

@@ -5,34 +5,35 @@ use Rattle.std.proofs.lemmas.Bool.{not-true, or_parts, ne_eqb}
 use Rattle.arrow_types.specs.Answer.{answered_from}
 use Rattle.scan_base.specs.declared.fault.Fault.TheVariants.{NotInSubset}
 use Rattle.scan_base.specs.Predicate.{Pred}
-use Rattle.sql_query.specs.declared.query.ColumnName.{ColumnName}
+use Rattle.sql_query.specs.declared.query.Term.{Term}
 use Rattle.sql_query.specs.declared.query.Join.{Join}
 use Rattle.sql_query.specs.Sentence.{Sentence, is_grouped, is_all, is_left_out_whole}
 use Rattle.table_versions.specs.Database.{Database}
 use Rattle.typed_plan.specs.declared.plan.Output.{Output}
 use Rattle.query_binder.specs.NameRules.{places_fault, joins_fault, select_fault, rules_fault, fault_of}
 use Rattle.typed_plan.specs.Faults.{◌then◌, must, first_in, fault_in, predicate_fault}
-use Rattle.query_binder.specs.NameClasses.{class_of_name, filter_fault}
+use Rattle.query_binder.specs.NameClasses.{class_of_term, filter_fault}
 use Rattle.typed_plan.specs.JoinedRows.{place_columns, scope_of}
-use Rattle.typed_plan.specs.NumberedPredicates.{predicate_map}
+use Rattle.typed_plan.specs.Class.{bound_class}
+use Rattle.typed_plan.specs.NumberedPredicates.{predicate_bind}
 use Rattle.typed_plan.specs.Plan.{Tree}
 use Rattle.query_binder.specs.PlannedTree.{place_tree, joins_tree, from_tree, numbered_filter, where_kept, output_for, plan_for}
-use Rattle.typed_plan.specs.Scope.{Scope, column_of, numbered}
+use Rattle.typed_plan.specs.Scope.{Scope, column_of, term_operand}
 use Rattle.typed_plan.specs.TypedPlans.{class_of_number, is_place, output_types, HasOutput, is_grouping, IsTyped}
-use Rattle.typed_plan.proofs.ClassFollows.{predicate_follows}
+use Rattle.typed_plan.proofs.ClassFollows.{bound_follows}
 use Rattle.query_binder.proofs.PlannedJoins.{must_none, HasTypes, joins_typed}
 use Rattle.query_binder.proofs.PlannedOutput.{output_typed}
-use Rattle.query_binder.proofs.ScopeTypes.{scope_types, class_follows, place_types}
+use Rattle.query_binder.proofs.ScopeTypes.{scope_types, value_bound, term_follows, place_types}
 use Rattle.typed_plan.proofs.TypedNames.{then_none}
 
 -- a tree with the filter of a WHERE without a fault
-where_typed : (scope : Scope) (tree : Tree) (filtering : Option (Pred ColumnName)) → HasTypes scope tree →
+where_typed : (scope : Scope) (tree : Tree) (filtering : Option (Pred Term)) → HasTypes scope tree →
     filter_fault scope filtering ≡ None → HasTypes scope (where_kept (numbered_filter scope filtering) tree)
 where_typed scope tree None has e = has
 where_typed scope tree (Some predicate) has e =
-    let numbers = predicate_map (numbered scope) predicate in
-    let follows = predicate_follows (class_of_name scope) (class_of_number (scope_types scope)) (numbered scope)
-    (class_follows scope) predicate e in
+    let numbers = predicate_bind (term_operand scope) predicate in
+    let follows = bound_follows (class_of_term scope) (class_of_number (scope_types scope)) (term_operand scope)
+    bound_class value_bound (term_follows scope) predicate e in
     record {
       types = has.types;
       typed = (

@@ -5,19 +5,26 @@ use Rattle.std.proofs.Common.{arith}
 use Rattle.std.specs.Fmt.{decimal}
 use Rattle.std.proofs.lemmas.Fmt.{decimal_digit}
 use Rattle.arrow_types.specs.declared.data_type.DataType.{DataType}
-use Rattle.arrow_types.specs.declared.data_type.DataType.TheVariants.{Integer, Utf8, Bool as Flag, Decimal128, Date, Dictionary}
+use Rattle.arrow_types.specs.declared.data_type.DataType.TheVariants.{Number, Utf8, Bool as Flag, Dictionary}
+use Rattle.arrow_types.specs.declared.data_type.NumberType.TheVariants as number
+use Rattle.arrow_types.specs.declared.data_type.IntegerType.{IntegerType}
 use Rattle.arrow_types.specs.declared.data_type.IntegerType.TheVariants.{Int8, Int32, Int64, UInt64}
 use Rattle.arrow_types.specs.declared.schema.Field.{Field}
 use Rattle.arrow_types.specs.declared.schema.Schema.{Schema}
 use Rattle.scan_base.specs.declared.comparison.Comparison.TheVariants.{Less, Equal, Greater}
 use Rattle.scan_base.specs.declared.fault.Fault.TheVariants.{TableMissing, UnknownName, TypeClash, NotInSubset}
 use Rattle.scan_base.specs.declared.fault.Fault.TheVariants.{LimitReached}
+use Rattle.scan_base.specs.declared.predicate.Operand.{Operand}
 use Rattle.scan_base.specs.declared.predicate.Operand.TheVariants as operand
 use Rattle.scan_base.specs.declared.truth.Truth.TheVariants.{Unknown}
 use Rattle.scan_base.specs.declared.value.Value.{Value}
 use Rattle.scan_base.specs.declared.value.Value.TheVariants.{Null, Bool, Int, Text}
 use Rattle.scan_base.specs.Predicate.{Pred, conjunction, negation, truth_test, comparing, membership}
 use Rattle.sql_query.specs.declared.query.ColumnName.{ColumnName}
+use Rattle.sql_query.specs.declared.query.Literal.{Literal}
+use Rattle.sql_query.specs.declared.query.Literal.TheVariants as literal
+use Rattle.sql_query.specs.declared.query.Term.{Term}
+use Rattle.sql_query.specs.declared.query.Term.TheVariants as term
 use Rattle.sql_query.specs.declared.query.Expression.{Expression}
 use Rattle.sql_query.specs.declared.query.Expression.TheVariants.{Column, CountRows, Count, Sum}
 use Rattle.sql_query.specs.declared.query.Join.{Join}
@@ -45,6 +52,22 @@ of_place place name = record { place = Some place; name = name }
 abbrev a : ColumnName
 a = named (codes "a")
 
+-- a name, a number and a text, on a side of a comparison
+abbrev column : ColumnName → Operand Term
+column name = operand.Column (term.Name name)
+
+abbrev literally : Literal → Operand Term
+literally written = operand.Column (term.Literal written)
+
+abbrev whole : ℕ → Operand Term
+whole number = literally (literal.Number (pos number))
+
+abbrev string : Name → Operand Term
+string bytes = literally (literal.Text bytes)
+
+abbrev integer : IntegerType → DataType
+integer kind = Number (number.Integer kind)
+
 abbrev item : Expression → SelectItem
 item expression = record { expression = expression; alias = None }
 
@@ -54,7 +77,7 @@ place table = record { table = table; alias = None }
 abbrev from_t : Select → Sentence
 from_t selecting = record { select = selecting; first = place (codes "t"); joins = []; filter = None; group_by = [] }
 
-abbrev all_where : Pred ColumnName → Sentence
+abbrev all_where : Pred Term → Sentence
 all_where predicate = record (from_t select.All) { filter = Some predicate }
 
 abbrev join : Place → ColumnName → ColumnName → Join
@@ -81,31 +104,31 @@ t_of data_type values = table (codes "t") (field (codes "a") data_type ∷ []) (
     one_each (value ∷ rest) = (value ∷ []) ∷ one_each rest
 
 -- Int8 a = 1, NULL: NOT (a < 1000) keeps nothing, a < 1000 the 1
-abbrev small : Pred ColumnName
-small = comparing Less (operand.Column a) (operand.Literal (int 1000))
+abbrev small : Pred Term
+small = comparing Less (column a) (whole 1000)
 
-not_small : whole_meaning (all_where (negation small)) (t_of (Integer Int8) (int 1 ∷ Null ∷ [])) ≡ []
+not_small : whole_meaning (all_where (negation small)) (t_of (integer Int8) (int 1 ∷ Null ∷ [])) ≡ []
 not_small = refl
 
-is_small : whole_meaning (all_where small) (t_of (Integer Int8) (int 1 ∷ Null ∷ [])) ≡ (int 1 ∷ []) ∷ []
+is_small : whole_meaning (all_where small) (t_of (integer Int8) (int 1 ∷ Null ∷ [])) ≡ (int 1 ∷ []) ∷ []
 is_small = refl
 
 -- a = 1, NULL, 3
 abbrev three : Database
-three = t_of (Integer Int64) (int 1 ∷ Null ∷ int 3 ∷ [])
+three = t_of (integer Int64) (int 1 ∷ Null ∷ int 3 ∷ [])
 
-not_in : whole_meaning (all_where (membership true (operand.Column a) (operand.Literal (int 1) ∷ []))) three
+not_in : whole_meaning (all_where (membership true (column a) (whole 1 ∷ []))) three
     ≡ (int 3 ∷ []) ∷ []
 not_in = refl
 
 is_unknown : whole_meaning (all_where
-    (truth_test false Unknown (comparing Equal (operand.Column a) (operand.Literal (int 1))))) three ≡ (Null ∷ []) ∷ []
+    (truth_test false Unknown (comparing Equal (column a) (whole 1)))) three ≡ (Null ∷ []) ∷ []
 is_unknown = refl
 
 -- one row (a, b) = (3, NULL): a NOT IN (1, b)
 not_in_null : whole_meaning
-    (all_where (membership true (operand.Column a) (operand.Literal (int 1) ∷ operand.Column (named (codes "b")) ∷ [])))
-    (table (codes "t") (field (codes "a") (Integer Int64) ∷ field (codes "b") (Integer Int64) ∷ [])
+    (all_where (membership true (column a) (whole 1 ∷ column (named (codes "b")) ∷ [])))
+    (table (codes "t") (field (codes "a") (integer Int64) ∷ field (codes "b") (integer Int64) ∷ [])
     ((int 3 ∷ Null ∷ []) ∷ [])) ≡ []
 not_in_null = refl
 
@@ -113,21 +136,21 @@ not_in_null = refl
 abbrev totals : Sentence
 totals = from_t (select.List (item CountRows ∷ item (Count a) ∷ item (Sum a) ∷ []))
 
-of_nulls : whole_meaning totals (t_of (Integer Int64) (Null ∷ Null ∷ [])) ≡ (int 2 ∷ int 0 ∷ Null ∷ []) ∷ []
+of_nulls : whole_meaning totals (t_of (integer Int64) (Null ∷ Null ∷ [])) ≡ (int 2 ∷ int 0 ∷ Null ∷ []) ∷ []
 of_nulls = refl
 
-of_no_rows : whole_meaning totals (t_of (Integer Int64) []) ≡ (int 0 ∷ int 0 ∷ Null ∷ []) ∷ []
+of_no_rows : whole_meaning totals (t_of (integer Int64) []) ≡ (int 0 ∷ int 0 ∷ Null ∷ []) ∷ []
 of_no_rows = refl
 
 abbrev totals_named : Name → Name → Name → Schema
 totals_named one two three = record {
   fields =
-      record { name = codes "col" ++ one; nullable = false; data_type = Integer Int64 }
-      ∷ record { name = codes "col" ++ two; nullable = false; data_type = Integer Int64 }
-      ∷ record { name = codes "col" ++ three; nullable = true; data_type = Decimal128 } ∷ [];
+      record { name = codes "col" ++ one; nullable = false; data_type = integer Int64 }
+      ∷ record { name = codes "col" ++ two; nullable = false; data_type = integer Int64 }
+      ∷ record { name = codes "col" ++ three; nullable = true; data_type = Number number.Decimal } ∷ [];
 }
 
-totals_columns : result_schema totals (t_of (Integer Int64) []) ≡ totals_named (codes "1") (codes "2") (codes "3")
+totals_columns : result_schema totals (t_of (integer Int64) []) ≡ totals_named (codes "1") (codes "2") (codes "3")
 totals_columns =
     ap (λ one. totals_named one (decimal 2) (decimal 3)) (decimal_digit 1 (omega arith))
     ∙ ap (λ two. totals_named (codes "1") two (decimal 3)) (decimal_digit 2 (omega arith))
@@ -135,20 +158,20 @@ totals_columns =
 
 -- sums beyond 64 bits, and below 0
 of_greatest : whole_meaning (from_t (select.List (item (Sum a) ∷ [])))
-    (t_of (Integer UInt64) (int 18446744073709551615 ∷ int 18446744073709551615 ∷ []))
+    (t_of (integer UInt64) (int 18446744073709551615 ∷ int 18446744073709551615 ∷ []))
     ≡ (int 36893488147419103230 ∷ []) ∷ []
 of_greatest = refl
 
 of_least : whole_meaning (from_t (select.List (item (Sum a) ∷ [])))
-    (t_of (Integer Int8) (Int (negsuc 127) ∷ Int (negsuc 127) ∷ [])) ≡ (Int (negsuc 255) ∷ []) ∷ []
+    (t_of (integer Int8) (Int (negsuc 127) ∷ Int (negsuc 127) ∷ [])) ≡ (Int (negsuc 255) ∷ []) ∷ []
 of_least = refl
 
 of_none_kept : whole_meaning
     (record (from_t (select.List (item CountRows ∷ item (Sum a) ∷ []))) {
       filter =
-          Some (comparing Greater (operand.Column a) (operand.Literal (int 100)));
+          Some (comparing Greater (column a) (whole 100));
     })
-    (t_of (Integer Int64) (int 1 ∷ [])) ≡ (int 0 ∷ Null ∷ []) ∷ []
+    (t_of (integer Int64) (int 1 ∷ [])) ≡ (int 0 ∷ Null ∷ []) ∷ []
 of_none_kept = refl
 
 -- SELECT s, COUNT(*) FROM t GROUP BY s
@@ -174,7 +197,7 @@ dictionary_columns = refl
 
 -- t(a, i) = (1, 10), (1, 20); SELECT x.i, y.i FROM t AS x JOIN t AS y ON x.a = y.a
 abbrev pairs : Database
-pairs = table (codes "t") (field (codes "a") (Integer Int64) ∷ field (codes "i") (Integer Int64) ∷ [])
+pairs = table (codes "t") (field (codes "a") (integer Int64) ∷ field (codes "i") (integer Int64) ∷ [])
     ((int 1 ∷ int 10 ∷ []) ∷ (int 1 ∷ int 20 ∷ []) ∷ [])
 
 abbrev x_of : Name → ColumnName
@@ -197,7 +220,7 @@ second_half = refl
 
 -- t(a) = 1, NULL, 1; u(a) = 1, 1, NULL; SELECT * FROM t JOIN u ON t.a = u.a: nulls join nothing
 abbrev t_and_u : Database
-t_and_u = t_of (Integer Int64) (int 1 ∷ Null ∷ int 1 ∷ []) ++ table (codes "u") (field (codes "a") (Integer Int64) ∷ [])
+t_and_u = t_of (integer Int64) (int 1 ∷ Null ∷ int 1 ∷ []) ++ table (codes "u") (field (codes "a") (integer Int64) ∷ [])
     ((int 1 ∷ []) ∷ (int 1 ∷ []) ∷ (Null ∷ []) ∷ [])
 
 abbrev t_of_name : Name → ColumnName
@@ -225,7 +248,7 @@ put if_exists fields rows = record {
 }
 
 abbrev a_column : List Field
-a_column = field (codes "a") (Integer Int64) ∷ []
+a_column = field (codes "a") (integer Int64) ∷ []
 
 abbrev log : List Put
 log =
@@ -249,20 +272,20 @@ missing = refl
 no_such_column : fault_of (from_t (select.List (item (Column (named (codes "z"))) ∷ []))) three ≡ Some UnknownName
 no_such_column = refl
 
-number_and_text : fault_of (all_where (comparing Equal (operand.Column a) (operand.Literal (text (codes "x"))))) three
+number_and_text : fault_of (all_where (comparing Equal (column a) (string (codes "x")))) three
     ≡ Some TypeClash
 number_and_text = refl
 
 -- the right name is looked at before the classes
 name_before_class : fault_of (all_where
-    (comparing Equal (operand.Literal (text (codes "x"))) (operand.Column (named (codes "z"))))) three
+    (comparing Equal (string (codes "x")) (column (named (codes "z"))))) three
     ≡ Some UnknownName
 name_before_class = refl
 
 -- the left conjunct before the right one
 left_before_right : fault_of
-    (all_where (conjunction (comparing Equal (operand.Column a) (operand.Literal (text (codes "x"))))
-    (comparing Equal (operand.Column (named (codes "z"))) (operand.Literal (int 1)))))
+    (all_where (conjunction (comparing Equal (column a) (string (codes "x")))
+    (comparing Equal (column (named (codes "z"))) (whole 1))))
     three ≡ Some TypeClash
 left_before_right = refl
 
@@ -279,7 +302,7 @@ two_places = refl
 
 -- SELECT * FROM t JOIN v AS t ON t.a = t.b: two places t, whose columns have names of their own
 abbrev t_and_v : Database
-t_and_v = t_of (Integer Int64) [] ++ table (codes "v") (field (codes "b") (Integer Int64) ∷ []) []
+t_and_v = t_of (integer Int64) [] ++ table (codes "v") (field (codes "b") (integer Int64) ∷ []) []
 
 one_name_twice : rules_fault (record t_join_u {
   joins =
@@ -301,28 +324,35 @@ not_grouped_by = refl
 sum_of_texts : rules_fault (from_t (select.List (item (Sum a) ∷ []))) (t_of Utf8 []) ≡ Some TypeClash
 sum_of_texts = refl
 
-sum_of_decimals : rules_fault (from_t (select.List (item (Sum a) ∷ []))) (t_of Decimal128 []) ≡ Some TypeClash
+sum_of_decimals : rules_fault (from_t (select.List (item (Sum a) ∷ []))) (t_of (Number number.Decimal) []) ≡ Some TypeClash
 sum_of_decimals = refl
 
-sum_of_dates : rules_fault (from_t (select.List (item (Sum a) ∷ []))) (t_of Date []) ≡ Some TypeClash
+sum_of_dates : rules_fault (from_t (select.List (item (Sum a) ∷ []))) (t_of (Number number.Date) []) ≡ Some TypeClash
 sum_of_dates = refl
 
 -- ---- dates: of a class of their own
 
 -- a < DATE '1994-01-01', which is the day 8766
-abbrev before_1994 : Pred ColumnName
-before_1994 = comparing Less (operand.Column a) (operand.Date (pos 8766))
+abbrev before_1994 : Pred Term
+before_1994 = comparing Less (column a) (literally (literal.Date (pos 8766)))
 
-some_dates : whole_meaning (all_where before_1994) (t_of Date (int 8000 ∷ Null ∷ int 8766 ∷ [])) ≡ (int 8000 ∷ []) ∷ []
+some_dates : whole_meaning (all_where before_1994) (t_of (Number number.Date) (int 8000 ∷ Null ∷ int 8766 ∷ [])) ≡ (int 8000 ∷ []) ∷ []
 some_dates = refl
 
-dates : fault_of (all_where before_1994) (t_of Date []) ≡ None
+dates : fault_of (all_where before_1994) (t_of (Number number.Date) []) ≡ None
 dates = refl
 
-date_of_numbers : fault_of (all_where before_1994) (t_of (Integer Int32) []) ≡ Some TypeClash
+date_of_numbers : fault_of (all_where before_1994) (t_of (integer Int32) []) ≡ Some TypeClash
 date_of_numbers = refl
 
-text_of_dates : fault_of (all_where (comparing Equal (operand.Column a) (operand.Literal (text (codes "1994-01-01"))))) (t_of Date []) ≡ Some TypeClash
+-- a date next to a date, and next to a number
+between_dates : fault_of (all_where (comparing Less (literally (literal.Date (pos 0))) (literally (literal.Date (pos 1))))) three ≡ None
+between_dates = refl
+
+date_of_number : fault_of (all_where (comparing Less (literally (literal.Date (pos 0))) (whole 1))) three ≡ Some TypeClash
+date_of_number = refl
+
+text_of_dates : fault_of (all_where (comparing Equal (column a) (string (codes "1994-01-01")))) (t_of (Number number.Date) []) ≡ Some TypeClash
 text_of_dates = refl
 
 -- joins and groups are bound
@@ -342,7 +372,7 @@ by_both = record (from_t
     }
 
 two_keys : whole_meaning by_both
-    (table (codes "t") (field (codes "a") (Integer Int64) ∷ field (codes "i") (Integer Int64) ∷ [])
+    (table (codes "t") (field (codes "a") (integer Int64) ∷ field (codes "i") (integer Int64) ∷ [])
     ((int 1 ∷ int 10 ∷ []) ∷ (int 1 ∷ int 20 ∷ []) ∷ (int 1 ∷ int 10 ∷ []) ∷ []))
     ≡ (int 1 ∷ int 10 ∷ int 2 ∷ []) ∷ (int 1 ∷ int 20 ∷ int 1 ∷ []) ∷ []
 two_keys = refl
@@ -389,8 +419,8 @@ w_of = of_place (codes "w")
 
 -- t(a) of numbers; w(s, n), a text and a number
 abbrev t_and_w : Database
-t_and_w = t_of (Integer Int64) []
-    ++ table (codes "w") (field (codes "s") Utf8 ∷ field (codes "n") (Integer Int64) ∷ []) []
+t_and_w = t_of (integer Int64) []
+    ++ table (codes "w") (field (codes "s") Utf8 ∷ field (codes "n") (integer Int64) ∷ []) []
 
 on_fits : rules_fault t_join_u t_and_u ≡ None
 on_fits = refl
@@ -511,7 +541,7 @@ place_after_place = refl
 on_before_where : rules_fault
     (record (t_joining (place (codes "w")) (t_of_name (codes "a")) (w_of (codes "s"))) {
       filter =
-          Some (comparing Equal (operand.Column (named (codes "z"))) (operand.Literal (int 1)));
+          Some (comparing Equal (column (named (codes "z"))) (whole 1));
     })
     t_and_w ≡ Some TypeClash
 on_before_where = refl
@@ -520,7 +550,7 @@ on_before_where = refl
 where_before_group_by : rules_fault
     (record by_text {
       filter =
-          Some (comparing Equal (operand.Column a) (operand.Literal (text (codes "x"))));
+          Some (comparing Equal (column a) (string (codes "x")));
       group_by = named (codes "z") ∷ [];
     })
     three ≡ Some TypeClash
@@ -536,7 +566,7 @@ group_by_before_list = refl
 
 abbrev columns : ℕ → List Field
 columns zero = []
-columns (suc n) = field (n ∷ []) (Integer Int64) ∷ columns n
+columns (suc n) = field (n ∷ []) (integer Int64) ∷ columns n
 
 abbrev items_of_a : ℕ → List SelectItem
 items_of_a zero = []

@@ -1,6 +1,6 @@
 -- The types of the columns that the names of a query may stand for.
 use Rattle.std.proofs.Common.{◌≡◌, ◌<◌, ℕ, ◌+◌, true, false, if◌then◌else◌, List, [], ◌∷◌, map, length, nat_lt}
-use Rattle.std.proofs.Common.{Option, Some, None, option_map, Result, Ok, Err, refl, sym, ap}
+use Rattle.std.proofs.Common.{Option, Some, None, option_map, Result, Ok, Err, refl, sym, ap, slice_get}
 use Rattle.std.proofs.Common.{◌∙◌, arith}
 use Rattle.std.proofs.lemmas.Bool.{lt-ltb}
 use Rattle.std.proofs.lemmas.List.{length-map}
@@ -10,14 +10,23 @@ use Rattle.arrow_types.specs.declared.data_type.DataType.{DataType}
 use Rattle.arrow_types.specs.declared.data_type.DataType.TheVariants.{Utf8}
 use Rattle.arrow_types.specs.declared.schema.Field.{Field}
 use Rattle.scan_base.specs.declared.fault.Fault.{Fault}
+use Rattle.scan_base.specs.declared.value.Value.{Value}
+use Rattle.scan_base.specs.declared.value.Value.TheVariants as value
 use Rattle.sql_query.specs.declared.query.ColumnName.{ColumnName}
+use Rattle.sql_query.specs.declared.query.Literal.{Literal}
+use Rattle.sql_query.specs.declared.query.Literal.TheVariants as literal
+use Rattle.sql_query.specs.declared.query.Term.{Term}
+use Rattle.sql_query.specs.declared.query.Term.TheVariants as term
 use Rattle.sql_query.specs.declared.query.Place.{Place}
 use Rattle.sql_query.specs.Sentence.{place_name}
 use Rattle.table_versions.specs.Table.{Table}
 use Rattle.table_versions.specs.Database.{Database, table_at}
+use Rattle.typed_plan.specs.declared.class.Class.{Class}
+use Rattle.typed_plan.specs.Class.{literal_class, literal_value, bound_class, value_class}
 use Rattle.typed_plan.specs.Scope.{Scope, ScopeColumn, stands_for, named_numbers, the_only, column_of, numbered, number_in}
-use Rattle.typed_plan.specs.Faults.{fault_in}
-use Rattle.query_binder.specs.NameClasses.{class_at, class_of_column, class_of_name}
+use Rattle.typed_plan.specs.Scope.{term_operand}
+use Rattle.typed_plan.specs.Faults.{fault_in, operand_class}
+use Rattle.query_binder.specs.NameClasses.{class_at, class_of_column, class_of_name, class_of_term}
 use Rattle.typed_plan.specs.JoinedRows.{fields_in, place_columns}
 use Rattle.query_binder.specs.PlannedTree.{schema_in, place_tree}
 use Rattle.typed_plan.specs.TypedPlans.{types_of, tree_types, class_if_there, class_of_number}
@@ -74,18 +83,44 @@ numbered_there scope name e =
 
 -- the class of a name is that of its column's number
 pub class_follows : (scope : Scope) (name : ColumnName) →
-    Follows (class_of_name scope name) (class_of_number (scope_types scope) (numbered scope name))
+    Follows bound_class (class_of_name scope name) (class_of_number (scope_types scope) (numbered scope name))
 class_follows scope name class = of_result (column_of scope name) (meant_within scope name)
   where
     of_result : (meant : Result ℕ Fault) → ((number : ℕ) → meant ≡ Ok number → number < length scope) →
         class_of_column scope meant ≡ Ok class →
-        class_of_number (scope_types scope) (number_in meant) ≡ Ok class
+        class_of_number (scope_types scope) (number_in meant) ≡ Ok (bound_class class)
     of_result (Err fault) within e = cc
     of_result (Ok number) within e =
         let none : ScopeColumn = record { place = []; field = record { name = []; nullable = true; data_type = Utf8 } } in
         let there = slice_get-get_or scope number none (within number refl) in
+        let said : Ok (class_at (slice_get scope number)) ≡ Ok class = e in
+        let meant : class_at (slice_get scope number) ≡ class = cc in
         ap class_if_there (slice_get-map type_in scope number ∙ ap (option_map type_in) there)
-        ∙ sym (ap (λ (column : Option ScopeColumn). Ok (class_at column)) there) ∙ e
+        ∙ sym (ap (λ (column : Option ScopeColumn). Ok (bound_class (class_at column))) there)
+        ∙ ap (λ (found : Class). Ok (bound_class found)) meant
+
+-- the value of a literal has its class
+literal_bound : (l : Literal) → value_class (literal_value l) ≡ bound_class (literal_class l)
+literal_bound (literal.Text bytes) = refl
+literal_bound (literal.Truth flag) = refl
+literal_bound (literal.Number number) = refl
+literal_bound (literal.Date day) = refl
+
+-- the class of a term is that of what stands for it
+pub term_follows : (scope : Scope) (written : Term) →
+    Follows bound_class (class_of_term scope written)
+    (operand_class (class_of_number (scope_types scope)) (term_operand scope written))
+term_follows scope (term.Name name) class e = class_follows scope name class e
+term_follows scope (term.Literal l) class e =
+    let one : literal_class l ≡ class = cc in
+    ap (λ (found : Class). Ok found) (literal_bound l ∙ ap bound_class one)
+
+-- and that of a value stays
+pub value_bound : (v : Value) → bound_class (value_class v) ≡ value_class v
+value_bound value.Null = refl
+value_bound (value.Bool flag) = refl
+value_bound (value.Int number) = refl
+value_bound (value.Text bytes) = refl
 
 -- the types of a place's columns are those of its table, where it is there
 pub place_types : (database : Database) (place : Place) →

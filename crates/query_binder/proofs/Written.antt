@@ -10,7 +10,8 @@ use Rattle.std.proofs.lemmas.List.Elements.{All-nil, All-cons, All-head, All-tai
 use Rattle.std.proofs.lemmas.Option.{slice_get-get_or}
 use Rattle.std.proofs.lemmas.Str.{IsAscii-append, IsUtf8-from_ascii}
 use Rattle.arrow_types.specs.declared.data_type.DataType.{DataType}
-use Rattle.arrow_types.specs.declared.data_type.DataType.TheVariants.{Integer, Utf8, Decimal128}
+use Rattle.arrow_types.specs.declared.data_type.DataType.TheVariants.{Number, Utf8}
+use Rattle.arrow_types.specs.declared.data_type.NumberType.TheVariants.{Integer, Decimal}
 use Rattle.arrow_types.specs.declared.data_type.IntegerType.TheVariants.{Int64}
 use Rattle.arrow_types.specs.declared.schema.Field.{Field}
 use Rattle.arrow_types.specs.Answer.{answered_at, answered_from, answered_field}
@@ -50,9 +51,9 @@ field_answered place field (Some name) few f a = record { named = a; typed = ans
 -- the types of what is selected
 item_type : Scope → Expression → DataType
 item_type scope (Column name) = unwrap_or (option_map type_in (slice_get scope (numbered scope name))) Utf8
-item_type scope CountRows = Integer Int64
-item_type scope (Count name) = Integer Int64
-item_type scope (Sum name) = Decimal128
+item_type scope CountRows = Number (Integer Int64)
+item_type scope (Count name) = Number (Integer Int64)
+item_type scope (Sum name) = Number Decimal
 
 list_types : (scope : Scope) (place : ℕ) (items : List SelectItem) →
     types_of (list_fields scope place items) ≡ answered_from place (map (λ item. item_type scope item.expression) items)

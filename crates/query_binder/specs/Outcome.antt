@@ -5,11 +5,11 @@ use Rattle.scan_base.specs.declared.fault.Fault.TheVariants.{OutOfMemory}
 use Rattle.scan_base.specs.declared.predicate.Predicate.{Predicate}
 use Rattle.scan_base.specs.Predicate.{Pred}
 use Rattle.scan_base.specs.View.{pred_of}
-use Rattle.sql_query.specs.declared.query.ColumnName.{ColumnName}
+use Rattle.sql_query.specs.declared.query.Term.{Term}
 use Rattle.typed_plan.specs.Faults.{predicate_fault}
-use Rattle.query_binder.specs.NameClasses.{class_of_name}
-use Rattle.typed_plan.specs.NumberedPredicates.{predicate_map}
-use Rattle.typed_plan.specs.Scope.{Scope, numbered}
+use Rattle.query_binder.specs.NameClasses.{class_of_term}
+use Rattle.typed_plan.specs.NumberedPredicates.{predicate_bind}
+use Rattle.typed_plan.specs.Scope.{Scope, term_operand}
 
 -- Ok where there is no fault, and the value is as said; else the first fault, or want of memory
 abbrev pub Binds : {X : Type 0} → Option Fault → (X → Type 0) → Result X Fault → Type 0
@@ -22,7 +22,7 @@ Finds first IsFound (Ok x) = (first ≡ None) × IsFound x
 Finds first IsFound (Err fault) = first ≡ Some fault
 
 -- a predicate's first fault from the left, or the predicate over numbers of columns
-abbrev pub BindsPredicate : Scope → Pred ColumnName → Result (Predicate ℕ) Fault → Type 0
+abbrev pub BindsPredicate : Scope → Pred Term → Result (Predicate ℕ) Fault → Type 0
 BindsPredicate scope predicate =
-    Binds (predicate_fault (class_of_name scope) predicate)
-    (λ bound. pred_of bound ≡ predicate_map (numbered scope) predicate)
+    Binds (predicate_fault (class_of_term scope) predicate)
+    (λ bound. pred_of bound ≡ predicate_bind (term_operand scope) predicate)

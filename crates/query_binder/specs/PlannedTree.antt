@@ -3,7 +3,7 @@ use Rattle.std.specs.Prelude.{ℕ, ◌+◌, ◌==◌, nat_lt, if◌then◌else�
 use Rattle.std.specs.Prelude.{Option, Some, None}
 use Rattle.arrow_types.specs.declared.schema.Schema.{Schema}
 use Rattle.scan_base.specs.Predicate.{Pred}
-use Rattle.sql_query.specs.declared.query.ColumnName.{ColumnName}
+use Rattle.sql_query.specs.declared.query.Term.{Term}
 use Rattle.sql_query.specs.declared.query.Equality.{Equality}
 use Rattle.sql_query.specs.declared.query.Expression.{Expression}
 use Rattle.sql_query.specs.declared.query.Expression.TheVariants as expression
@@ -22,9 +22,9 @@ use Rattle.typed_plan.specs.declared.plan.Columns.TheVariants.{All, These}
 use Rattle.typed_plan.specs.declared.plan.JoinKey.{JoinKey}
 use Rattle.typed_plan.specs.declared.plan.Output.{Output}
 use Rattle.typed_plan.specs.declared.plan.Output.TheVariants.{Project, Groups}
-use Rattle.typed_plan.specs.Scope.{Scope, numbered}
+use Rattle.typed_plan.specs.Scope.{Scope, numbered, term_operand}
 use Rattle.typed_plan.specs.JoinedRows.{place_columns, scope_of}
-use Rattle.typed_plan.specs.NumberedPredicates.{predicate_map}
+use Rattle.typed_plan.specs.NumberedPredicates.{predicate_bind}
 use Rattle.typed_plan.specs.Plan.{Tree, scan, filtered, joined, PlanAt}
 use Rattle.query_binder.specs.ResultSchema.{result_schema}
 
@@ -65,9 +65,9 @@ from_tree query database =
     (place_tree database query.first) query.joins
 
 -- WHERE, over numbers of columns
-abbrev pub numbered_filter : Scope → Option (Pred ColumnName) → Option (Pred ℕ)
+abbrev pub numbered_filter : Scope → Option (Pred Term) → Option (Pred ℕ)
 numbered_filter scope None = None
-numbered_filter scope (Some predicate) = Some (predicate_map (numbered scope) predicate)
+numbered_filter scope (Some predicate) = Some (predicate_bind (term_operand scope) predicate)
 
 -- a tree with a filter above it, where there is one
 abbrev pub where_kept : Option (Pred ℕ) → Tree → Tree

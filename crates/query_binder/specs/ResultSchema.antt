@@ -3,7 +3,8 @@ use Rattle.std.specs.Prelude.{ℕ, ◌+◌, true, false, List, [], ◌∷◌, �
 use Rattle.std.specs.Prelude.{None, unwrap_or}
 use Rattle.std.specs.Prelude.{codes}
 use Rattle.std.specs.Fmt.{decimal}
-use Rattle.arrow_types.specs.declared.data_type.DataType.TheVariants.{Integer, Utf8, Decimal128}
+use Rattle.arrow_types.specs.declared.data_type.DataType.TheVariants.{Number, Utf8}
+use Rattle.arrow_types.specs.declared.data_type.NumberType.TheVariants.{Integer, Decimal}
 use Rattle.arrow_types.specs.declared.data_type.IntegerType.TheVariants.{Int64}
 use Rattle.arrow_types.specs.declared.schema.Field.{Field}
 use Rattle.arrow_types.specs.declared.schema.Schema.{Schema}
@@ -34,11 +35,11 @@ abbrev pub expression_field : Scope → ℕ → Expression → Field
 expression_field scope number (Column name) =
     field_at number (slice_get scope (numbered scope name))
 expression_field scope number CountRows =
-    record { name = aggregate_name number; nullable = false; data_type = Integer Int64 }
+    record { name = aggregate_name number; nullable = false; data_type = Number (Integer Int64) }
 expression_field scope number (Count name) =
-    record { name = aggregate_name number; nullable = false; data_type = Integer Int64 }
+    record { name = aggregate_name number; nullable = false; data_type = Number (Integer Int64) }
 expression_field scope number (Sum name) =
-    record { name = aggregate_name number; nullable = true; data_type = Decimal128 }
+    record { name = aggregate_name number; nullable = true; data_type = Number Decimal }
 
 -- the alias is the name where there is one
 abbrev pub item_field : Scope → ℕ → SelectItem → Field

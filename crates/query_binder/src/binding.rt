@@ -24,7 +24,7 @@ use crate::scope::Scope;
 use crate::selection::bind_output;
 use arrow_types::Schema;
 use scan_base::{Fault, Predicate};
-use sql_query::{ColumnName, Query};
+use sql_query::{Query, Term};
 use std::alloc::{AllocError, Global};
 use table_versions::{CatalogVersion, TableVersion};
 use typed_plan::{Output, Plan, TypedPlan};
@@ -116,7 +116,7 @@ fn bind_rest(
 fn bind_filter(
     alloc: Global,
     scope: &Scope<'_>,
-    filter: &Option<Predicate<ColumnName>>,
+    filter: &Option<Predicate<Term>>,
 ) -> Result<Option<Predicate<usize>>, Fault>
     ensures { Binds (filter_fault scope.now (option_map pred_of filter.now))
         (λ bound. option_map pred_of bound

@@ -6,7 +6,7 @@ ghost use Rattle.scan_base.specs.View.{pred_of};
 ghost use Rattle.query_binder.specs.Chain.{connected, first_predicate, link_of, links_of};
 
 use scan_base::Predicate;
-use sql_query::ColumnName;
+use sql_query::Term;
 use std::alloc::{AllocError, Global};
 
 // AND or OR.
@@ -20,7 +20,7 @@ pub(crate) enum Connective {
 #[derive(Drop)]
 pub(crate) struct ChainLink<'p> {
     pub(crate) connective: Connective,
-    pub(crate) predicate: &'p Predicate<ColumnName>,
+    pub(crate) predicate: &'p Predicate<Term>,
 }
 
 impl Connective {
@@ -45,9 +45,9 @@ impl Connective {
 
 // The first predicate of a chain. What stands after it is added to the sides, the last first.
 pub(crate) fn first_of<'p>(
-    chain: &'p Predicate<ColumnName>,
+    chain: &'p Predicate<Term>,
     sides: &mut Vec<ChainLink<'p>>,
-) -> Result<&'p Predicate<ColumnName>, AllocError>
+) -> Result<&'p Predicate<Term>, AllocError>
     ensures first { IfOk result (λ first. pred_of first.now ≡ first_predicate (pred_of chain.now)) }
     ensures behind { OnOk result (map link_of sides.new.items
         ≡ map link_of sides.old.items ++ links_of (pred_of chain.now)) }

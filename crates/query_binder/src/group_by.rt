@@ -4,10 +4,13 @@ ghost use Rattle.std.specs.Prelude.{◌≡◌, ◌==◌, ◌<◌, ◌+◌, ◌^�
 ghost use Rattle.std.specs.Prelude.{length, map, unwrap_or};
 ghost use Rattle.std.specs.List.{list_any};
 ghost use Rattle.arrow_types.specs.declared.data_type.DataType.TheVariants.{
-  Integer as IntegerColumn,
+  Number as NumberColumn,
 };
-ghost use Rattle.arrow_types.specs.declared.data_type.DataType.TheVariants.{
-  Decimal128 as DecimalColumn,
+ghost use Rattle.arrow_types.specs.declared.data_type.NumberType.TheVariants.{
+  Integer as WholeNumber,
+};
+ghost use Rattle.arrow_types.specs.declared.data_type.NumberType.TheVariants.{
+  Decimal as DecimalNumber,
 };
 ghost use Rattle.arrow_types.specs.declared.data_type.IntegerType.TheVariants.{
   Int64 as SignedLong,
@@ -28,7 +31,7 @@ ghost use Rattle.typed_plan.specs.Scope.{column_of, numbered};
 use crate::answer::answer_field;
 use crate::scope::Scope;
 use crate::selection::check_width;
-use arrow_types::{DataType, Field, IntegerType, Schema};
+use arrow_types::{DataType, Field, IntegerType, NumberType, Schema};
 use scan_base::{Fault, Items, Text};
 use sql_query::{ColumnName, Expression, SelectItem};
 use std::alloc::{AllocError, Global};
@@ -192,12 +195,8 @@ fn can_sum(data_type: DataType) -> bool
     ensures { result ≡ sums data_type }
 {
     match data_type {
-        DataType::Integer(_) => true,
-        DataType::Utf8
-        | DataType::Dictionary(_)
-        | DataType::Bool
-        | DataType::Decimal128
-        | DataType::Date => false,
+        DataType::Number(NumberType::Integer(_)) => true,
+        DataType::Number(_) | DataType::Utf8 | DataType::Dictionary(_) | DataType::Bool => false,
     }
 }
 
@@ -218,22 +217,23 @@ fn aggregate_name(alloc: Global, place: usize, alias: &Option<Text>) -> Result<T
 // The column of a COUNT.
 fn count_field(name: Text) -> Field
     ensures { result
-        ≡ record { name = name; nullable = false; data_type = IntegerColumn SignedLong } }
+        ≡ record { name = name; nullable = false; data_type = NumberColumn (WholeNumber SignedLong) } }
 {
     Field {
         name,
         nullable: false,
-        data_type: DataType::Integer(IntegerType::Int64),
+        data_type: DataType::Number(NumberType::Integer(IntegerType::Int64)),
     }
 }
 
 // The column of a SUM.
 fn sum_field(name: Text) -> Field
-    ensures { result ≡ record { name = name; nullable = true; data_type = DecimalColumn } }
+    ensures { result
+        ≡ record { name = name; nullable = true; data_type = NumberColumn DecimalNumber } }
 {
     Field {
         name,
         nullable: true,
-        data_type: DataType::Decimal128,
+        data_type: DataType::Number(NumberType::Decimal),
     }
 }

@@ -1,20 +1,21 @@
-//! Predicates whose columns are numbers, from those of names.
+//! Predicates over numbers of columns, from those over the terms of a query.
 
-ghost use Rattle.std.specs.Prelude.{◌≡◌, Ok, map};
+ghost use Rattle.std.specs.Prelude.{◌≡◌, IfOk, Ok, map};
 ghost use Rattle.scan_base.specs.Predicate.{truth_test, comparing, between, membership, null_test};
 ghost use Rattle.scan_base.specs.View.{pred_of};
-ghost use Rattle.typed_plan.specs.Scope.{numbered};
+ghost use Rattle.typed_plan.specs.Class.{literal_value};
+ghost use Rattle.typed_plan.specs.Scope.{term_operand};
 ghost use Rattle.typed_plan.specs.Faults.{operand_class, compare_fault, items_fault, fault_in};
-ghost use Rattle.query_binder.specs.NameClasses.{class_of_name};
-ghost use Rattle.typed_plan.specs.NumberedPredicates.{operand_map};
+ghost use Rattle.query_binder.specs.NameClasses.{class_of_name, class_of_term};
+ghost use Rattle.typed_plan.specs.NumberedPredicates.{operand_bind};
 ghost use Rattle.query_binder.specs.Chain.{connected};
 ghost use Rattle.query_binder.specs.Outcome.{Binds, BindsPredicate};
 
 use crate::chain::{ChainLink, Connective, first_of};
 use crate::scope::Scope;
-use scan_base::{Comparison, Fault, Items, Operand, Predicate, Truth};
-use sql_query::ColumnName;
-use std::alloc::Global;
+use scan_base::{Comparison, Fault, Items, Operand, Predicate, Truth, Value};
+use sql_query::{ColumnName, Literal, Term};
+use std::alloc::{AllocError, Global};
 use typed_plan::Class;
 
 // The class of the column that a name means.
@@ -25,13 +26,22 @@ fn name_class(scope: &Scope<'_>, name: &ColumnName) -> Result<Class, Fault>
     Ok(Class::of_type(scope.field(number).data_type))
 }
 
-fn operand_class(scope: &Scope<'_>, operand: &Operand<ColumnName>) -> Result<Class, Fault>
-    ensures { result ≡ operand_class (class_of_name scope.now) operand.now }
+// The class of a term.
+fn term_class(scope: &Scope<'_>, term: &Term) -> Result<Class, Fault>
+    ensures { result ≡ class_of_term scope.now term.now }
+{
+    match term {
+        Term::Name(name) => name_class(scope, name),
+        Term::Literal(literal) => Ok(Class::of_literal(literal)),
+    }
+}
+
+fn operand_class(scope: &Scope<'_>, operand: &Operand<Term>) -> Result<Class, Fault>
+    ensures { result ≡ operand_class (class_of_term scope.now) operand.now }
 {
     match operand {
-        Operand::Column(name) => name_class(scope, name),
+        Operand::Column(term) => term_class(scope, term),
         Operand::Literal(value) => Ok(Class::of_value(value)),
-        Operand::Date(_) => Ok(Class::Date),
     }
 }
 
@@ -46,14 +56,36 @@ fn agree(class: Class, other: Result<Class, Fault>) -> Result<(), Fault>
     }
 }
 
-fn number_operand(scope: &Scope<'_>, operand: &Operand<ColumnName>) -> Result<Operand<usize>, Fault>
-    ensures { Binds (fault_in (operand_class (class_of_name scope.now) operand.now))
-        (λ bound. bound ≡ operand_map (numbered scope.now) operand.now) result }
+// The value of a literal.
+fn bind_literal(literal: &Literal) -> Result<Value, AllocError>
+    ensures { IfOk result (λ value. value ≡ literal_value literal.now) }
+{
+    match literal {
+        Literal::Text(text) => Ok(Value::Text(text.clone()?)),
+        Literal::Truth(flag) => Ok(Value::Bool(*flag)),
+        Literal::Number(number) => Ok(Value::Int(*number)),
+        Literal::Date(day) => Ok(Value::Int(i128::from(*day))),
+    }
+}
+
+// The column that a term names, or the value of a literal.
+fn bind_term(scope: &Scope<'_>, term: &Term) -> Result<Operand<usize>, Fault>
+    ensures { Binds (fault_in (class_of_term scope.now term.now))
+        (λ bound. bound ≡ term_operand scope.now term.now) result }
+{
+    match term {
+        Term::Name(name) => Ok(Operand::Column(scope.column_of(name)?)),
+        Term::Literal(literal) => Ok(Operand::Literal(bind_literal(literal)?)),
+    }
+}
+
+fn number_operand(scope: &Scope<'_>, operand: &Operand<Term>) -> Result<Operand<usize>, Fault>
+    ensures { Binds (fault_in (operand_class (class_of_term scope.now) operand.now))
+        (λ bound. bound ≡ operand_bind (term_operand scope.now) operand.now) result }
 {
     match operand {
-        Operand::Column(name) => Ok(Operand::Column(scope.column_of(name)?)),
+        Operand::Column(term) => bind_term(scope, term),
         Operand::Literal(value) => Ok(Operand::Literal(value.copy()?)),
-        Operand::Date(day) => Ok(Operand::Date(*day)),
     }
 }
 
@@ -62,10 +94,10 @@ fn number_items(
     alloc: Global,
     scope: &Scope<'_>,
     class: Class,
-    items: &[Operand<ColumnName>],
+    items: &[Operand<Term>],
 ) -> Result<Items<Operand<usize>>, Fault>
-    ensures { Binds (items_fault (class_of_name scope.now) (Ok class) items.now)
-        (λ bound. bound ≡ map (operand_map (numbered scope.now)) items.now) result }
+    ensures { Binds (items_fault (class_of_term scope.now) (Ok class) items.now)
+        (λ bound. bound ≡ map (operand_bind (term_operand scope.now)) items.now) result }
 {
     let mut bound = Items::new(alloc);
     for item in items {
@@ -79,8 +111,8 @@ fn number_items(
 fn number_comparison(
     scope: &Scope<'_>,
     comparison: Comparison,
-    left: &Operand<ColumnName>,
-    right: &Operand<ColumnName>,
+    left: &Operand<Term>,
+    right: &Operand<Term>,
 ) -> Result<Predicate<usize>, Fault>
     ensures { BindsPredicate scope.now (comparing comparison left.now right.now) result }
 {
@@ -96,9 +128,9 @@ fn number_comparison(
 fn number_between(
     scope: &Scope<'_>,
     negated: bool,
-    operand: &Operand<ColumnName>,
-    low: &Operand<ColumnName>,
-    high: &Operand<ColumnName>,
+    operand: &Operand<Term>,
+    low: &Operand<Term>,
+    high: &Operand<Term>,
 ) -> Result<Predicate<usize>, Fault>
     ensures { BindsPredicate scope.now (between negated operand.now low.now high.now) result }
 {
@@ -118,8 +150,8 @@ fn number_in(
     alloc: Global,
     scope: &Scope<'_>,
     negated: bool,
-    operand: &Operand<ColumnName>,
-    items: &[Operand<ColumnName>],
+    operand: &Operand<Term>,
+    items: &[Operand<Term>],
 ) -> Result<Predicate<usize>, Fault>
     ensures { BindsPredicate scope.now (membership negated operand.now items.now) result }
 {
@@ -135,7 +167,7 @@ fn number_in(
 fn number_null_test(
     scope: &Scope<'_>,
     negated: bool,
-    operand: &Operand<ColumnName>,
+    operand: &Operand<Term>,
 ) -> Result<Predicate<usize>, Fault>
     ensures { BindsPredicate scope.now (null_test negated operand.now) result }
 {
@@ -148,7 +180,7 @@ fn number_null_test(
 pub(crate) fn number_predicate(
     alloc: Global,
     scope: &Scope<'_>,
-    predicate: &Predicate<ColumnName>,
+    predicate: &Predicate<Term>,
 ) -> Result<Predicate<usize>, Fault>
     ensures { BindsPredicate scope.now (pred_of predicate.now) result }
 {
@@ -192,7 +224,7 @@ fn number_truth_test(
     scope: &Scope<'_>,
     negated: bool,
     tested: Truth,
-    predicate: &Predicate<ColumnName>,
+    predicate: &Predicate<Term>,
 ) -> Result<Predicate<usize>, Fault>
     ensures { BindsPredicate scope.now (truth_test negated tested (pred_of predicate.now)) result }
 {
@@ -211,8 +243,8 @@ fn number_chain(
     alloc: Global,
     scope: &Scope<'_>,
     connective: Connective,
-    left: &Predicate<ColumnName>,
-    right: &Predicate<ColumnName>,
+    left: &Predicate<Term>,
+    right: &Predicate<Term>,
 ) -> Result<Predicate<usize>, Fault>
     ensures { BindsPredicate scope.now
         (connected connective (pred_of left.now) (pred_of right.now)) result }

@@ -1,7 +1,8 @@
 //! Groups of two parts of rows, of which those of the second are merged after those of the first.
 
 ghost use Rattle.std.specs.Prelude.{◌≡◌, ◌≤◌, ◌<◌, ◌∷◌, [], All, IfOk, None, length};
-ghost use Rattle.arrow_types.specs.declared.data_type.DataType.TheVariants.{Integer};
+ghost use Rattle.arrow_types.specs.declared.data_type.DataType.TheVariants.{Number};
+ghost use Rattle.arrow_types.specs.declared.data_type.NumberType.TheVariants.{Integer};
 ghost use Rattle.arrow_types.specs.declared.data_type.IntegerType.TheVariants.{Int64};
 ghost use Rattle.arrays.specs.Batch.{BatchAt};
 ghost use Rattle.arrays.specs.TypedLayouts.{AreOf};
@@ -10,7 +11,7 @@ ghost use Rattle.grouping.specs.FedRows.{AreTyped, HasItems};
 use crate::rows::push_rows;
 use array_select::{Selection, column_of_int64s};
 use arrays::{Batch, Column};
-use arrow_types::{DataType, IntegerType};
+use arrow_types::{DataType, IntegerType, NumberType};
 use grouping::{Answers, Grouping, Groups};
 use scan_base::{Fault, HashSeed};
 use std::alloc::{AllocError, Global};
@@ -18,8 +19,8 @@ use typed_plan::Aggregate;
 use work_watch::NoWatch;
 
 static TYPES: [DataType; 2] = [
-    DataType::Integer(IntegerType::Int64),
-    DataType::Integer(IntegerType::Int64),
+    DataType::Number(NumberType::Integer(IntegerType::Int64)),
+    DataType::Number(NumberType::Integer(IntegerType::Int64)),
 ];
 
 static KEY: [usize; 1] = [0];
@@ -63,7 +64,7 @@ fn rows_of(alloc: Global, words: &str) -> Result<Vec<Row>, Fault>
 // The column of their keys.
 fn keys_of(alloc: Global, rows: &[Row]) -> Result<Column, AllocError>
     ensures len { IfOk result (λ column. column.len ≡ length rows.now) }
-    ensures typed { IfOk result (λ column. AreOf (Integer Int64 ∷ []) (column ∷ [])) }
+    ensures typed { IfOk result (λ column. AreOf (Number (Integer Int64) ∷ []) (column ∷ [])) }
 {
     let keys: Vec<Option<i64>> = rows.iter().map(|row| row.key).collect(alloc)?;
     column_of_int64s(alloc, &keys)
@@ -72,7 +73,7 @@ fn keys_of(alloc: Global, rows: &[Row]) -> Result<Column, AllocError>
 // The column of their numbers.
 fn numbers_of(alloc: Global, rows: &[Row]) -> Result<Column, AllocError>
     ensures len { IfOk result (λ column. column.len ≡ length rows.now) }
-    ensures typed { IfOk result (λ column. AreOf (Integer Int64 ∷ []) (column ∷ [])) }
+    ensures typed { IfOk result (λ column. AreOf (Number (Integer Int64) ∷ []) (column ∷ [])) }
 {
     let numbers: Vec<Option<i64>> = rows.iter().map(|row| row.number).collect(alloc)?;
     column_of_int64s(alloc, &numbers)
@@ -82,7 +83,8 @@ fn numbers_of(alloc: Global, rows: &[Row]) -> Result<Column, AllocError>
 fn batch_of(alloc: Global, words: &str) -> Result<Batch, Fault>
     ensures few { IfOk result (λ batch. batch.rows ≤ 1000) }
     ensures typed { IfOk result
-        (λ (batch : BatchAt). AreOf (Integer Int64 ∷ Integer Int64 ∷ []) batch.columns) }
+        (λ (batch : BatchAt). AreOf (Number (Integer Int64) ∷ Number (Integer Int64) ∷ [])
+        batch.columns) }
 {
     let rows = rows_of(alloc, words)?;
     let mut columns = Vec::new(alloc);
@@ -94,7 +96,8 @@ fn batch_of(alloc: Global, words: &str) -> Result<Batch, Fault>
 // The batches of both parts, which a stroke separates.
 fn batches_of(alloc: Global, case: &str) -> Result<[Batch; 2], Fault>
     ensures few { IfOk result (λ batches. All (λ (batch : BatchAt). batch.rows ≤ 1000) batches) }
-    ensures typed { IfOk result (AreTyped (Integer Int64 ∷ Integer Int64 ∷ [])) }
+    ensures typed { IfOk result
+        (AreTyped (Number (Integer Int64) ∷ Number (Integer Int64) ∷ [])) }
 {
     let (first, second) = case.split_once('/').unwrap_or((case, ""));
     let first = batch_of(alloc, first)?;

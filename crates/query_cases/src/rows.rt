@@ -7,6 +7,7 @@ use scan_exec::Scan;
 use sql_parse::parse;
 use std::alloc::{AllocError, Global};
 use table_versions::CatalogVersion;
+use told_rows::push_type;
 
 // What a scan gave: the cells of its rows, how many batches, and how many batches were opened.
 #[derive(Drop)]
@@ -130,9 +131,10 @@ pub fn columns(alloc: Global, catalog: &CatalogVersion, sql: &str) -> Result<Str
     let plan = bind(alloc, &parse(alloc, sql)?, catalog)?;
     let mut told = String::new(alloc);
     for field in plan.schema().fields.as_slice() {
-        let (name, data_type, nullable) = (field.name.as_str(), field.data_type, field.nullable);
-        let field = format!(in alloc; "{name} {data_type:?} {nullable};")?;
-        told.push_str(field.as_str())?;
+        told.push_str(field.name.as_str())?;
+        told.push(' ')?;
+        push_type(&mut told, field.data_type)?;
+        told.push_str(if field.nullable { " true;" } else { " false;" })?;
     }
     Ok(told)
 }

@@ -28,7 +28,6 @@ module _ (f : ℕ → ℕ) where
   none_of_operand : (o : Operand ℕ) → operand_names (λ column. false) (operand_map f o) ≡ operand_names (λ column. false) o
   none_of_operand (operand.Column column) = refl
   none_of_operand (operand.Literal value) = refl
-  none_of_operand (operand.Date day) = refl
 
   none_of_items : (items : List (Operand ℕ)) → list_all (operand_names (λ column. false)) (map (operand_map f) items) ≡ list_all (operand_names (λ column. false)) items
   none_of_items [] = refl

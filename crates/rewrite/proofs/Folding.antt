@@ -15,7 +15,6 @@ module _ {C : Type 0} (one other : C → Value) where
   operand_same : (o : Operand C) → operand_names (λ column. false) o ≡ true → operand_value one o ≡ operand_value other o
   operand_same (operand.Column column) h = absurd (true≢false (sym h))
   operand_same (operand.Literal value) h = refl
-  operand_same (operand.Date day) h = refl
 
   items_same : (value : Value) (items : List (Operand C)) → list_all (operand_names (λ column. false)) items ≡ true →
       any_equal one value items ≡ any_equal other value items

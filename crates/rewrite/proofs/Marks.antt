@@ -104,7 +104,6 @@ marked_operand : (o : Operand ℕ) (uses : List Bool) → Marked uses (with_oper
 marked_operand (operand.Column column) uses =
     marked_as uses (with_column column uses) (λ n. column == n) (λ n. not (not (column == n))) (λ n. not_not (column == n)) (marked_column column uses)
 marked_operand (operand.Literal value) uses = marked_none uses
-marked_operand (operand.Date day) uses = marked_none uses
 
 marked_operands : (os : List (Operand ℕ)) (uses : List Bool) → Marked uses (with_operands os uses) (λ n. not (list_all (operand_names (others n)) os))
 marked_operands [] uses = marked_none uses

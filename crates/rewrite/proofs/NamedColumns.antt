@@ -15,7 +15,6 @@ module _ {C D : Type 0} (test : D → Bool) (f : C → D) where
   operand_names-map : (o : Operand C) → operand_names test (operand_map f o) ≡ operand_names (λ c. test (f c)) o
   operand_names-map (operand.Column column) = refl
   operand_names-map (operand.Literal value) = refl
-  operand_names-map (operand.Date day) = refl
 
   items_name-map : (items : List (Operand C)) → list_all (operand_names test) (map (operand_map f) items) ≡ list_all (operand_names (λ c. test (f c))) items
   items_name-map [] = refl
@@ -39,7 +38,6 @@ module _ {C : Type 0} (used one other : C → Bool) (same : (c : C) → used c �
   operand_agrees : (o : Operand C) → operand_names used o ≡ true → operand_names one o ≡ operand_names other o
   operand_agrees (operand.Column column) h = same column h
   operand_agrees (operand.Literal value) h = refl
-  operand_agrees (operand.Date day) h = refl
 
   items_agree : (items : List (Operand C)) → list_all (operand_names used) items ≡ true →
       list_all (operand_names one) items ≡ list_all (operand_names other) items
@@ -115,7 +113,6 @@ module _ (there test : ℕ → Bool) where
   operand_passes (operand.Column column) h all =
       all column h (not_from_false (others column column) (not_from_true (column == column) (eq-eqb column column refl)))
   operand_passes (operand.Literal value) h all = refl
-  operand_passes (operand.Date day) h all = refl
 
   items_pass : (items : List (Operand ℕ)) → list_all (operand_names there) items ≡ true →
       Passes (λ n. not (list_all (operand_names (others n)) items)) → list_all (operand_names test) items ≡ true

@@ -14,7 +14,6 @@ module _ {C : Type 0} (test : C → Bool) (one other : C → Value) (same : (c :
   operand_agrees : (o : Operand C) → operand_names test o ≡ true → operand_value one o ≡ operand_value other o
   operand_agrees (operand.Column column) h = same column h
   operand_agrees (operand.Literal value) h = refl
-  operand_agrees (operand.Date day) h = refl
 
   items_agree : (value : Value) (items : List (Operand C)) → list_all (operand_names test) items ≡ true →
       any_equal one value items ≡ any_equal other value items
@@ -63,7 +62,6 @@ module _ {C : Type 0} (strong weak : C → Bool) (so : (c : C) → strong c ≡ 
   operand_weaker : (o : Operand C) → operand_names strong o ≡ true → operand_names weak o ≡ true
   operand_weaker (operand.Column column) h = so column h
   operand_weaker (operand.Literal value) h = refl
-  operand_weaker (operand.Date day) h = refl
 
   items_weaker : (items : List (Operand C)) → list_all (operand_names strong) items ≡ true → list_all (operand_names weak) items ≡ true
   items_weaker [] h = refl

@@ -23,7 +23,6 @@ module _ {C : Type 0} (test : C → Bool) (f g : C → Result Class Fault) (same
   class_agrees : (o : Operand C) → operand_names test o ≡ true → operand_class f o ≡ operand_class g o
   class_agrees (operand.Column column) h = same column h
   class_agrees (operand.Literal value) h = refl
-  class_agrees (operand.Date day) h = refl
 
   items_fault_agrees : (a b : Result Class Fault) → a ≡ b → (items : List (Operand C)) → list_all (operand_names test) items ≡ true →
       items_fault f a items ≡ items_fault g b items

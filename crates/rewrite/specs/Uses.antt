@@ -2,7 +2,7 @@
 use Rattle.std.specs.Prelude.{ℕ, Bool, true, false, List, [], ◌∷◌, ◌++◌, length, take, drop}
 use Rattle.std.specs.Prelude.{replicate, slice_set}
 use Rattle.scan_base.specs.declared.predicate.Operand.{Operand}
-use Rattle.scan_base.specs.declared.predicate.Operand.TheVariants.{Column, Literal, Date}
+use Rattle.scan_base.specs.declared.predicate.Operand.TheVariants.{Column, Literal}
 use Rattle.scan_base.specs.Predicate.{Pred, conjunction, disjunction, negation, truth_test}
 use Rattle.scan_base.specs.Predicate.{comparing, between, membership, null_test, constant}
 use Rattle.rewrite.specs.Places.{tree_width}
@@ -27,7 +27,6 @@ with_uses (number ∷ numbers) uses = with_uses numbers (with_column number uses
 abbrev pub with_operand : Operand ℕ → List Bool → List Bool
 with_operand (Column number) uses = with_column number uses
 with_operand (Literal value) uses = uses
-with_operand (Date day) uses = uses
 
 abbrev pub with_operands : List (Operand ℕ) → List Bool → List Bool
 with_operands [] uses = uses

@@ -54,7 +54,7 @@ fn operand_names<T: ColumnTest>(operand: &Operand<usize>, test: &T) -> bool
 {
     match operand {
         Operand::Column(column) => test.passes(*column),
-        Operand::Literal(_) | Operand::Date(_) => true,
+        Operand::Literal(_) => true,
     }
 }
 

@@ -34,7 +34,7 @@ fn is_literal(operand: &Operand<usize>) -> bool
 {
     match operand {
         Operand::Column(_) => false,
-        Operand::Literal(_) | Operand::Date(_) => true,
+        Operand::Literal(_) => true,
     }
 }
 

@@ -30,7 +30,7 @@ fn renumber_operand<N: NewNumbers>(operand: &mut Operand<usize>, numbers: &N)
 {
     match operand {
         Operand::Column(column) => *column = numbers.number(*column),
-        Operand::Literal(_) | Operand::Date(_) => {}
+        Operand::Literal(_) => {}
     }
 }
 

@@ -36,7 +36,7 @@ fn mark_operand(uses: &mut [bool], operand: &Operand<usize>)
 {
     match operand {
         Operand::Column(column) => mark(uses, *column),
-        Operand::Literal(_) | Operand::Date(_) => {}
+        Operand::Literal(_) => {}
     }
 }
 

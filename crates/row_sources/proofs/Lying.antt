@@ -2,17 +2,13 @@
 use Rattle.std.proofs.Common.{◌≡◌, ℕ, zero, suc, List, [], ◌∷◌, ◌++◌, map, inl, inr, refl, ap, ◌∙◌}
 use Rattle.std.specs.List.{AllZip}
 use Rattle.arrow_types.specs.declared.data_type.DataType.{DataType}
-use Rattle.arrow_types.specs.declared.data_type.DataType.TheVariants.{Integer, Utf8, Bool as Flag, Decimal128, Date, Dictionary}
+use Rattle.arrow_types.specs.declared.data_type.DataType.TheVariants.{Dictionary}
 use Rattle.arrow_types.specs.Answer.{copied_type, LiesAs}
 use Rattle.typed_plan.specs.TypedPlans.{type_at}
 
 copied_twice : (t : DataType) → copied_type (copied_type t) ≡ copied_type t
-copied_twice (Integer integer) = refl
-copied_twice Utf8 = refl
-copied_twice Flag = refl
-copied_twice Decimal128 = refl
-copied_twice Date = refl
 copied_twice (Dictionary encoding) = refl
+copied_twice other = refl
 
 -- what is copied lies as before
 pub lies_copied : (t lies : DataType) → LiesAs t lies → LiesAs t (copied_type lies)

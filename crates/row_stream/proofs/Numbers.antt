@@ -5,7 +5,7 @@ use Rattle.std.proofs.lemmas.List.{length-take, take_more}
 use Rattle.std.proofs.lemmas.List.Elements.{All-nil, All-cons, All-head, All-tail}
 use Rattle.scan_base.specs.Limits.{most_columns}
 use Rattle.arrow_types.specs.declared.data_type.DataType.{DataType}
-use Rattle.arrow_types.specs.declared.data_type.DataType.TheVariants.{Integer, Utf8, Bool as Flags, Decimal128, Date, Dictionary}
+use Rattle.arrow_types.specs.declared.data_type.DataType.TheVariants.{Dictionary}
 use Rattle.arrow_types.specs.declared.data_type.DictionaryEncoding.{DictionaryEncoding}
 use Rattle.arrow_types.specs.declared.schema.Field.{Field}
 use Rattle.arrow_types.specs.declared.schema.Schema.{Schema}
@@ -64,12 +64,8 @@ numbered_is_schema schema is = record {
 }
 
 one_numbered : (number : ℕ) (t : DataType) → IsNumbered number (answered_at number t)
-one_numbered number (Integer integer) = tt
-one_numbered number Utf8 = tt
-one_numbered number Flags = tt
-one_numbered number Decimal128 = tt
-one_numbered number Date = tt
 one_numbered number (Dictionary encoding) = (refl, refl)
+one_numbered number other = tt
 
 -- and each dictionary has its number
 pub all_numbered : (number : ℕ) (fields : List Field) → AreNumbered number (numbered_from number fields)
@@ -80,18 +76,11 @@ all_numbered number (field ∷ fields) = (one_numbered number field.data_type, a
 
 texts_by : (encoding : DictionaryEncoding) (known : Layout) → IsOfType (Dictionary encoding) known → IsTextLayout known
 texts_by encoding (layout.Indices cells) is = tt
-texts_by encoding (layout.Texts cells) is = absurd is
-texts_by encoding (layout.Integers cells) is = absurd is
-texts_by encoding (layout.Decimals cells) is = absurd is
-texts_by encoding (layout.Bools cells) is = absurd is
+texts_by encoding _ is = absurd is
 
 one_dressable : (t : DataType) (column : ColumnAt) → IsOfType t column.layout → IsDressable t column
-one_dressable (Integer integer) column is = is
-one_dressable Utf8 column is = is
-one_dressable Flags column is = is
-one_dressable Decimal128 column is = is
-one_dressable Date column is = is
 one_dressable (Dictionary encoding) column is = texts_by encoding column.layout is
+one_dressable other column is = is
 
 -- they can be dressed
 pub typed_dressable : (fields : List Field) (columns : List ColumnAt) → AreOfTypes fields columns → AreDressable fields columns

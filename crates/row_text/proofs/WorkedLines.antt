@@ -3,10 +3,11 @@ use Rattle.std.proofs.Common.{◌≡◌, ℕ, pos, negsuc, true, false, List, []
 use Rattle.std.specs.Fmt.{digits}
 use Rattle.scan_base.specs.declared.value.Value.{Value}
 use Rattle.scan_base.specs.declared.value.Value.TheVariants.{Null, Bool as Flag, Int, Text}
-use Rattle.arrow_types.specs.declared.data_type.DataType.TheVariants.{Utf8, Decimal128, Date}
+use Rattle.arrow_types.specs.declared.data_type.DataType.TheVariants.{Number, Utf8}
+use Rattle.arrow_types.specs.declared.data_type.NumberType.TheVariants.{Decimal, Date}
 use Rattle.arrow_types.specs.declared.schema.Field.{Field}
 use Rattle.arrow_types.specs.declared.schema.Schema.{Schema}
-use Rattle.calendar.proofs.Rows.{row_shown, before_shown}
+use Rattle.number_words.proofs.Rows.{row_literal, before_literal}
 use Rattle.row_text.specs.Rows.{names_row, values_row}
 use Rattle.row_text.specs.Lines.{line_format, lines_of, name_line, quoted}
 
@@ -15,7 +16,7 @@ use Rattle.row_text.specs.Lines.{line_format, lines_of, name_line, quoted}
 abbrev counts : Schema
 counts = record {
   fields = record { name = codes "s"; nullable = true; data_type = Utf8 }
-      ∷ record { name = codes "col2"; nullable = false; data_type = Decimal128 } ∷ [];
+      ∷ record { name = codes "col2"; nullable = false; data_type = Number Decimal } ∷ [];
 }
 
 abbrev groups : List (List Value)
@@ -49,13 +50,13 @@ spelled = refl
 -- ---- dates: a number of a column of dates is a day
 
 abbrev dates : List Field
-dates = record { name = codes "d"; nullable = true; data_type = Date } ∷ []
+dates = record { name = codes "d"; nullable = true; data_type = Number Date } ∷ []
 
 date : values_row (line_format dates) (Int (pos 8766) ∷ []) ≡ codes "DATE '1994-01-01'\n"
-date = ap (λ (text : List ℕ). text ++ codes "\n") row_shown
+date = ap (λ (text : List ℕ). text ++ codes "\n") row_literal
 
 before_the_years : values_row (line_format dates) (Int (negsuc 719162) ∷ []) ≡ codes "DATE(-719163)\n"
-before_the_years = ap (λ (text : List ℕ). text ++ codes "\n") before_shown
+before_the_years = ap (λ (text : List ℕ). text ++ codes "\n") before_literal
 
 no_date : values_row (line_format dates) (Null ∷ []) ≡ codes "NULL\n"
 no_date = refl

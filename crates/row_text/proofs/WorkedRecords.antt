@@ -5,10 +5,11 @@ use Rattle.std.specs.Fmt.{digits}
 use Rattle.csv.specs.Writing.{escaped}
 use Rattle.scan_base.specs.declared.value.Value.{Value}
 use Rattle.scan_base.specs.declared.value.Value.TheVariants.{Null, Bool as Flag, Int, Text}
-use Rattle.arrow_types.specs.declared.data_type.DataType.TheVariants.{Utf8, Decimal128, Date}
+use Rattle.arrow_types.specs.declared.data_type.DataType.TheVariants.{Number, Utf8}
+use Rattle.arrow_types.specs.declared.data_type.NumberType.TheVariants.{Decimal, Date}
 use Rattle.arrow_types.specs.declared.schema.Field.{Field}
 use Rattle.arrow_types.specs.declared.schema.Schema.{Schema}
-use Rattle.calendar.proofs.Rows.{row_within, before_within}
+use Rattle.number_words.proofs.Rows.{row_form, before_form}
 use Rattle.row_text.specs.Rows.{values_row}
 use Rattle.row_text.specs.Records.{csv_format, records_of}
 
@@ -17,7 +18,7 @@ use Rattle.row_text.specs.Records.{csv_format, records_of}
 abbrev counts : Schema
 counts = record {
   fields = record { name = codes "town, old"; nullable = true; data_type = Utf8 }
-      ∷ record { name = codes "col2"; nullable = false; data_type = Decimal128 } ∷ [];
+      ∷ record { name = codes "col2"; nullable = false; data_type = Number Decimal } ∷ [];
 }
 
 abbrev groups : List (List Value)
@@ -61,15 +62,15 @@ nulls = refl
 -- ---- dates: a number of a column of dates is a day
 
 abbrev dates : List Field
-dates = record { name = codes "d"; nullable = true; data_type = Date } ∷ record { name = codes "k"; nullable = true; data_type = Utf8 } ∷ []
+dates = record { name = codes "d"; nullable = true; data_type = Number Date } ∷ record { name = codes "k"; nullable = true; data_type = Utf8 } ∷ []
 
 date : values_row (csv_format dates) (Int (pos 8766) ∷ Null ∷ []) ≡ codes "1994-01-01,\r\n"
 unfolding digits
-date = ap (λ (date : Option (List ℕ)). unwrap_or date (codes "8766") ++ codes ",\r\n") row_within
+date = ap (λ (date : Option (List ℕ)). unwrap_or date (codes "8766") ++ codes ",\r\n") row_form
 
 before_the_years : values_row (csv_format dates) (Int (negsuc 719162) ∷ Null ∷ []) ≡ codes "-719163,\r\n"
 unfolding digits
-before_the_years = ap (λ (date : Option (List ℕ)). unwrap_or date (codes "-719163") ++ codes ",\r\n") before_within
+before_the_years = ap (λ (date : Option (List ℕ)). unwrap_or date (codes "-719163") ++ codes ",\r\n") before_form
 
 no_date : values_row (csv_format dates) (Null ∷ Int (pos 1) ∷ []) ≡ codes ",1\r\n"
 unfolding digits

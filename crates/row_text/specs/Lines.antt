@@ -2,7 +2,7 @@
 -- lines of names.
 use Rattle.std.specs.Prelude.{ℕ, ◌==◌, List, [], ◌∷◌, ◌++◌, codes, if◌then◌else◌}
 use Rattle.std.specs.List.{flat_map}
-use Rattle.calendar.specs.DateText.{date_shown}
+use Rattle.number_words.specs.NumberTexts.{literal_text}
 use Rattle.scan_base.specs.declared.value.Value.{Value}
 use Rattle.arrow_types.specs.declared.schema.Field.{Field}
 use Rattle.arrow_types.specs.declared.schema.Schema.{Schema}
@@ -35,7 +35,7 @@ line_notation = record {
   null = codes "NULL";
   truth = λ flag. if flag then codes "TRUE" else codes "FALSE";
   text = quoted;
-  day = date_shown;
+  number = literal_text;
 }
 
 -- lines: a tab between two cells, and LF after the last

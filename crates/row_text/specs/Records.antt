@@ -9,7 +9,8 @@ use Rattle.scan_base.specs.Value.{is_null}
 use Rattle.arrow_types.specs.declared.data_type.DataType.{DataType}
 use Rattle.arrow_types.specs.declared.schema.Field.{Field}
 use Rattle.arrow_types.specs.declared.schema.Schema.{Schema}
-use Rattle.row_text.specs.Rows.{Format, Notation, plain_day, rows_text, type_shown, value_text}
+use Rattle.number_words.specs.NumberTexts.{shown}
+use Rattle.row_text.specs.Rows.{Format, Notation, rows_text, type_shown, value_text}
 
 -- the kit's writer of CSV: commas, double quotes that stand twice inside, and records that end with
 -- CR and LF
@@ -30,7 +31,7 @@ csv_notation = record {
   null = [];
   truth = λ flag. if flag then codes "true" else codes "false";
   text = text_field;
-  day = plain_day;
+  number = shown;
 }
 
 -- A field of a record of so many. A null that stands alone is two quotes: many readers pass over an

@@ -3,34 +3,34 @@
 use Rattle.std.specs.Prelude.{ℕ, Bool, List, [], ◌∷◌, ◌++◌, map, length, ℤ, slice_get, option_map}
 use Rattle.std.specs.Prelude.{unwrap_or}
 use Rattle.std.specs.List.{enumerate_from, flat_map}
-use Rattle.std.specs.Fmt.{signed_decimal}
-use Rattle.calendar.specs.DateText.{date_within}
 use Rattle.scan_base.specs.declared.value.Value.{Value}
 use Rattle.scan_base.specs.declared.value.Value.TheVariants.{Null, Bool as Flag, Int, Text}
 use Rattle.arrow_types.specs.declared.data_type.DataType.{DataType}
-use Rattle.arrow_types.specs.declared.data_type.DataType.TheVariants.{Date, Utf8}
+use Rattle.arrow_types.specs.declared.data_type.DataType.TheVariants.{Number, Utf8}
+use Rattle.arrow_types.specs.declared.data_type.NumberType.{NumberType}
+use Rattle.arrow_types.specs.declared.data_type.NumberType.TheVariants.{Decimal}
 use Rattle.arrow_types.specs.declared.schema.Field.{Field}
 
 -- ---- values
 
--- How a format writes a null, a truth value, a text and a day.
+-- How a format writes a null, a truth value, a text and a number of a type.
 pub record Notation : Type 0 where
   pub null : List ℕ
   pub truth : Bool → List ℕ
   pub text : List ℕ → List ℕ
-  pub day : ℤ → List ℕ
+  pub number : NumberType → ℤ → List ℕ
 
--- a value of a column of a type: a number is decimal, but in a column of dates it is a day
+-- the type of a column's numbers; those of a column of another type are decimals
+abbrev pub numbers_of : DataType → NumberType
+numbers_of (Number kind) = kind
+numbers_of _ = Decimal
+
+-- a value of a column of a type
 abbrev pub value_text : Notation → DataType → Value → List ℕ
 value_text by _ Null = by.null
 value_text by _ (Flag truth) = by.truth truth
 value_text by _ (Text text) = by.text text
-value_text by Date (Int day) = by.day day
-value_text by _ (Int number) = signed_decimal number
-
--- a day without quotes: yyyy-mm-dd in the years 1 to 9999, and else its number
-abbrev pub plain_day : ℤ → List ℕ
-plain_day day = unwrap_or (date_within day) (signed_decimal day)
+value_text by data_type (Int number) = by.number (numbers_of data_type) number
 
 -- the type of the column of a number; one without a field is shown as texts are
 abbrev pub type_shown : List Field → ℕ → DataType

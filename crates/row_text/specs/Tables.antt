@@ -1,30 +1,30 @@
 -- What is printed of a table for people: its columns, aligned between bars, and how many rows it
 -- has.
-use Rattle.std.specs.Prelude.{ℕ, ◌+◌, ◌-◌, ◌==◌, ◌||◌, Bool, true, false, List, [], ◌∷◌, ◌++◌, map}
-use Rattle.std.specs.Prelude.{length, take, max, min, get_or, codes, chars, if◌then◌else◌}
+use Rattle.std.specs.Prelude.{ℕ, ◌+◌, ◌-◌, ◌==◌, ◌||◌, Bool, false, List, [], ◌∷◌, ◌++◌, map}
+use Rattle.std.specs.Prelude.{length, take, max, min, get_or, codes, chars, if◌then◌else◌, is_none}
 use Rattle.std.specs.List.{count_by, flat_map}
 use Rattle.std.specs.Fmt.{decimal}
 use Rattle.unicode_width.specs.Width.{str_width}
 use Rattle.scan_base.specs.declared.value.Value.{Value}
 use Rattle.scan_base.specs.declared.value.Value.TheVariants.{Null, Text}
 use Rattle.arrow_types.specs.declared.data_type.DataType.{DataType}
-use Rattle.arrow_types.specs.declared.data_type.DataType.TheVariants.{Integer, Decimal128}
+use Rattle.arrow_types.specs.declared.data_type.DataType.TheVariants.{Number}
 use Rattle.arrow_types.specs.declared.schema.Field.{Field}
 use Rattle.arrow_types.specs.declared.schema.Schema.{Schema}
-use Rattle.row_text.specs.Rows.{Format, Notation, names_row, plain_day, type_shown, value_text}
-use Rattle.row_text.specs.Rows.{values_row}
+use Rattle.number_words.specs.NumberTexts.{keyword, shown}
+use Rattle.row_text.specs.Rows.{Format, Notation, names_row, type_shown, value_text, values_row}
 use Rattle.row_text.specs.Lines.{escaped, line_notation}
 use Rattle.row_text.specs.declared.shape.Shape.{Shape}
 
 -- ---- what stands in a cell
 
--- values: as in a line, but a text and a date stand without quotes
+-- values: as in a line, but a text and a number stand without quotes
 abbrev pub table_notation : Notation
 table_notation = record {
   null = line_notation.null;
   truth = line_notation.truth;
   text = escaped;
-  day = plain_day;
+  number = shown;
 }
 
 -- ---- how wide it is
@@ -78,10 +78,9 @@ blanks count = take (min most_width count) (codes "                             
 abbrev pub dashes : ℕ → List ℕ
 dashes count = take (min most_width count) (codes "----------------------------------------")
 
--- numbers stand at the right of their column
+-- numbers stand at the right of their column, but for those whose literals begin with a word
 abbrev pub stands_right : DataType → Bool
-stands_right (Integer integer) = true
-stands_right Decimal128 = true
+stands_right (Number kind) = is_none (keyword kind)
 stands_right _ = false
 
 -- the blanks before a text that takes so many columns, and those after it

@@ -8,9 +8,10 @@ ghost use Rattle.row_text.specs.Records.{comma_writer, stands_in_quotes};
 
 use crate::format::{Cell, RowFormat};
 use crate::text::{Spelling, send_spelled};
-use crate::value::{TypedValue, ValueFormat, send_plain_day, send_value, type_shown};
-use arrow_types::Field;
+use crate::value::{TypedValue, ValueFormat, send_value, type_shown};
+use arrow_types::{Field, NumberType};
 use grpc_frame::{Outbox, Output};
+use number_words::NumberText;
 use scan_base::{Fault, ValueRef};
 
 /// Records of columns of these fields.
@@ -44,13 +45,8 @@ impl<'a> ValueFormat for CsvFormat<'a> {
         outbox.send_part(writer, text.as_bytes())
     }
 
-    fn send_day<W: Output>(
-        &self,
-        writer: &mut W,
-        outbox: &mut Outbox,
-        day: i128,
-    ) -> Result<(), Fault> {
-        send_plain_day(writer, outbox, day)
+    fn number<'b>(&self, room: &'b mut NumberText, kind: NumberType, number: i128) -> &'b str {
+        room.shown(kind, number)
     }
 }
 

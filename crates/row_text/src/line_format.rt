@@ -8,9 +8,9 @@ ghost use Rattle.row_text.specs.Lines.{name_line};
 use crate::format::{Cell, RowFormat};
 use crate::text::{BackslashEscapes, Spelling, send_spelled};
 use crate::value::{TypedValue, ValueFormat, send_value, type_shown};
-use arrow_types::Field;
-use calendar::date_shown;
+use arrow_types::{Field, NumberType};
 use grpc_frame::{Outbox, Output};
+use number_words::NumberText;
 use scan_base::{Fault, Text};
 use std::alloc::Global;
 
@@ -76,13 +76,8 @@ impl<'a> ValueFormat for Lines<'a> {
         outbox.send_part(writer, b"'")
     }
 
-    fn send_day<W: Output>(
-        &self,
-        writer: &mut W,
-        outbox: &mut Outbox,
-        day: i128,
-    ) -> Result<(), Fault> {
-        outbox.send_part(writer, date_shown(day).as_str().as_bytes())
+    fn number<'b>(&self, room: &'b mut NumberText, kind: NumberType, number: i128) -> &'b str {
+        room.literal(kind, number)
     }
 }
 

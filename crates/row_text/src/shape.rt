@@ -5,6 +5,7 @@ ghost use Rattle.row_text.specs.Tables.{before, behind, blanks, dashes, stands_r
 
 use crate::widths::MOST_WIDTH;
 use arrow_types::DataType;
+use number_words::keyword;
 
 // As many as the widest column has.
 const BLANKS: &[u8] = b"                                        ";
@@ -36,7 +37,10 @@ pub(crate) fn dashes(count: usize) -> &'static [u8]
 fn stands_right(data_type: DataType) -> bool
     ensures { result ≡ stands_right data_type }
 {
-    matches!(data_type, DataType::Integer(_) | DataType::Decimal128)
+    match data_type {
+        DataType::Number(kind) => keyword(kind).is_none(),
+        _ => false,
+    }
 }
 
 /// The blanks before a text that takes so many columns.

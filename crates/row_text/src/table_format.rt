@@ -6,10 +6,11 @@ ghost use Rattle.row_text.specs.Tables.{shape_of};
 use crate::format::{Cell, RowFormat};
 use crate::shape::{Shape, before, behind};
 use crate::text::{BackslashEscapes, send_spelled};
-use crate::value::{TypedValue, ValueFormat, send_plain_day, send_value, type_shown};
+use crate::value::{TypedValue, ValueFormat, send_value, type_shown};
 use crate::widths::{text_width, value_width};
-use arrow_types::Field;
+use arrow_types::{Field, NumberType};
 use grpc_frame::{Outbox, Output};
+use number_words::NumberText;
 use scan_base::Fault;
 
 /// Rows in columns of these fields and widths.
@@ -52,13 +53,8 @@ impl<'a> ValueFormat for TableFormat<'a> {
         send_spelled(&BackslashEscapes, writer, outbox, text)
     }
 
-    fn send_day<W: Output>(
-        &self,
-        writer: &mut W,
-        outbox: &mut Outbox,
-        day: i128,
-    ) -> Result<(), Fault> {
-        send_plain_day(writer, outbox, day)
+    fn number<'b>(&self, room: &'b mut NumberText, kind: NumberType, number: i128) -> &'b str {
+        room.shown(kind, number)
     }
 }
 

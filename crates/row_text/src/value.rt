@@ -4,12 +4,11 @@ ghost use Rattle.std.specs.Prelude.{◌≡◌};
 ghost use Rattle.scan_base.specs.Value.{value_of};
 ghost use Rattle.grpc_frame.specs.Ends.{CanFail, CountsFailure, FailsByTransport};
 ghost use Rattle.grpc_frame.specs.Sending.{Sends};
-ghost use Rattle.row_text.specs.Rows.{Notation, plain_day, type_shown, value_text};
+ghost use Rattle.row_text.specs.Rows.{Notation, numbers_of, type_shown, value_text};
 
-use arrow_types::{DataType, Field};
-use calendar::date_of;
+use arrow_types::{DataType, Field, NumberType};
 use grpc_frame::{Outbox, Output};
-use itoa::Buffer;
+use number_words::NumberText;
 use scan_base::{Fault, ValueRef};
 
 /// How values are written.
@@ -42,22 +41,9 @@ pub(crate) trait ValueFormat {
         ensures counted { CountsFailure result (W.failures writer.old) (W.failures writer.new) }
         ensures fault { FailsByTransport result };
 
-    /// Sends a day.
-    ///
-    /// # Errors
-    ///
-    /// `Fault::Transport` where a write failed. It is counted.
-    fn send_day<W: Output>(
-        &self,
-        writer: &mut W,
-        outbox: &mut Outbox,
-        day: i128,
-    ) -> Result<(), Fault>
-        requires { CanFail (W.failures writer.old) }
-        ensures bytes { Sends result (W.contents writer.old) (W.contents writer.new)
-            outbox.old outbox.new (notation.day day) }
-        ensures counted { CountsFailure result (W.failures writer.old) (W.failures writer.new) }
-        ensures fault { FailsByTransport result };
+    /// What a number is written as.
+    fn number<'a>(&self, room: &'a mut NumberText, kind: NumberType, number: i128) -> &'a str
+        ensures { result.now ≡ notation.number kind number };
 }
 
 /// A value, and the type of its column.
@@ -75,6 +61,16 @@ pub(crate) fn type_shown(fields: &[Field], number: usize) -> DataType
     match fields.get(number) {
         Some(field) => field.data_type,
         None => DataType::Utf8,
+    }
+}
+
+/// The type of a column's numbers. Those of a column of another type are decimals.
+pub(crate) fn numbers_of(data_type: DataType) -> NumberType
+    ensures { result ≡ numbers_of data_type }
+{
+    match data_type {
+        DataType::Number(kind) => kind,
+        _ => NumberType::Decimal,
     }
 }
 
@@ -96,35 +92,14 @@ pub(crate) fn send_value<F: ValueFormat, W: Output>(
     ensures counted { CountsFailure result (W.failures writer.old) (W.failures writer.new) }
     ensures fault { FailsByTransport result }
 {
-    match (typed.data_type, typed.value) {
-        (DataType::Date, ValueRef::Int(day)) => format.send_day(writer, outbox, day),
-        (_, ValueRef::Int(number)) => {
-            outbox.send_part(writer, Buffer::new().format(number).as_bytes())
+    match typed.value {
+        ValueRef::Int(number) => {
+            let mut room = NumberText::new();
+            let text = format.number(&mut room, numbers_of(typed.data_type), number);
+            outbox.send_part(writer, text.as_bytes())
         }
-        (_, ValueRef::Text(text)) => format.send_text(writer, outbox, text),
-        (_, ValueRef::Null) => outbox.send_part(writer, format.null()),
-        (_, ValueRef::Bool(flag)) => outbox.send_part(writer, format.truth(flag)),
-    }
-}
-
-/// Sends a day without quotes: its date, or else its number.
-///
-/// # Errors
-///
-/// `Fault::Transport` where a write failed. It is counted.
-pub(crate) fn send_plain_day<W: Output>(
-    writer: &mut W,
-    outbox: &mut Outbox,
-    day: i128,
-) -> Result<(), Fault>
-    requires { CanFail (W.failures writer.old) }
-    ensures bytes { Sends result (W.contents writer.old) (W.contents writer.new)
-        outbox.old outbox.new (plain_day day) }
-    ensures counted { CountsFailure result (W.failures writer.old) (W.failures writer.new) }
-    ensures fault { FailsByTransport result }
-{
-    match date_of(day) {
-        Some(date) => outbox.send_part(writer, date.as_str().as_bytes()),
-        None => outbox.send_part(writer, Buffer::new().format(day).as_bytes()),
+        ValueRef::Text(text) => format.send_text(writer, outbox, text),
+        ValueRef::Null => outbox.send_part(writer, format.null()),
+        ValueRef::Bool(flag) => outbox.send_part(writer, format.truth(flag)),
     }
 }

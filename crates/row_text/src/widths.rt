@@ -4,18 +4,16 @@ ghost use Rattle.std.specs.Prelude.{◌≡◌, ◌<◌, ◌≤◌, All, length, 
 ghost use Rattle.std.specs.List.{count_by, flat_map};
 ghost use Rattle.scan_base.specs.Limits.{most_columns};
 ghost use Rattle.scan_base.specs.Value.{value_of};
-ghost use Rattle.scan_base.specs.declared.value.Value.TheVariants.{Int};
-ghost use Rattle.arrow_types.specs.declared.data_type.DataType.TheVariants.{Date};
 ghost use Rattle.arrays.specs.Batch.{rows_of};
 ghost use Rattle.arrays.specs.Column.{values_of};
 ghost use Rattle.row_text.specs.Tables.{values_of_column, column_width, greatest, is_escaped};
 ghost use Rattle.row_text.specs.Tables.{text_width, value_width, widths_from};
 
+use crate::value::numbers_of;
 use arrays::{Batch, Cells, Column};
 use arrayvec::ArrayVec;
 use arrow_types::{DataType, Field};
-use calendar::date_of;
-use itoa::Buffer;
+use number_words::NumberText;
 use scan_base::ValueRef;
 use unicode_width::UnicodeWidthStr;
 
@@ -49,27 +47,16 @@ pub(crate) fn text_width(text: &str) -> usize
     text.width().min(MOST_WIDTH) + escapes(text.as_bytes()).min(MOST_WIDTH)
 }
 
-// How many columns a day takes: its date, or else its number.
-fn day_width(day: i128) -> usize
-    ensures { result ≡ value_width Date (Int day) }
-{
-    match date_of(day) {
-        Some(date) => date.as_str().len(),
-        None => Buffer::new().format(day).len(),
-    }
-}
-
 /// How many columns a value takes.
 pub(crate) fn value_width(data_type: DataType, value: ValueRef<'_>) -> usize
     ensures { result ≡ value_width data_type (value_of value.entry) }
 {
-    match (data_type, value) {
-        (DataType::Date, ValueRef::Int(day)) => day_width(day),
-        (_, ValueRef::Int(number)) => Buffer::new().format(number).len(),
-        (_, ValueRef::Text(text)) => text_width(text),
-        (_, ValueRef::Null) => 4,
-        (_, ValueRef::Bool(true)) => 4,
-        (_, ValueRef::Bool(false)) => 5,
+    match value {
+        ValueRef::Int(number) => NumberText::new().shown(numbers_of(data_type), number).len(),
+        ValueRef::Text(text) => text_width(text),
+        ValueRef::Null => 4,
+        ValueRef::Bool(true) => 4,
+        ValueRef::Bool(false) => 5,
     }
 }
 

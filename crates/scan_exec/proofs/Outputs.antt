@@ -4,7 +4,7 @@ use Rattle.std.specs.List.{list_all}
 use Rattle.std.proofs.lemmas.List.{length-map}
 use Rattle.arrow_types.specs.Answer.{copied_type}
 use Rattle.arrow_types.specs.declared.data_type.DataType.{DataType}
-use Rattle.arrow_types.specs.declared.data_type.DataType.TheVariants.{Integer, Utf8, Bool as Flag, Decimal128, Date, Dictionary}
+use Rattle.arrow_types.specs.declared.data_type.DataType.TheVariants.{Dictionary}
 use Rattle.typed_plan.specs.Class.{can_sum}
 use Rattle.typed_plan.specs.declared.plan.Aggregate.{Aggregate}
 use Rattle.typed_plan.specs.declared.plan.Aggregate.TheVariants.{Key, CountRows, Count, Sum}
@@ -19,12 +19,8 @@ use Rattle.scan_exec.proofs.Beginning.{type_copied}
 
 -- what is summed is no dictionary
 sum_copied : (t : DataType) → can_sum (copied_type t) ≡ can_sum t
-sum_copied (Integer integer) = refl
-sum_copied Utf8 = refl
-sum_copied Flag = refl
-sum_copied Decimal128 = refl
-sum_copied Date = refl
 sum_copied (Dictionary encoding) = refl
+sum_copied other = refl
 
 module _ (some others : List DataType) (e : map copied_type some ≡ map copied_type others) where
   long : length some ≡ length others

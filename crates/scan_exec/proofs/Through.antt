@@ -22,8 +22,7 @@ use Rattle.batch_skipping.specs.OpenedBatches.{where_parts}
 module _ {C : Type 0} (f g : C → Bool) (more : (c : C) → f c ≡ true → g c ≡ true) where
   operand_more : (o : Operand C) → operand_names f o ≡ true → operand_names g o ≡ true
   operand_more (operand.Column column) h = more column h
-  operand_more (operand.Literal value) h = refl
-  operand_more (operand.Date day) h = refl
+  operand_more other h = refl
 
   items_more : (items : List (Operand C)) → list_all (operand_names f) items ≡ true → list_all (operand_names g) items ≡ true
   items_more [] h = refl

@@ -130,38 +130,6 @@ where
     out
 }
 
-// As `work_beside`, after a decoy: a thread that is started first, and does nothing. A kernel may
-// put the first thread on the processor of who starts it, where it waits while that one works, and
-// the next ones on idle processors. So the decoy waits in place of a worker.
-fn work_behind_decoy<K, A, W, G, R, M>(
-    exchange: &Exchange<'_, K, A, W, G, R>,
-    claimers: &mut [Claimer],
-    mine: &mut M,
-) -> M::Out
-where
-    K: Truth<A> + Send + Sync,
-    A: Send,
-    W: Work<Answer = A> + Sync,
-    G: Gate + Sync,
-    R: Threads + Wait + Sync,
-    M: Side,
-    requires ready { W.ready exchange.now.work.now }
-    requires theirs { All (λ claimer. claimer.table_id ≡ exchange.now.word.shared.table_id)
-        claimers.old }
-    requires mine { M.begins mine.old }
-    ensures { M.does mine.old result mine.new }
-{
-    let mut decoy = || {};
-    let mut rest = || -> M::Out
-        requires { W.ready exchange.now.work.now
-            × All (λ claimer. claimer.table_id ≡ exchange.now.word.shared.table_id) claimers.now
-            × M.begins mine.now }
-        ensures { M.does mine.entry.now result mine.exit.now }
-    { work_beside(exchange, claimers, mine) };
-    let (_, out) = join_mut(exchange.rt, &mut decoy, &mut rest);
-    out
-}
-
 // The answers that are read, and who reads them.
 struct ReaderSide<'a, 'h, 's, K: Truth<A>, A, W: Work<Answer = A>, G, R, S> {
     pull: Pull<'a, 'h, K, A, W, G, R>,
@@ -227,11 +195,7 @@ where
         pull.draw_first();
     }
     let mut reading = ReaderSide { pull, reader };
-    let out = if draws_first {
-        work_beside(exchange, claimers, &mut reading)
-    } else {
-        work_behind_decoy(exchange, claimers, &mut reading)
-    };
+    let out = work_beside(exchange, claimers, &mut reading);
     let ReaderSide { pull, reader } = reading;
     take_back(reader);
     put_down(pull);

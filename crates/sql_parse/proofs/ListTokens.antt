@@ -10,6 +10,7 @@ use Rattle.sql_text.specs.declared.word.Keyword.TheVariants as word
 use Rattle.sql_text.specs.declared.symbol.Symbol.TheVariants as symbol
 use Rattle.sql_text.specs.declared.token.TokenKind.{TokenKind}
 use Rattle.sql_query.specs.declared.query.ColumnName.{ColumnName}
+use Rattle.sql_query.specs.declared.query.Term.{Term}
 use Rattle.sql_query.specs.declared.query.Select.{Select}
 use Rattle.sql_query.specs.declared.query.Select.TheVariants as select
 use Rattle.sql_query.specs.declared.query.Place.{Place}
@@ -19,7 +20,7 @@ use Rattle.sql_query.specs.Sentence.{Sentence}
 use Rattle.grammar.specs.Rule.{both, either, many, make, Language, Spells, Any}
 use Rattle.sql_parse.specs.Parse.{IsSentence}
 use Rattle.sql_parse.specs.Notation.{Condition, Of, a_word, a_symbol, symbol_for, ◌⊳◌, ◌⊲◌, maybe, listed}
-use Rattle.sql_parse.specs.Productions.{name, column, minus, digits, date, number, string, operand}
+use Rattle.sql_parse.specs.Productions.{name, column, minus, digits, date, number, string, literal, operand}
 use Rattle.sql_parse.specs.Productions.{compare}
 use Rattle.sql_parse.specs.Productions.{negated}
 use Rattle.sql_parse.specs.PredicateProductions.{conj, pred, comparison_of, range_of, membership_of}
@@ -191,35 +192,35 @@ module _ (D : Language Mark Condition) where
   -- ---- predicates
 
   operand_silent : Silent steps_at D operand
-  unfolding operand column name string number minus digits date same_word same_symbol
+  unfolding literal operand column name string number minus digits date same_word same_symbol
   operand_silent = silent operand refl
 
   says_comparison : Steps comparison_of condition_steps
-  unfolding comparison_of operand column name string number minus digits date compare same_word same_symbol
+  unfolding comparison_of literal operand column name string number minus digits date compare same_word same_symbol
   says_comparison =
       gathers_make steps_at D
-      (λ (p : Operand ColumnName × (Comparison × Operand ColumnName)). comparing p.1.0 p.0 p.1.1)
+      (λ (p : Operand Term × (Comparison × Operand Term)). comparing p.1.0 p.0 p.1.1)
       (both operand (both compare operand)) (λ v. []) condition_steps
       (silent (both operand (both compare operand)) refl) (λ p. refl)
 
-  abbrev range : Of (Operand ColumnName × (Bool × (Operand ColumnName × Operand ColumnName)))
+  abbrev range : Of (Operand Term × (Bool × (Operand Term × Operand Term)))
   range = both operand (both negated (a_word word.Between ⊳ both operand (a_word word.And ⊳ operand)))
 
   says_range : Steps range_of condition_steps
-  unfolding range_of operand column name string number minus digits date negated same_word same_symbol
+  unfolding range_of literal operand column name string number minus digits date negated same_word same_symbol
   says_range =
       gathers_make steps_at D
-      (λ (p : Operand ColumnName × (Bool × (Operand ColumnName × Operand ColumnName))).
+      (λ (p : Operand Term × (Bool × (Operand Term × Operand Term))).
       between p.1.0 p.0 p.1.1.0 p.1.1.1) range (λ v. []) condition_steps (silent range refl) (λ p. refl)
 
   says_null_test : Steps null_test_of condition_steps
-  unfolding null_test_of operand column name string number minus digits date negated same_word same_symbol
+  unfolding null_test_of literal operand column name string number minus digits date negated same_word same_symbol
   says_null_test =
-      gathers_make steps_at D (λ (p : Operand ColumnName × Bool). null_test p.1 p.0)
+      gathers_make steps_at D (λ (p : Operand Term × Bool). null_test p.1 p.0)
       (both operand (a_word word.Is ⊳ negated ⊲ a_word word.Null)) (λ v. []) condition_steps
       (silent (both operand (a_word word.Is ⊳ negated ⊲ a_word word.Null)) refl) (λ p. refl)
 
-  abbrev bracketed : Of (List (Operand ColumnName))
+  abbrev bracketed : Of (List (Operand Term))
   bracketed = a_symbol symbol.LeftParenthesis ⊳ listed (a_symbol symbol.Comma) operand
       ⊲ a_symbol symbol.RightParenthesis
 
@@ -232,13 +233,13 @@ module _ (D : Language Mark Condition) where
       (before steps_at D (listed (a_symbol symbol.Comma) operand) (a_symbol symbol.RightParenthesis) more_items
       (says_listed operand operand_silent) (silent (a_symbol symbol.RightParenthesis) refl))
 
-  abbrev items_said : List (Operand ColumnName) → List Step
+  abbrev items_said : List (Operand Term) → List Step
   items_said items = begun 256 ∷ more_items items
 
   says_items : Steps (a_word word.In ⊳ bracketed) items_said
   says_items =
-      gathers_make steps_at D (λ (p : Unit {0} × List (Operand ColumnName)). p.1) (both (a_word word.In) bracketed)
-      (λ (p : Unit {0} × List (Operand ColumnName)). items_said p.1) items_said
+      gathers_make steps_at D (λ (p : Unit {0} × List (Operand Term)). p.1) (both (a_word word.In) bracketed)
+      (λ (p : Unit {0} × List (Operand Term)). items_said p.1) items_said
       (gathers_both steps_at D (a_word word.In) bracketed (λ v. begun 256 ∷ []) more_items
       (gathers_one steps_at D (is_word word.In) (λ t. Some tt) (word_token word.In) (λ v. begun 256 ∷ [])
       (λ t v p h. in_steps t p)) says_bracketed) (λ p. refl)
@@ -251,11 +252,11 @@ module _ (D : Language Mark Condition) where
   unfolding membership_of
   says_membership =
       gathers_make steps_at D
-      (λ (p : Operand ColumnName × (Bool × List (Operand ColumnName))). membership p.1.0 p.0 p.1.1)
+      (λ (p : Operand Term × (Bool × List (Operand Term))). membership p.1.0 p.0 p.1.1)
       (both operand (both negated (a_word word.In ⊳ bracketed)))
-      (λ (p : Operand ColumnName × (Bool × List (Operand ColumnName))). items_said p.1.1) condition_steps
+      (λ (p : Operand Term × (Bool × List (Operand Term))). items_said p.1.1) condition_steps
       (gathers_both steps_at D operand (both negated (a_word word.In ⊳ bracketed)) (λ v. [])
-      (λ (p : Bool × List (Operand ColumnName)). items_said p.1) operand_silent
+      (λ (p : Bool × List (Operand Term)). items_said p.1) operand_silent
       (gathers_both steps_at D negated (a_word word.In ⊳ bracketed) (λ v. []) items_said negated_silent says_items))
       (λ p. refl)
 
@@ -400,7 +401,7 @@ module _ (D : Language Mark Condition) (deep : Gathers places_at D (λ v. [])) w
   no_place g w = gathers_nothing places_at kinds apart announces_place placeless true D (λ h. deep) g w
 
   factor_silent : Silent places_at D factor
-  unfolding factor simple comparison_of range_of membership_of null_test_of operand column name string number minus
+  unfolding factor simple comparison_of range_of membership_of null_test_of literal operand column name string number minus
       digits date compare negated conj pred truth_value same_word same_symbol
   factor_silent = no_place factor refl
 

@@ -4,10 +4,8 @@ use Rattle.std.proofs.Common.{Some, None, refl, ◌∙◌, ap, flat_map, append-
 use Rattle.std.specs.Option.{option_to_list}
 use Rattle.std.proofs.lemmas.Bool.{not-false}
 use Rattle.scan_base.specs.declared.comparison.Comparison.{Comparison}
-use Rattle.scan_base.specs.declared.value.Value.{Value}
-use Rattle.scan_base.specs.declared.value.Value.TheVariants as value
 use Rattle.scan_base.specs.declared.predicate.Operand.{Operand}
-use Rattle.scan_base.specs.declared.predicate.Operand.TheVariants.{Column, Literal, Date}
+use Rattle.scan_base.specs.declared.predicate.Operand.TheVariants.{Column}
 use Rattle.scan_base.specs.Predicate.{comparing, between, membership, null_test}
 use Rattle.sql_text.specs.Words.{is_name}
 use Rattle.sql_text.specs.declared.word.Keyword.TheVariants as word
@@ -16,6 +14,9 @@ use Rattle.sql_text.specs.declared.token.TokenKind.{TokenKind}
 use Rattle.sql_text.specs.declared.token.TokenKind.TheVariants as kind
 use Rattle.sql_text.specs.declared.symbol.Symbol.TheVariants as symbol
 use Rattle.sql_query.specs.declared.query.ColumnName.{ColumnName}
+use Rattle.sql_query.specs.declared.query.Literal.{Literal}
+use Rattle.sql_query.specs.declared.query.Term.{Term}
+use Rattle.sql_query.specs.declared.query.Term.TheVariants as term
 use Rattle.sql_query.specs.declared.query.Expression.{Expression}
 use Rattle.sql_query.specs.declared.query.Expression.TheVariants as expression
 use Rattle.sql_query.specs.declared.query.Select.{Select}
@@ -31,7 +32,7 @@ use Rattle.sql_parse.specs.SentenceLimits.{sentence_names}
 use Rattle.sql_parse.specs.Parse.{IsSentence}
 use Rattle.sql_parse.specs.Notation.{Condition, Of, a_word, a_symbol, word_for, symbol_for, ◌⊳◌, ◌⊲◌, maybe, listed}
 use Rattle.sql_parse.specs.Productions.{name, column_name, column, minus, digits, date, number}
-use Rattle.sql_parse.specs.Productions.{string, operand, compare}
+use Rattle.sql_parse.specs.Productions.{string, literal, operand, compare}
 use Rattle.sql_parse.specs.Productions.{negated}
 use Rattle.sql_parse.specs.PredicateProductions.{pred, comparison_of, range_of, membership_of}
 use Rattle.sql_parse.specs.PredicateProductions.{null_test_of, simple}
@@ -126,26 +127,19 @@ module _ (D : Language Mark Condition) where
 
   -- ---- operands
 
-  abbrev literals : Of Value
-  literals = either string (either (word_for word.True (value.Bool true))
-      (either (word_for word.False (value.Bool false)) number))
-
-  literals_silent : Silent names_at D literals
-  unfolding string number minus digits same_word same_symbol
-  literals_silent = silent literals refl
-
-  date_silent : Silent names_at D date
-  unfolding date same_word
-  date_silent = silent date refl
+  literal_silent : Silent names_at D literal
+  unfolding literal date string number minus digits same_word same_symbol
+  literal_silent = silent literal refl
 
   says_operand : Names operand operand_names
   unfolding operand
   says_operand =
-      gathers_either names_at D (make Column column) (either (make Date date) (make Literal literals)) operand_names
-      (gathers_make names_at D Column column column_names operand_names says_column (λ x. refl))
-      (gathers_either names_at D (make Date date) (make Literal literals) operand_names
-      (gathers_make names_at D Date date (λ d. []) operand_names date_silent (λ x. refl))
-      (gathers_make names_at D Literal literals (λ v. []) operand_names literals_silent (λ x. refl)))
+      gathers_either names_at D (make (λ (n : ColumnName). Column (term.Name n)) column)
+      (make (λ (l : Literal). Column (term.Literal l)) literal) operand_names
+      (gathers_make names_at D (λ (n : ColumnName). Column (term.Name n)) column column_names operand_names says_column
+      (λ x. refl))
+      (gathers_make names_at D (λ (l : Literal). Column (term.Literal l)) literal (λ l. []) operand_names literal_silent
+      (λ x. refl))
 
   -- ---- predicates
 
@@ -161,38 +155,38 @@ module _ (D : Language Mark Condition) where
   unfolding comparison_of
   says_comparison =
       gathers_make names_at D
-      (λ (p : Operand ColumnName × (Comparison × Operand ColumnName)). comparing p.1.0 p.0 p.1.1)
+      (λ (p : Operand Term × (Comparison × Operand Term)). comparing p.1.0 p.0 p.1.1)
       (both operand (both compare operand))
-      (λ (p : Operand ColumnName × (Comparison × Operand ColumnName)). operand_names p.0 ++ operand_names p.1.1)
+      (λ (p : Operand Term × (Comparison × Operand Term)). operand_names p.0 ++ operand_names p.1.1)
       condition_names
       (gathers_both names_at D operand (both compare operand) operand_names
-      (λ (p : Comparison × Operand ColumnName). operand_names p.1) says_operand
+      (λ (p : Comparison × Operand Term). operand_names p.1) says_operand
       (gathers_both names_at D compare operand (λ v. []) operand_names compare_silent says_operand)) (λ p. refl)
 
-  abbrev limits : Of (Operand ColumnName × Operand ColumnName)
+  abbrev limits : Of (Operand Term × Operand Term)
   limits = both operand (a_word word.And ⊳ operand)
 
-  abbrev limits_said : Operand ColumnName × Operand ColumnName → List (List ℕ)
+  abbrev limits_said : Operand Term × Operand Term → List (List ℕ)
   limits_said p = operand_names p.0 ++ operand_names p.1
 
   says_range : Names range_of condition_names
   unfolding range_of
   says_range =
       gathers_make names_at D
-      (λ (p : Operand ColumnName × (Bool × (Operand ColumnName × Operand ColumnName))).
+      (λ (p : Operand Term × (Bool × (Operand Term × Operand Term))).
       between p.1.0 p.0 p.1.1.0 p.1.1.1)
       (both operand (both negated (a_word word.Between ⊳ limits)))
-      (λ (p : Operand ColumnName × (Bool × (Operand ColumnName × Operand ColumnName))).
+      (λ (p : Operand Term × (Bool × (Operand Term × Operand Term))).
       operand_names p.0 ++ limits_said p.1.1) condition_names
       (gathers_both names_at D operand (both negated (a_word word.Between ⊳ limits)) operand_names
-      (λ (p : Bool × (Operand ColumnName × Operand ColumnName)). limits_said p.1) says_operand
+      (λ (p : Bool × (Operand Term × Operand Term)). limits_said p.1) says_operand
       (gathers_both names_at D negated (a_word word.Between ⊳ limits) (λ v. []) limits_said negated_silent
       (behind names_at D (a_word word.Between) limits limits_said (word_silent word.Between)
       (gathers_both names_at D operand (a_word word.And ⊳ operand) operand_names operand_names says_operand
       (behind names_at D (a_word word.And) operand operand_names (word_silent word.And) says_operand)))))
       (λ p. refl)
 
-  abbrev items : Of (List (Operand ColumnName))
+  abbrev items : Of (List (Operand Term))
   items = a_word word.In ⊳ a_symbol symbol.LeftParenthesis ⊳ listed (a_symbol symbol.Comma) operand
       ⊲ a_symbol symbol.RightParenthesis
 
@@ -210,12 +204,12 @@ module _ (D : Language Mark Condition) where
   unfolding membership_of
   says_membership =
       gathers_make names_at D
-      (λ (p : Operand ColumnName × (Bool × List (Operand ColumnName))). membership p.1.0 p.0 p.1.1)
+      (λ (p : Operand Term × (Bool × List (Operand Term))). membership p.1.0 p.0 p.1.1)
       (both operand (both negated items))
-      (λ (p : Operand ColumnName × (Bool × List (Operand ColumnName))).
+      (λ (p : Operand Term × (Bool × List (Operand Term))).
       operand_names p.0 ++ flat_map operand_names p.1.1) condition_names
       (gathers_both names_at D operand (both negated items) operand_names
-      (λ (p : Bool × List (Operand ColumnName)). flat_map operand_names p.1) says_operand
+      (λ (p : Bool × List (Operand Term)). flat_map operand_names p.1) says_operand
       (gathers_both names_at D negated items (λ v. []) (flat_map operand_names) negated_silent says_items))
       (λ p. refl)
 
@@ -226,9 +220,9 @@ module _ (D : Language Mark Condition) where
   says_null_test : Names null_test_of condition_names
   unfolding null_test_of
   says_null_test =
-      gathers_make names_at D (λ (p : Operand ColumnName × Bool). null_test p.1 p.0)
+      gathers_make names_at D (λ (p : Operand Term × Bool). null_test p.1 p.0)
       (both operand (a_word word.Is ⊳ negated ⊲ a_word word.Null))
-      (λ (p : Operand ColumnName × Bool). operand_names p.0 ++ []) condition_names
+      (λ (p : Operand Term × Bool). operand_names p.0 ++ []) condition_names
       (gathers_both names_at D operand (a_word word.Is ⊳ negated ⊲ a_word word.Null) operand_names (λ v. [])
       says_operand null_silent) (λ p. append-nil (operand_names p.0))
 

@@ -16,6 +16,8 @@ use Rattle.sql_text.specs.declared.token.Token.{Token}
 use Rattle.sql_text.specs.Words.{is_name}
 use Rattle.sql_text.specs.Calls.{said, SaysText, lexeme_of}
 use Rattle.sql_query.specs.declared.query.ColumnName.{ColumnName}
+use Rattle.sql_query.specs.declared.query.Term.{Term}
+use Rattle.sql_query.specs.declared.query.Term.TheVariants as term
 use Rattle.sql_query.specs.declared.query.Expression.{Expression}
 use Rattle.sql_query.specs.declared.query.Expression.TheVariants as expression
 use Rattle.sql_query.specs.declared.query.Select.{Select}
@@ -120,17 +122,17 @@ module _ (D : Language Mark Condition) where
 
   has_operand : Has operand OperandHasNames
   unfolding operand
-  has_operand ts v (inl q) a = keeps_make Named D Column column IsColumnName OperandHasNames has_column (λ x n. n) ts
-      v q a
-  has_operand ts v (inr (inl q)) a = subst OperandHasNames (sym q.1) tt
-  has_operand ts v (inr (inr q)) a = subst OperandHasNames (sym q.1) tt
+  has_operand ts v (inl q) a =
+      keeps_make Named D (λ (n : ColumnName). Column (term.Name n)) column IsColumnName OperandHasNames has_column (λ x n. n)
+      ts v q a
+  has_operand ts v (inr q) a = subst OperandHasNames (sym q.1) tt
 
   -- ---- predicates
 
   has_comparison : Has comparison_of ConditionHasNames
   unfolding comparison_of
   has_comparison =
-      keeps_make Named D (λ (p : Operand ColumnName × (Comparison × Operand ColumnName)). comparing p.1.0 p.0 p.1.1)
+      keeps_make Named D (λ (p : Operand Term × (Comparison × Operand Term)). comparing p.1.0 p.0 p.1.1)
       (both operand (both compare operand))
       (λ p. OperandHasNames p.0 × (Anything p.1.0 × OperandHasNames p.1.1)) ConditionHasNames
       (keeps_both Named D operand (both compare operand) OperandHasNames (λ p. Anything p.0 × OperandHasNames p.1)
@@ -138,13 +140,13 @@ module _ (D : Language Mark Condition) where
       (keeps_both Named D compare operand Anything OperandHasNames (nothing compare) has_operand))
       (λ p n. (n.0, n.1.1))
 
-  abbrev limits : Of (Operand ColumnName × Operand ColumnName)
+  abbrev limits : Of (Operand Term × Operand Term)
   limits = both operand (a_word word.And ⊳ operand)
 
   has_range : Has range_of ConditionHasNames
   unfolding range_of
   has_range =
-      keeps_make Named D (λ (p : Operand ColumnName × (Bool × (Operand ColumnName × Operand ColumnName))). between
+      keeps_make Named D (λ (p : Operand Term × (Bool × (Operand Term × Operand Term))). between
       p.1.0 p.0 p.1.1.0 p.1.1.1)
       (both operand (both negated (a_word word.Between ⊳ limits)))
       (λ p. OperandHasNames p.0 × (Anything p.1.0 × (OperandHasNames p.1.1.0 × OperandHasNames p.1.1.1)))
@@ -158,17 +160,17 @@ module _ (D : Language Mark Condition) where
       (behind (a_word word.And) operand OperandHasNames has_operand)))))
       (λ p n. (n.0, n.1.1.0, n.1.1.1))
 
-  abbrev members : Of (List (Operand ColumnName))
+  abbrev members : Of (List (Operand Term))
   members = a_word word.In ⊳ a_symbol symbol.LeftParenthesis ⊳ listed (a_symbol symbol.Comma) operand
       ⊲ a_symbol symbol.RightParenthesis
 
-  abbrev Members : List (Operand ColumnName) → Type 0
+  abbrev Members : List (Operand Term) → Type 0
   Members xs = (1 ≤ length xs) × All OperandHasNames xs
 
   has_membership : Has membership_of ConditionHasNames
   unfolding membership_of
   has_membership =
-      keeps_make Named D (λ (p : Operand ColumnName × (Bool × List (Operand ColumnName))). membership p.1.0 p.0 p.1.1)
+      keeps_make Named D (λ (p : Operand Term × (Bool × List (Operand Term))). membership p.1.0 p.0 p.1.1)
       (both operand (both negated members))
       (λ p. OperandHasNames p.0 × (Anything p.1.0 × Members p.1.1)) ConditionHasNames
       (keeps_both Named D operand (both negated members) OperandHasNames (λ p. Anything p.0 × Members p.1) has_operand
@@ -184,7 +186,7 @@ module _ (D : Language Mark Condition) where
   has_null_test : Has null_test_of ConditionHasNames
   unfolding null_test_of
   has_null_test =
-      keeps_make Named D (λ (p : Operand ColumnName × Bool). null_test p.1 p.0)
+      keeps_make Named D (λ (p : Operand Term × Bool). null_test p.1 p.0)
       (both operand (a_word word.Is ⊳ negated ⊲ a_word word.Null))
       (λ p. OperandHasNames p.0 × Anything p.1) ConditionHasNames
       (keeps_both Named D operand (a_word word.Is ⊳ negated ⊲ a_word word.Null) OperandHasNames Anything has_operand

@@ -10,9 +10,8 @@ use Rattle.scan_base.specs.declared.comparison.Comparison.TheVariants.{Equal}
 use Rattle.scan_base.specs.declared.fault.Fault.{Fault}
 use Rattle.scan_base.specs.declared.fault.Fault.TheVariants.{OutOfMemory, LimitReached, NotInSubset, BadSql}
 use Rattle.scan_base.specs.declared.predicate.Operand.{Operand}
-use Rattle.scan_base.specs.declared.predicate.Operand.TheVariants.{Column, Literal}
+use Rattle.scan_base.specs.declared.predicate.Operand.TheVariants.{Column}
 use Rattle.scan_base.specs.declared.truth.Truth.TheVariants.{True}
-use Rattle.scan_base.specs.declared.value.Value.TheVariants.{Int, Text}
 use Rattle.scan_base.specs.Predicate.{Pred, conjunction, disjunction, negation, truth_test, comparing, between}
 use Rattle.scan_base.specs.Predicate.{membership, null_test}
 use Rattle.sql_text.specs.Standard.{Lexeme}
@@ -22,6 +21,10 @@ use Rattle.sql_text.specs.Words.{word_kind}
 use Rattle.grammar.specs.Reading.{begins, token, reads, read}
 use Rattle.grammar.specs.Sentence.{Begins, Offends}
 use Rattle.sql_query.specs.declared.query.ColumnName.{ColumnName}
+use Rattle.sql_query.specs.declared.query.Literal.{Literal}
+use Rattle.sql_query.specs.declared.query.Literal.TheVariants as literals
+use Rattle.sql_query.specs.declared.query.Term.{Term}
+use Rattle.sql_query.specs.declared.query.Term.TheVariants as term
 use Rattle.sql_query.specs.declared.query.Expression.TheVariants as expression
 use Rattle.sql_query.specs.declared.query.Select.{Select}
 use Rattle.sql_query.specs.declared.query.Select.TheVariants as select
@@ -33,7 +36,7 @@ use Rattle.sql_parse.specs.QuerySteps.{whole_at, ended}
 use Rattle.sql_parse.specs.FactoredGrammar.{compared, nulled, ranged, among, tail, forms, primary, test, factor_by_operand}
 use Rattle.sql_parse.specs.Limits.{counted, is_past, is_long_name, passes}
 use Rattle.sql_parse.specs.Parse.{IsSentence, IsShallow, fault_or, Refuses, Answered, Parsed}
-use Rattle.sql_parse.specs.Productions.{name, column, minus, digits, date, number, string, operand}
+use Rattle.sql_parse.specs.Productions.{name, column, minus, digits, date, number, string, literal, operand}
 use Rattle.sql_parse.specs.Productions.{compare, negated}
 use Rattle.sql_parse.specs.PredicateProductions.{conj}
 use Rattle.sql_parse.specs.PredicateProductions.{pred, truth_value}
@@ -78,7 +81,7 @@ answer_of end (Ok lexemes) = answered end (map mark_of lexemes) (outcome (map ma
 
 answer : List ℕ → Result Sentence Fault
 unfolding tokens_in tokens_from tokens_within front_at mark_front pair single word_kind number_of unquoted same_word
-    same_symbol begins token seen counted is_past is_long_name passes name column minus digits date number string operand
+    same_symbol begins token seen counted is_past is_long_name passes name column minus digits date number string literal operand
     compare negated conj pred truth_value alias selection item list place equal join group filter source ending query
     compared nulled ranged among tail forms primary test factor_by_operand
 answer text = answer_of (length text) (tokens_in text)
@@ -335,22 +338,25 @@ abbrev one_column : List ℕ → Select
 one_column name = select.List (record { expression = expression.Column (named name); alias = None } ∷ [])
 
 -- SELECT a FROM t WHERE ..
-abbrev filtered : Pred ColumnName → Sentence
+abbrev filtered : Pred Term → Sentence
 filtered p = record (from_table (codes "t") (one_column (codes "a"))) { filter = Some p }
 
-abbrev a : Operand ColumnName
-a = Column (named (codes "a"))
+abbrev a : Operand Term
+a = Column (term.Name (named (codes "a")))
 
-abbrev b : Operand ColumnName
-b = Column (named (codes "b"))
+abbrev b : Operand Term
+b = Column (term.Name (named (codes "b")))
 
-abbrev c : Operand ColumnName
-c = Column (named (codes "c"))
+abbrev c : Operand Term
+c = Column (term.Name (named (codes "c")))
 
-abbrev int : ℕ → Operand ColumnName
-int value = Literal (Int (pos value))
+abbrev literally : Literal → Operand Term
+literally written = Column (term.Literal written)
 
-abbrev equals : Operand ColumnName → ℕ → Pred ColumnName
+abbrev int : ℕ → Operand Term
+int value = literally (literals.Number (pos value))
+
+abbrev equals : Operand Term → ℕ → Pred Term
 equals operand value = comparing Equal operand (int value)
 
 name_of_64 : Means (codes "SELECT * FROM " ++ letters 64) (Ok (from_table (letters 64) select.All))
@@ -367,9 +373,13 @@ unfolding answer
 quote_in_name = worked refl
 
 quote_in_string : Means (codes "SELECT a FROM t WHERE a = 'it''s'")
-    (Ok (filtered (comparing Equal a (Literal (Text (codes "it's"))))))
+    (Ok (filtered (comparing Equal a (literally (literals.Text (codes "it's"))))))
 unfolding answer
 quote_in_string = worked refl
+
+a_truth : Means (codes "SELECT a FROM t WHERE a = TRUE") (Ok (filtered (comparing Equal a (literally (literals.Truth true)))))
+unfolding answer
+a_truth = worked refl
 
 -- NOT binds tightest, and AND tighter than OR
 not_and_or : Means (codes "SELECT a FROM t WHERE NOT a = 1 AND b = 2 OR c = 3")
@@ -394,7 +404,7 @@ unfolding answer
 between_and = worked refl
 
 not_in : Means (codes "SELECT a FROM t WHERE a NOT IN (-1, b)")
-    (Ok (filtered (membership true a (Literal (Int (negsuc 0)) ∷ b ∷ []))))
+    (Ok (filtered (membership true a (literally (literals.Number (negsuc 0)) ∷ b ∷ []))))
 unfolding answer
 not_in = worked refl
 

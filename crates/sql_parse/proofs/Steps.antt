@@ -17,8 +17,8 @@ use Rattle.scan_base.specs.declared.predicate.Operand.{Operand}
 use Rattle.scan_base.specs.Predicate.{conjunction, disjunction, negation}
 use Rattle.grammar.specs.Rule.{many, make}
 use Rattle.grammar.proofs.Deep.{flat_alike}
-use Rattle.sql_query.specs.declared.query.ColumnName.{ColumnName}
-use Rattle.sql_parse.specs.Productions.{name, column, minus, digits, date, number, string, operand}
+use Rattle.sql_query.specs.declared.query.Term.{Term}
+use Rattle.sql_parse.specs.Productions.{name, column, minus, digits, date, number, string, literal, operand}
 use Rattle.sql_parse.specs.Productions.{compare}
 use Rattle.sql_parse.specs.Notation.{Condition}
 use Rattle.sql_parse.specs.Productions.{negated}
@@ -26,7 +26,7 @@ use Rattle.sql_parse.specs.PredicateProductions.{truth_value, conj, pred, inner}
 use Rattle.sql_parse.specs.Notation.{a_word, a_symbol, ◌⊳◌, ◌⊲◌}
 use Rattle.sql_parse.specs.FactoredGrammar.{compared, nulled, ranged, among, tail, forms, primary, test, factor_by_operand}
 use Rattle.sql_parse.specs.Steps.{at, token_at, name_at, column_at, minus_at, numbered, digits_at, date_at, number_at}
-use Rattle.sql_parse.specs.Steps.{operand_at, compare_at}
+use Rattle.sql_parse.specs.Steps.{literal_at, operand_at, compare_at}
 use Rattle.sql_parse.specs.PredicateSteps.{negated_at, truth_at, compared_at, nulled_at, ranged_at}
 use Rattle.sql_parse.specs.PredicateSteps.{operands_at, among_at, tail_at, factor_at, ands_at, conj_at, ors_at, pred_at}
 use Rattle.sql_parse.specs.PredicateSteps.{inside_at, form_at, primary_at, tested_at, test_at, negation_at}
@@ -104,9 +104,13 @@ date_starts : (ts : List Mark) → begins (starts date) ts ≡ at (is_word word.
 unfolding date at
 date_starts ts = refl
 
+literal_same : (D : Nest) (ts : List Mark) → seen (reads D literal ts) ≡ literal_at ts
+unfolding literal literal_at token_at at string
+literal_same D ts = simp (flat, date_starts, date_same, number_same)
+
 pub operand_same : (D : Nest) (ts : List Mark) → seen (reads D operand ts) ≡ operand_at ts
-unfolding operand operand_at token_at at string
-operand_same D ts = simp (flat, column_starts, date_starts, column_same, date_same, number_same)
+unfolding operand operand_at
+operand_same D ts = simp (flat, column_starts, column_same, literal_same)
 
 pub compare_same : (D : Nest) (ts : List Mark) → seen (reads D compare ts) ≡ compare_at ts
 unfolding compare compare_at token_at at
@@ -122,17 +126,17 @@ truth_same : (D : Nest) (ts : List Mark) → seen (reads D truth_value ts) ≡ t
 unfolding truth_value truth_at token_at at
 truth_same D ts = simp flat
 
-compared_same : (D : Nest) (a : Operand ColumnName) (ts : List Mark) →
+compared_same : (D : Nest) (a : Operand Term) (ts : List Mark) →
     (seen (reads D compared ts) >>= λ p. Ok (p.0 a, p.1)) ≡ compared_at a ts
 unfolding compared compared_at
 compared_same D a ts = simp (flat, compare_same, operand_same)
 
-nulled_same : (D : Nest) (a : Operand ColumnName) (ts : List Mark) →
+nulled_same : (D : Nest) (a : Operand Term) (ts : List Mark) →
     (seen (reads D nulled ts) >>= λ p. Ok (p.0 a, p.1)) ≡ nulled_at a ts
 unfolding nulled nulled_at token_at
 nulled_same D a ts = simp (flat, negated_same)
 
-ranged_same : (D : Nest) (n : Bool) (a : Operand ColumnName) (ts : List Mark) →
+ranged_same : (D : Nest) (n : Bool) (a : Operand Term) (ts : List Mark) →
     (seen (reads D ranged ts) >>= λ p. Ok (p.0 n a, p.1)) ≡ ranged_at n a ts
 unfolding ranged ranged_at token_at
 ranged_same D n a ts = simp (flat, operand_same)
@@ -150,19 +154,19 @@ unfolding among at
 among_starts ts = refl
 
 among_flat : (D : Nest) (ts : List Mark) → reads D among ts ≡ reads None among ts
-unfolding among operand column name number minus digits date string
+unfolding among literal operand column name number minus digits date string
 among_flat D ts = flat_alike D None among refl ts
 
-among_first : (n : Bool) (a : Operand ColumnName) (ts : List Mark) →
+among_first : (n : Bool) (a : Operand Term) (ts : List Mark) →
     (seen (reads None among ts) >>= λ p. Ok (p.0 n a, p.1)) ≡ among_at n a ts
 unfolding among among_at token_at operands_at
 among_first n a ts = simp (flat, operand_same)
 
-among_same : (D : Nest) (n : Bool) (a : Operand ColumnName) (ts : List Mark) →
+among_same : (D : Nest) (n : Bool) (a : Operand Term) (ts : List Mark) →
     (seen (reads D among ts) >>= λ p. Ok (p.0 n a, p.1)) ≡ among_at n a ts
 among_same D n a ts = rw (among_flat D ts) (among_first n a ts)
 
-tail_same : (D : Nest) (a : Operand ColumnName) (ts : List Mark) →
+tail_same : (D : Nest) (a : Operand Term) (ts : List Mark) →
     (seen (reads D tail ts) >>= λ p. Ok (p.0 a, p.1)) ≡ tail_at a ts
 unfolding tail tail_at token_at at
 tail_same D a ts = simp (
@@ -254,15 +258,15 @@ pub nil_after : {A : Type 0} (xs ys : List A) (x : A) → (xs ++ x ∷ []) ++ ys
 nil_after xs ys x = append_assoc xs (x ∷ []) ys
 
 operand_made : well_made (a_symbol symbol.Comma ⊳ operand) ≡ true
-unfolding operand column name number minus digits date string same_symbol same_word number_of unquoted
+unfolding literal operand column name number minus digits date string same_symbol same_word number_of unquoted
 operand_made = refl
 
 operands_flat : (D : Nest) (ts : List Mark) →
     reads D (many (a_symbol symbol.Comma ⊳ operand)) ts ≡ reads None (many (a_symbol symbol.Comma ⊳ operand)) ts
-unfolding operand column name number minus digits date string
+unfolding literal operand column name number minus digits date string
 operands_flat D ts = flat_alike D None (many (a_symbol symbol.Comma ⊳ operand)) refl ts
 
-pub operands_step : (front : List (Operand ColumnName)) (ts : List Mark) →
+pub operands_step : (front : List (Operand Term)) (ts : List Mark) →
     operands_at front ts ≡ cond (at (is_symbol symbol.Comma) ts)
     (token_at (is_symbol symbol.Comma) ts >>= λ t. operand_at t.1 >>= λ o. operands_at (front ++ o.0 ∷ []) o.1)
     (Ok (front, ts))

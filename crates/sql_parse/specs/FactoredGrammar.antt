@@ -7,14 +7,14 @@ use Rattle.scan_base.specs.Predicate.{comparing, between, membership, null_test}
 use Rattle.sql_text.specs.declared.word.Keyword.TheVariants as word
 use Rattle.sql_text.specs.declared.symbol.Symbol.TheVariants as symbol
 use Rattle.grammar.specs.Rule.{both, either, make}
-use Rattle.sql_query.specs.declared.query.ColumnName.{ColumnName}
+use Rattle.sql_query.specs.declared.query.Term.{Term}
 use Rattle.sql_parse.specs.Productions.{operand, compare, negated}
 use Rattle.sql_parse.specs.Notation.{Condition, Of, a_word, a_symbol, ◌⊳◌, ◌⊲◌, listed}
 use Rattle.sql_parse.specs.PredicateProductions.{primary_of, test_of, factor_of}
 
 -- one side of a comparison
 abbrev pub Value : Type 0
-Value = Operand ColumnName
+Value = Operand Term
 
 -- after an operand: a comparison, BETWEEN, IN, or IS NULL
 unfoldable pub compared : Of (Value → Condition)

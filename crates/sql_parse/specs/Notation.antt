@@ -6,13 +6,13 @@ use Rattle.sql_text.specs.declared.word.Keyword.{Keyword}
 use Rattle.sql_text.specs.declared.symbol.Symbol.{Symbol}
 use Rattle.sql_text.specs.declared.token.TokenKind.{TokenKind}
 use Rattle.grammar.specs.Rule.{Rule, one, empty, both, either, many, make}
-use Rattle.sql_query.specs.declared.query.ColumnName.{ColumnName}
+use Rattle.sql_query.specs.declared.query.Term.{Term}
 use Rattle.sql_parse.specs.Tokens.{Span, is_word, is_symbol, word_token}
 use Rattle.sql_parse.specs.Tokens.{symbol_token}
 
 -- what a predicate of a text says
 abbrev pub Condition : Type 0
-Condition = Pred ColumnName
+Condition = Pred Term
 
 -- a production that spells an A
 abbrev pub Of : Type 0 → Type 1

@@ -11,7 +11,7 @@ use Rattle.sql_text.specs.declared.word.Keyword.TheVariants as word
 use Rattle.sql_text.specs.declared.symbol.Symbol.TheVariants as symbol
 use Rattle.grammar.specs.Rule.{many}
 use Rattle.grammar.specs.Reading.{reads, read}
-use Rattle.sql_query.specs.declared.query.ColumnName.{ColumnName}
+use Rattle.sql_query.specs.declared.query.Term.{Term}
 use Rattle.sql_parse.specs.declared.refusal.Refusal.TheVariants as refusal
 use Rattle.sql_parse.specs.Tokens.{Mark, is_word, is_symbol}
 use Rattle.sql_parse.specs.Answers.{Answer, seen, ◌>>=◌}
@@ -38,20 +38,20 @@ truth_at ts =
           t ← token_at (is_word word.Unknown) ts
           Ok (truth.Unknown, t.1)))
 
-unfoldable pub compared_at : Operand ColumnName → List Mark → Answer Condition
+unfoldable pub compared_at : Operand Term → List Mark → Answer Condition
 compared_at a ts = do
   o ← compare_at ts
   b ← operand_at o.1
   Ok (comparing o.0 a b.0, b.1)
 
-unfoldable pub nulled_at : Operand ColumnName → List Mark → Answer Condition
+unfoldable pub nulled_at : Operand Term → List Mark → Answer Condition
 nulled_at a ts = do
   i ← token_at (is_word word.Is) ts
   n ← negated_at i.1
   z ← token_at (is_word word.Null) n.1
   Ok (null_test n.0 a, z.1)
 
-unfoldable pub ranged_at : Bool → Operand ColumnName → List Mark → Answer Condition
+unfoldable pub ranged_at : Bool → Operand Term → List Mark → Answer Condition
 ranged_at n a ts = do
   t ← token_at (is_word word.Between) ts
   low ← operand_at t.1
@@ -60,12 +60,11 @@ ranged_at n a ts = do
   Ok (between n a low.0 high.0, high.1)
 
 -- more operands after those in front
-unfoldable pub operands_at : List (Operand ColumnName) → List Mark →
-    Answer (List (Operand ColumnName))
+unfoldable pub operands_at : List (Operand Term) → List Mark → Answer (List (Operand Term))
 operands_at front ts =
     seen (reads None (many (a_symbol symbol.Comma ⊳ operand)) ts) >>= λ os. Ok (front ++ os.0, os.1)
 
-unfoldable pub among_at : Bool → Operand ColumnName → List Mark → Answer Condition
+unfoldable pub among_at : Bool → Operand Term → List Mark → Answer Condition
 among_at n a ts = do
   t ← token_at (is_word word.In) ts
   o ← token_at (is_symbol symbol.LeftParenthesis) t.1
@@ -74,7 +73,7 @@ among_at n a ts = do
   c ← token_at (is_symbol symbol.RightParenthesis) all.1
   Ok (membership n a all.0, c.1)
 
-unfoldable pub tail_at : Operand ColumnName → List Mark → Answer Condition
+unfoldable pub tail_at : Operand Term → List Mark → Answer Condition
 tail_at a ts =
     if at (is_word word.Is) ts then nulled_at a ts else (if at (is_word word.Not) ts then (do
       t ← token_at (is_word word.Not) ts

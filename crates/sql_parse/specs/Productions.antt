@@ -2,15 +2,17 @@
 use Rattle.std.specs.Prelude.{Bool, true, false, ℕ, ℤ, neg_ℤ, List, Option, Some, None}
 use Rattle.scan_base.specs.declared.comparison.Comparison.{Comparison}
 use Rattle.scan_base.specs.declared.comparison.Comparison.TheVariants as comparison
-use Rattle.scan_base.specs.declared.value.Value.{Value}
-use Rattle.scan_base.specs.declared.value.Value.TheVariants as value
 use Rattle.scan_base.specs.declared.predicate.Operand.{Operand}
-use Rattle.scan_base.specs.declared.predicate.Operand.TheVariants.{Column, Literal, Date}
+use Rattle.scan_base.specs.declared.predicate.Operand.TheVariants.{Column}
 use Rattle.sql_text.specs.declared.word.Keyword.TheVariants as word
 use Rattle.sql_text.specs.declared.symbol.Symbol.TheVariants as symbol
 use Rattle.grammar.specs.Rule.{one, empty, both, either, make}
 use Rattle.sql_query.specs.declared.query.ColumnName.{ColumnName}
-use Rattle.calendar.specs.Dates.{day_in}
+use Rattle.sql_query.specs.declared.query.Literal.{Literal}
+use Rattle.sql_query.specs.declared.query.Literal.TheVariants.{Text, Truth, Number, Date}
+use Rattle.sql_query.specs.declared.query.Term.{Term}
+use Rattle.sql_query.specs.declared.query.Term.TheVariants as term
+use Rattle.number_words.specs.Dates.{day_in}
 use Rattle.sql_text.specs.Words.{is_name}
 use Rattle.sql_parse.specs.Tokens.{is_string, is_digits}
 use Rattle.sql_parse.specs.Tokens.{name_token, string_token, digits_token, date_token}
@@ -47,22 +49,27 @@ unfoldable pub digits : Of ℤ
 digits = one is_digits (λ t. numeral t.0 t.1.1) digits_token
 
 -- [ "+" | "-" ] digits
-unfoldable pub number : Of Value
-number = make (λ p. value.Int (signed p.0 p.1)) (both minus digits)
+unfoldable pub number : Of ℤ
+number = make (λ p. signed p.0 p.1) (both minus digits)
 
 -- a text in single quotes
-unfoldable pub string : Of Value
-string = one is_string (λ t. Some (value.Text (said t.0 t.1.1))) string_token
+unfoldable pub string : Of (List ℕ)
+string = one is_string (λ t. Some (said t.0 t.1.1)) string_token
 
 -- DATE string, where the string is a date: its day number
 unfoldable pub date : Of ℤ
 date = a_word word.Date ⊳ one is_string (λ t. day_in (said t.0 t.1.1)) date_token
 
--- column | DATE string | string | TRUE | FALSE | number
-unfoldable pub operand : Of (Operand ColumnName)
-operand = either (make Column column) (either (make Date date) (make Literal (either string
-    (either (word_for word.True (value.Bool true))
-    (either (word_for word.False (value.Bool false)) number)))))
+-- DATE string | string | TRUE | FALSE | number
+unfoldable pub literal : Of Literal
+literal = either (make Date date) (either (make Text string)
+    (either (word_for word.True (Truth true)) (either (word_for word.False (Truth false))
+    (make Number number))))
+
+-- column | literal
+unfoldable pub operand : Of (Operand Term)
+operand = either (make (λ name. Column (term.Name name)) column)
+    (make (λ written. Column (term.Literal written)) literal)
 
 -- "=" | "<>" | "<" | "<=" | ">" | ">=", where "!=" is "<>"
 unfoldable pub compare : Of Comparison

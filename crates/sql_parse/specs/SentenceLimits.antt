@@ -18,6 +18,8 @@ use Rattle.sql_query.specs.declared.query.Select.TheVariants as select
 use Rattle.sql_query.specs.declared.query.Place.{Place}
 use Rattle.sql_query.specs.declared.query.Equality.{Equality}
 use Rattle.sql_query.specs.declared.query.Join.{Join}
+use Rattle.sql_query.specs.declared.query.Term.{Term}
+use Rattle.sql_query.specs.declared.query.Term.TheVariants.{Name, Literal}
 use Rattle.sql_query.specs.Sentence.{Sentence}
 
 -- ---- the names in a sentence, of tables, columns and aliases, in their order
@@ -47,12 +49,15 @@ equality_names equality = column_names equality.left ++ column_names equality.ri
 abbrev pub join_names : Join → List (List ℕ)
 join_names join = place_names join.place ++ flat_map equality_names join.on
 
-abbrev pub operand_names : Operand ColumnName → List (List ℕ)
-operand_names (operand.Column column) = column_names column
-operand_names (operand.Literal value) = []
-operand_names (operand.Date day) = []
+abbrev pub term_names : Term → List (List ℕ)
+term_names (Name column) = column_names column
+term_names (Literal written) = []
 
-abbrev pub condition_names : Pred ColumnName → List (List ℕ)
+abbrev pub operand_names : Operand Term → List (List ℕ)
+operand_names (operand.Column term) = term_names term
+operand_names (operand.Literal value) = []
+
+abbrev pub condition_names : Pred Term → List (List ℕ)
 condition_names (conjunction p q) = condition_names p ++ condition_names q
 condition_names (disjunction p q) = condition_names p ++ condition_names q
 condition_names (negation p) = condition_names p
@@ -64,7 +69,7 @@ condition_names (membership negated a items) = operand_names a ++ flat_map opera
 condition_names (null_test negated a) = operand_names a
 condition_names (constant truth) = []
 
-abbrev pub filter_names : Option (Pred ColumnName) → List (List ℕ)
+abbrev pub filter_names : Option (Pred Term) → List (List ℕ)
 filter_names None = []
 filter_names (Some p) = condition_names p
 
@@ -78,7 +83,7 @@ abbrev pub select_items : Select → ℕ
 select_items select.All = 0
 select_items (select.List items) = length items
 
-abbrev pub members : Pred ColumnName → List ℕ
+abbrev pub members : Pred Term → List ℕ
 members (conjunction p q) = members p ++ members q
 members (disjunction p q) = members p ++ members q
 members (negation p) = members p
@@ -86,7 +91,7 @@ members (truth_test negated tested p) = members p
 members (membership negated a items) = length items ∷ []
 members other = []
 
-abbrev pub filter_members : Option (Pred ColumnName) → List ℕ
+abbrev pub filter_members : Option (Pred Term) → List ℕ
 filter_members None = []
 filter_members (Some p) = members p
 

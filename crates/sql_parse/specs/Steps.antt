@@ -3,17 +3,19 @@ use Rattle.std.specs.Prelude.{ℕ, Bool, true, false, if◌then◌else◌, List,
 use Rattle.std.specs.Prelude.{Some, None, Ok, Err, ℤ}
 use Rattle.scan_base.specs.declared.comparison.Comparison.{Comparison}
 use Rattle.scan_base.specs.declared.comparison.Comparison.TheVariants as comparison
-use Rattle.scan_base.specs.declared.value.Value.{Value}
-use Rattle.scan_base.specs.declared.value.Value.TheVariants as value
 use Rattle.scan_base.specs.declared.predicate.Operand.{Operand}
-use Rattle.scan_base.specs.declared.predicate.Operand.TheVariants.{Column, Literal, Date}
+use Rattle.scan_base.specs.declared.predicate.Operand.TheVariants.{Column}
 use Rattle.sql_text.specs.declared.word.Keyword.TheVariants as word
 use Rattle.sql_text.specs.declared.symbol.Symbol.TheVariants as symbol
 use Rattle.sql_text.specs.declared.token.TokenKind.{TokenKind}
 use Rattle.grammar.specs.Reading.{begins, token}
 use Rattle.sql_query.specs.declared.query.ColumnName.{ColumnName}
+use Rattle.sql_query.specs.declared.query.Literal.{Literal}
+use Rattle.sql_query.specs.declared.query.Literal.TheVariants.{Text, Truth, Number, Date}
+use Rattle.sql_query.specs.declared.query.Term.{Term}
+use Rattle.sql_query.specs.declared.query.Term.TheVariants as term
 use Rattle.sql_parse.specs.declared.refusal.Refusal.TheVariants as refusal
-use Rattle.calendar.specs.Dates.{day_in}
+use Rattle.number_words.specs.Dates.{day_in}
 use Rattle.sql_text.specs.Words.{is_name}
 use Rattle.sql_parse.specs.Tokens.{Mark, is_word, is_symbol, is_string, is_digits, value_of}
 use Rattle.sql_parse.specs.Tokens.{number_in}
@@ -59,11 +61,11 @@ digits_at ts = do
   t ← token_at is_digits ts
   numbered (number_in t.0) ts t.1
 
-unfoldable pub number_at : List Mark → Answer Value
+unfoldable pub number_at : List Mark → Answer ℤ
 number_at ts = do
   m ← minus_at ts
   n ← digits_at m.1
-  Ok (value.Int (signed m.0 n.0), n.1)
+  Ok (signed m.0 n.0, n.1)
 
 unfoldable pub date_at : List Mark → Answer ℤ
 date_at ts = do
@@ -71,21 +73,27 @@ date_at ts = do
   t ← token_at is_string w.1
   numbered (day_in (value_of t.0)) w.1 t.1
 
-unfoldable pub operand_at : List Mark → Answer (Operand ColumnName)
+unfoldable pub literal_at : List Mark → Answer Literal
+literal_at ts =
+    if at (is_word word.Date) ts then (do
+      d ← date_at ts
+      Ok (Date d.0, d.1)) else (if at is_string ts then (do
+        t ← token_at is_string ts
+        Ok (Text (value_of t.0), t.1)) else (if at (is_word word.True) ts then (do
+          t ← token_at (is_word word.True) ts
+          Ok (Truth true, t.1)) else (if at (is_word word.False) ts then (do
+            t ← token_at (is_word word.False) ts
+            Ok (Truth false, t.1)) else (do
+              n ← number_at ts
+              Ok (Number n.0, n.1)))))
+
+unfoldable pub operand_at : List Mark → Answer (Operand Term)
 operand_at ts =
     if at is_name ts then (do
       c ← column_at ts
-      Ok (Column c.0, c.1)) else (if at (is_word word.Date) ts then (do
-        d ← date_at ts
-        Ok (Date d.0, d.1)) else (if at is_string ts then (do
-          t ← token_at is_string ts
-          Ok (Literal (value.Text (value_of t.0)), t.1)) else (if at (is_word word.True) ts then (do
-            t ← token_at (is_word word.True) ts
-            Ok (Literal (value.Bool true), t.1)) else (if at (is_word word.False) ts then (do
-              t ← token_at (is_word word.False) ts
-              Ok (Literal (value.Bool false), t.1)) else (do
-                n ← number_at ts
-                Ok (Literal n.0, n.1))))))
+      Ok (Column (term.Name c.0), c.1)) else (do
+        l ← literal_at ts
+        Ok (Column (term.Literal l.0), l.1))
 
 unfoldable pub compare_at : List Mark → Answer Comparison
 compare_at ts =

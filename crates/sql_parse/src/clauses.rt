@@ -13,7 +13,7 @@ use crate::predicates::predicate;
 use crate::refusal::Refusal;
 use crate::tokens::{Class, Rest};
 use scan_base::{Items, Predicate, Text};
-use sql_query::{ColumnName, Equality, Expression, Join, Place, Query, Select, SelectItem};
+use sql_query::{ColumnName, Equality, Expression, Join, Place, Query, Select, SelectItem, Term};
 use sql_text::{Keyword, Symbol};
 use std::alloc::Global;
 
@@ -270,7 +270,7 @@ fn filter<'t>(
     alloc: Global,
     depth: usize,
     tokens: Rest<'t>,
-) -> Result<(Option<Predicate<ColumnName>>, Rest<'t>), Refusal>
+) -> Result<(Option<Predicate<Term>>, Rest<'t>), Refusal>
     ensures exact { Gives (λ x. (option_map pred_of x.0, unread x.1)) result
         (queries.filter_at depth (unread tokens.entry)) }
 {
@@ -289,7 +289,7 @@ fn ending<'t>(
     alloc: Global,
     depth: usize,
     tokens: Rest<'t>,
-) -> Result<((Option<Predicate<ColumnName>>, Items<ColumnName>), Rest<'t>), Refusal>
+) -> Result<((Option<Predicate<Term>>, Items<ColumnName>), Rest<'t>), Refusal>
     ensures exact { Gives (λ x. ((option_map pred_of x.0.0, x.0.1), unread x.1)) result
         (queries.ending_at depth (unread tokens.entry)) }
 {

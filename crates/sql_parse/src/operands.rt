@@ -7,9 +7,9 @@ ghost use Rattle.sql_parse.specs.Steps as steps;
 
 use crate::refusal::Refusal;
 use crate::tokens::{Class, Rest};
-use calendar::day_in;
-use scan_base::{Comparison, Operand, Text, Value};
-use sql_query::ColumnName;
+use number_words::day_in;
+use scan_base::{Comparison, Operand, Text};
+use sql_query::{ColumnName, Literal, Term};
 use sql_text::{Keyword, Symbol};
 use std::alloc::Global;
 
@@ -80,13 +80,13 @@ fn digits<'t>(tokens: Rest<'t>) -> Result<(i128, Rest<'t>), Refusal>
 
 // [ "+" | "-" ] digits
 #[tactic(auto, unfolding(crate::specs::Steps::number_at))]
-fn signed_number<'t>(tokens: Rest<'t>) -> Result<(Value, Rest<'t>), Refusal>
+fn signed_number<'t>(tokens: Rest<'t>) -> Result<(i128, Rest<'t>), Refusal>
     ensures exact { Gives (λ x. (x.0, unread x.1)) result (steps.number_at (unread tokens.entry)) }
     ensures shorter { IfOk result (λ x. remaining x.1 < remaining tokens.entry) }
 {
     let (negative, rest) = minus(tokens)?;
     let (number, rest) = digits(rest)?;
-    Ok((Value::Int(if negative { -number } else { number }), rest))
+    Ok((if negative { -number } else { number }, rest))
 }
 
 // DATE string, where the string is a date: its day number
@@ -104,34 +104,45 @@ fn date<'t>(alloc: Global, tokens: Rest<'t>) -> Result<(i32, Rest<'t>), Refusal>
     }
 }
 
-// column | DATE string | string | TRUE | FALSE | number
+// DATE string | string | TRUE | FALSE | number
+#[tactic(auto, unfolding(crate::specs::Steps::literal_at))]
+fn literal<'t>(alloc: Global, tokens: Rest<'t>) -> Result<(Literal, Rest<'t>), Refusal>
+    ensures exact { Gives (λ x. (x.0, unread x.1)) result (steps.literal_at (unread tokens.entry)) }
+    ensures shorter { IfOk result (λ x. remaining x.1 < remaining tokens.entry) }
+{
+    if tokens.at(Class::Word(Keyword::Date)) {
+        let (day, rest) = date(alloc, tokens)?;
+        Ok((Literal::Date(day), rest))
+    } else if tokens.at(Class::String) {
+        let (token, rest) = tokens.take(Class::String)?;
+        Ok((Literal::Text(token.value(alloc)?), rest))
+    } else if tokens.at(Class::Word(Keyword::True)) {
+        let (_, rest) = tokens.take(Class::Word(Keyword::True))?;
+        Ok((Literal::Truth(true), rest))
+    } else if tokens.at(Class::Word(Keyword::False)) {
+        let (_, rest) = tokens.take(Class::Word(Keyword::False))?;
+        Ok((Literal::Truth(false), rest))
+    } else {
+        let (number, rest) = signed_number(tokens)?;
+        Ok((Literal::Number(number), rest))
+    }
+}
+
+// column | literal
 #[tactic(auto, unfolding(crate::specs::Steps::operand_at))]
 pub(crate) fn operand<'t>(
     alloc: Global,
     tokens: Rest<'t>,
-) -> Result<(Operand<ColumnName>, Rest<'t>), Refusal>
+) -> Result<(Operand<Term>, Rest<'t>), Refusal>
     ensures exact { Gives (λ x. (x.0, unread x.1)) result (steps.operand_at (unread tokens.entry)) }
     ensures shorter { IfOk result (λ x. remaining x.1 < remaining tokens.entry) }
 {
     if tokens.at(Class::Name) {
         let (column, rest) = column(alloc, tokens)?;
-        Ok((Operand::Column(column), rest))
-    } else if tokens.at(Class::Word(Keyword::Date)) {
-        let (day, rest) = date(alloc, tokens)?;
-        Ok((Operand::Date(day), rest))
-    } else if tokens.at(Class::String) {
-        let (token, rest) = tokens.take(Class::String)?;
-        let text = token.value(alloc)?;
-        Ok((Operand::Literal(Value::Text(text)), rest))
-    } else if tokens.at(Class::Word(Keyword::True)) {
-        let (_, rest) = tokens.take(Class::Word(Keyword::True))?;
-        Ok((Operand::Literal(Value::Bool(true)), rest))
-    } else if tokens.at(Class::Word(Keyword::False)) {
-        let (_, rest) = tokens.take(Class::Word(Keyword::False))?;
-        Ok((Operand::Literal(Value::Bool(false)), rest))
+        Ok((Operand::Column(Term::Name(column)), rest))
     } else {
-        let (number, rest) = signed_number(tokens)?;
-        Ok((Operand::Literal(number), rest))
+        let (literal, rest) = literal(alloc, tokens)?;
+        Ok((Operand::Column(Term::Literal(literal)), rest))
     }
 }
 

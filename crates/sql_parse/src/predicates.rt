@@ -11,7 +11,7 @@ use crate::operands::{compare, operand};
 use crate::refusal::Refusal;
 use crate::tokens::{Class, Rest};
 use scan_base::{Items, Operand, Predicate, Truth};
-use sql_query::ColumnName;
+use sql_query::Term;
 use sql_text::{Keyword, Symbol};
 use std::alloc::Global;
 
@@ -59,9 +59,9 @@ fn truth_value<'t>(tokens: Rest<'t>) -> Result<(Truth, Rest<'t>), Refusal>
 #[inline(never)]
 fn compared<'t>(
     alloc: Global,
-    left: Operand<ColumnName>,
+    left: Operand<Term>,
     tokens: Rest<'t>,
-) -> Result<(Box<Predicate<ColumnName>>, Rest<'t>), Refusal>
+) -> Result<(Box<Predicate<Term>>, Rest<'t>), Refusal>
     ensures exact { Gives (λ x. (pred_of x.0.value, unread x.1)) result
         (predicates.compared_at left (unread tokens.entry)) }
     ensures shorter { IfOk result (λ x. remaining x.1 < remaining tokens.entry) }
@@ -81,9 +81,9 @@ fn compared<'t>(
 #[inline(never)]
 fn null_test<'t>(
     alloc: Global,
-    operand: Operand<ColumnName>,
+    operand: Operand<Term>,
     tokens: Rest<'t>,
-) -> Result<(Box<Predicate<ColumnName>>, Rest<'t>), Refusal>
+) -> Result<(Box<Predicate<Term>>, Rest<'t>), Refusal>
     ensures exact { Gives (λ x. (pred_of x.0.value, unread x.1)) result
         (predicates.nulled_at operand (unread tokens.entry)) }
     ensures shorter { IfOk result (λ x. remaining x.1 < remaining tokens.entry) }
@@ -101,9 +101,9 @@ fn null_test<'t>(
 fn between<'t>(
     alloc: Global,
     negated: bool,
-    value: Operand<ColumnName>,
+    value: Operand<Term>,
     tokens: Rest<'t>,
-) -> Result<(Box<Predicate<ColumnName>>, Rest<'t>), Refusal>
+) -> Result<(Box<Predicate<Term>>, Rest<'t>), Refusal>
     ensures exact { Gives (λ x. (pred_of x.0.value, unread x.1)) result
         (predicates.ranged_at negated value (unread tokens.entry)) }
     ensures shorter { IfOk result (λ x. remaining x.1 < remaining tokens.entry) }
@@ -125,9 +125,9 @@ fn between<'t>(
 #[tactic(auto, using(crate::proofs::Steps::operands_step))]
 fn operands<'t>(
     alloc: Global,
-    first: Operand<ColumnName>,
+    first: Operand<Term>,
     tokens: Rest<'t>,
-) -> Result<(Items<Operand<ColumnName>>, Rest<'t>), Refusal>
+) -> Result<(Items<Operand<Term>>, Rest<'t>), Refusal>
     ensures exact { Gives (λ x. (x.0, unread x.1)) result
         (predicates.operands_at (first ∷ []) (unread tokens.entry)) }
     ensures shorter { IfOk result (λ x. remaining x.1 ≤ remaining tokens.entry) }
@@ -150,9 +150,9 @@ fn operands<'t>(
 fn membership<'t>(
     alloc: Global,
     negated: bool,
-    value: Operand<ColumnName>,
+    value: Operand<Term>,
     tokens: Rest<'t>,
-) -> Result<(Box<Predicate<ColumnName>>, Rest<'t>), Refusal>
+) -> Result<(Box<Predicate<Term>>, Rest<'t>), Refusal>
     ensures exact { Gives (λ x. (pred_of x.0.value, unread x.1)) result
         (predicates.among_at negated value (unread tokens.entry)) }
     ensures shorter { IfOk result (λ x. remaining x.1 < remaining tokens.entry) }
@@ -174,9 +174,9 @@ fn membership<'t>(
 #[tactic(auto, unfolding(crate::specs::PredicateSteps::tail_at))]
 fn behind_operand<'t>(
     alloc: Global,
-    left: Operand<ColumnName>,
+    left: Operand<Term>,
     tokens: Rest<'t>,
-) -> Result<(Box<Predicate<ColumnName>>, Rest<'t>), Refusal>
+) -> Result<(Box<Predicate<Term>>, Rest<'t>), Refusal>
     ensures exact { Gives (λ x. (pred_of x.0.value, unread x.1)) result
         (predicates.tail_at left (unread tokens.entry)) }
     ensures shorter { IfOk result (λ x. remaining x.1 < remaining tokens.entry) }
@@ -205,10 +205,7 @@ fn behind_operand<'t>(
 // operand and what follows it
 #[tactic(auto, unfolding(crate::specs::PredicateSteps::form_at))]
 #[inline(never)]
-fn form<'t>(
-    alloc: Global,
-    tokens: Rest<'t>,
-) -> Result<(Box<Predicate<ColumnName>>, Rest<'t>), Refusal>
+fn form<'t>(alloc: Global, tokens: Rest<'t>) -> Result<(Box<Predicate<Term>>, Rest<'t>), Refusal>
     ensures exact { Gives (λ x. (pred_of x.0.value, unread x.1)) result
         (predicates.form_at (unread tokens.entry)) }
     ensures shorter { IfOk result (λ x. remaining x.1 < remaining tokens.entry) }
@@ -222,9 +219,9 @@ fn form<'t>(
 #[inline(never)]
 fn truth_test<'t>(
     alloc: Global,
-    predicate: Box<Predicate<ColumnName>>,
+    predicate: Box<Predicate<Term>>,
     tokens: Rest<'t>,
-) -> Result<(Box<Predicate<ColumnName>>, Rest<'t>), Refusal>
+) -> Result<(Box<Predicate<Term>>, Rest<'t>), Refusal>
     ensures exact { Gives (λ x. (pred_of x.0.value, unread x.1)) result
         (predicates.tested_at (pred_of predicate.value) (unread tokens.entry)) }
     ensures shorter { IfOk result (λ x. remaining x.1 < remaining tokens.entry) }
@@ -244,9 +241,9 @@ fn truth_test<'t>(
 #[inline(never)]
 fn both(
     alloc: Global,
-    left: Box<Predicate<ColumnName>>,
-    right: Box<Predicate<ColumnName>>,
-) -> Result<Box<Predicate<ColumnName>>, Refusal>
+    left: Box<Predicate<Term>>,
+    right: Box<Predicate<Term>>,
+) -> Result<Box<Predicate<Term>>, Refusal>
     ensures { Gives (λ x. pred_of x.value) result
         (Ok (conjunction (pred_of left.value) (pred_of right.value))) }
 {
@@ -257,9 +254,9 @@ fn both(
 #[inline(never)]
 fn either(
     alloc: Global,
-    left: Box<Predicate<ColumnName>>,
-    right: Box<Predicate<ColumnName>>,
-) -> Result<Box<Predicate<ColumnName>>, Refusal>
+    left: Box<Predicate<Term>>,
+    right: Box<Predicate<Term>>,
+) -> Result<Box<Predicate<Term>>, Refusal>
     ensures { Gives (λ x. pred_of x.value) result
         (Ok (disjunction (pred_of left.value) (pred_of right.value))) }
 {
@@ -273,7 +270,7 @@ fn negation<'t>(
     alloc: Global,
     depth: usize,
     tokens: Rest<'t>,
-) -> Result<(Box<Predicate<ColumnName>>, Rest<'t>), Refusal>
+) -> Result<(Box<Predicate<Term>>, Rest<'t>), Refusal>
     ensures exact { Gives (λ x. (pred_of x.0.value, unread x.1)) result
         (predicates.negation_at depth (unread tokens.entry)) }
     ensures shorter { IfOk result (λ x. remaining x.1 < remaining tokens.entry) }
@@ -294,7 +291,7 @@ fn factor<'t>(
     alloc: Global,
     depth: usize,
     tokens: Rest<'t>,
-) -> Result<(Box<Predicate<ColumnName>>, Rest<'t>), Refusal>
+) -> Result<(Box<Predicate<Term>>, Rest<'t>), Refusal>
     ensures exact { Gives (λ x. (pred_of x.0.value, unread x.1)) result
         (predicates.factor_at depth (unread tokens.entry)) }
     ensures shorter { IfOk result (λ x. remaining x.1 < remaining tokens.entry) }
@@ -314,7 +311,7 @@ fn conjunction<'t>(
     alloc: Global,
     depth: usize,
     tokens: Rest<'t>,
-) -> Result<(Box<Predicate<ColumnName>>, Rest<'t>), Refusal>
+) -> Result<(Box<Predicate<Term>>, Rest<'t>), Refusal>
     ensures exact { Gives (λ x. (pred_of x.0.value, unread x.1)) result
         (predicates.conj_at depth (unread tokens.entry)) }
     ensures shorter { IfOk result (λ x. remaining x.1 < remaining tokens.entry) }
@@ -337,7 +334,7 @@ pub(crate) fn predicate<'t>(
     alloc: Global,
     depth: usize,
     tokens: Rest<'t>,
-) -> Result<(Box<Predicate<ColumnName>>, Rest<'t>), Refusal>
+) -> Result<(Box<Predicate<Term>>, Rest<'t>), Refusal>
     ensures exact { Gives (λ x. (pred_of x.0.value, unread x.1)) result
         (predicates.pred_at depth (unread tokens.entry)) }
     ensures shorter { IfOk result (λ x. remaining x.1 < remaining tokens.entry) }
@@ -360,7 +357,7 @@ fn parenthesized<'t>(
     alloc: Global,
     depth: usize,
     tokens: Rest<'t>,
-) -> Result<(Box<Predicate<ColumnName>>, Rest<'t>), Refusal>
+) -> Result<(Box<Predicate<Term>>, Rest<'t>), Refusal>
     ensures exact { Gives (λ x. (pred_of x.0.value, unread x.1)) result
         (predicates.inside_at depth (unread tokens.entry)) }
     ensures shorter { IfOk result (λ x. remaining x.1 < remaining tokens.entry) }
@@ -382,7 +379,7 @@ fn primary<'t>(
     alloc: Global,
     depth: usize,
     tokens: Rest<'t>,
-) -> Result<(Box<Predicate<ColumnName>>, Rest<'t>), Refusal>
+) -> Result<(Box<Predicate<Term>>, Rest<'t>), Refusal>
     ensures exact { Gives (λ x. (pred_of x.0.value, unread x.1)) result
         (predicates.primary_at depth (unread tokens.entry)) }
     ensures shorter { IfOk result (λ x. remaining x.1 < remaining tokens.entry) }
@@ -401,7 +398,7 @@ fn test<'t>(
     alloc: Global,
     depth: usize,
     tokens: Rest<'t>,
-) -> Result<(Box<Predicate<ColumnName>>, Rest<'t>), Refusal>
+) -> Result<(Box<Predicate<Term>>, Rest<'t>), Refusal>
     ensures exact { Gives (λ x. (pred_of x.0.value, unread x.1)) result
         (predicates.test_at depth (unread tokens.entry)) }
     ensures shorter { IfOk result (λ x. remaining x.1 < remaining tokens.entry) }

@@ -15,6 +15,8 @@ use Rattle.sql_query.specs.declared.query.Select.TheVariants as select
 use Rattle.sql_query.specs.declared.query.Place.{Place}
 use Rattle.sql_query.specs.declared.query.Equality.{Equality}
 use Rattle.sql_query.specs.declared.query.Join.{Join}
+use Rattle.sql_query.specs.declared.query.Term.{Term}
+use Rattle.sql_query.specs.declared.query.Term.TheVariants.{Name, Literal}
 use Rattle.sql_query.specs.Sentence.{Sentence}
 
 -- a name has a byte or more, no more than it may have, and they are UTF-8
@@ -60,14 +62,18 @@ pub record JoinHasNames (join : Join) : Type 0 where
   pub place : PlaceHasNames join.place
   pub on : All EqualityHasNames join.on
 
+-- the name of a term, where it is one
+abbrev pub TermHasNames : Term → Type 0
+TermHasNames (Name column) = IsColumnName column
+TermHasNames (Literal written) = Unit {0}
+
 -- the names of an operand
-abbrev pub OperandHasNames : Operand ColumnName → Type 0
-OperandHasNames (operand.Column column) = IsColumnName column
+abbrev pub OperandHasNames : Operand Term → Type 0
+OperandHasNames (operand.Column term) = TermHasNames term
 OperandHasNames (operand.Literal value) = Unit {0}
-OperandHasNames (operand.Date day) = Unit {0}
 
 -- the names of a predicate
-abbrev pub ConditionHasNames : Pred ColumnName → Type 0
+abbrev pub ConditionHasNames : Pred Term → Type 0
 ConditionHasNames (conjunction p q) = ConditionHasNames p × ConditionHasNames q
 ConditionHasNames (disjunction p q) = ConditionHasNames p × ConditionHasNames q
 ConditionHasNames (negation p) = ConditionHasNames p

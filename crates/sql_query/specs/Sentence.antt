@@ -12,13 +12,14 @@ use Rattle.sql_query.specs.declared.query.Select.TheVariants as select
 use Rattle.sql_query.specs.declared.query.Place.{Place}
 use Rattle.sql_query.specs.declared.query.Join.{Join}
 use Rattle.sql_query.specs.declared.query.Query.{Query}
+use Rattle.sql_query.specs.declared.query.Term.{Term}
 
 -- what a query says, without where its parts lie in memory
 pub record Sentence : Type 0 where
   pub select : Select
   pub first : Place
   pub joins : List Join
-  pub filter : Option (Pred ColumnName)
+  pub filter : Option (Pred Term)
   pub group_by : List ColumnName
 
 -- what a query of the code says

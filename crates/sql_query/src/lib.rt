@@ -4,4 +4,6 @@
 
 pub mod query;
 
-pub use crate::query::{ColumnName, Equality, Expression, Join, Place, Query, Select, SelectItem};
+pub use crate::query::{
+    ColumnName, Equality, Expression, Join, Literal, Place, Query, Select, SelectItem, Term,
+};

@@ -22,6 +22,35 @@ impl Drop for ColumnName {
     }
 }
 
+/// A literal as it is written. Binding says which value it is.
+#[derive(Drop)]
+pub enum Literal {
+    /// What stands between single quotes.
+    Text(Text),
+    /// `TRUE` or `FALSE`
+    Truth(bool),
+    /// What a sign and digits say.
+    Number(i128),
+    /// The day number of the date after `DATE`, where 1970-01-01 is 0.
+    Date(i32),
+}
+
+/// A side of a comparison as it is written.
+pub enum Term {
+    Name(ColumnName),
+    Literal(Literal),
+}
+
+// Written out, so that dropping it is one call (docs/DECISIONS.md).
+impl Drop for Term {
+    fn drop(self) {
+        match self {
+            Term::Name(_) => {}
+            Term::Literal(_) => {}
+        }
+    }
+}
+
 /// What an item of the list gives: a column, or an aggregate of the rows of a group.
 pub enum Expression {
     Column(ColumnName),
@@ -121,7 +150,7 @@ pub struct Query {
     pub select: Select,
     pub first: Place,
     pub joins: Items<Join>,
-    pub filter: Option<Predicate<ColumnName>>,
+    pub filter: Option<Predicate<Term>>,
     pub group_by: Items<ColumnName>,
 }
 

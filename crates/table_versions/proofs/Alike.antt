@@ -5,11 +5,11 @@ use Rattle.std.proofs.lemmas.List.Elements.{All-weaker}
 use Rattle.std.proofs.lemmas.Bool.{and_parts}
 use Rattle.scan_base.specs.declared.value.Value.{Value}
 use Rattle.scan_base.specs.declared.value.Value.TheVariants as value
-use Rattle.arrow_types.specs.declared.data_type.IntegerType.{IntegerType}
-use Rattle.arrow_types.specs.declared.data_type.IntegerType.TheVariants.{Int8, Int16, Int32, Int64, UInt8, UInt16, UInt32, UInt64}
+use Rattle.arrow_types.specs.declared.data_type.NumberType.{NumberType}
 use Rattle.arrow_types.specs.declared.data_type.DataType.{DataType}
-use Rattle.arrow_types.specs.declared.data_type.DataType.TheVariants.{Integer, Utf8, Bool, Decimal128, Date, Dictionary}
+use Rattle.arrow_types.specs.declared.data_type.DataType.TheVariants.{Number, Utf8, Bool, Dictionary}
 use Rattle.arrow_types.specs.declared.schema.Field.{Field}
+use Rattle.arrow_types.proofs.SameNumber.{same_number_is}
 use Rattle.arrays.specs.declared.layout.Layout.{Layout}
 use Rattle.arrays.specs.declared.layout.Layout.TheVariants as layout
 use Rattle.arrays.specs.Column.{ColumnAt}
@@ -20,25 +20,10 @@ use Rattle.table_versions.specs.Table.{Row, same_type, same_field, same_fields, 
 use Rattle.table_versions.specs.KeptTables.{AreSound}
 use Rattle.table_versions.specs.Valid.{IsRow}
 
--- integers of one width, with or without a sign, are of one type
-same_integer : (a b : IntegerType) → same_type (Integer a) (Integer b) ≡ true → a ≡ b
-same_integer Int8 Int8 h = refl
-same_integer Int16 Int16 h = refl
-same_integer Int32 Int32 h = refl
-same_integer Int64 Int64 h = refl
-same_integer UInt8 UInt8 h = refl
-same_integer UInt16 UInt16 h = refl
-same_integer UInt32 UInt32 h = refl
-same_integer UInt64 UInt64 h = refl
-same_integer _ _ h = cc
-
 typed_layout : (old new : DataType) (slots : Layout) → same_type old new ≡ true → IsOfType new slots → IsOfType old slots
-typed_layout (Integer a) (Integer b) (layout.Integers cells) h typed = typed ∙ sym (same_integer a b h)
-typed_layout (Integer a) (Integer b) _ h typed = absurd typed
+typed_layout (Number a) (Number b) slots h typed = subst (λ (kind : NumberType). IsOfType (Number kind) slots) (sym (same_number_is a b h)) typed
 typed_layout Utf8 Utf8 slots h typed = typed
 typed_layout Bool Bool slots h typed = typed
-typed_layout Decimal128 Decimal128 slots h typed = typed
-typed_layout Date Date slots h typed = typed
 typed_layout (Dictionary a) (Dictionary b) (layout.Indices cells) h typed = tt
 typed_layout (Dictionary a) (Dictionary b) _ h typed = absurd typed
 typed_layout _ _ _ h typed = absurd (differ h)
@@ -96,11 +81,9 @@ sound_alike old new rows h sound = record { nulls = all_nulls_alike old new rows
 
 -- a value of the type of one is of the type of the other
 value_alike : (old new : DataType) (v : Value) → same_type old new ≡ true → IsValueOf new v → IsValueOf old v
-value_alike (Integer a) (Integer b) v h is = subst (λ (i : IntegerType). IsValueOf (Integer i) v) (sym (same_integer a b h)) is
+value_alike (Number a) (Number b) v h is = subst (λ (kind : NumberType). IsValueOf (Number kind) v) (sym (same_number_is a b h)) is
 value_alike Utf8 Utf8 v h is = is
 value_alike Bool Bool v h is = is
-value_alike Decimal128 Decimal128 v h is = is
-value_alike Date Date v h is = is
 value_alike (Dictionary a) (Dictionary b) value.Null h is = tt
 value_alike (Dictionary a) (Dictionary b) (value.Text bytes) h is = is
 value_alike (Dictionary a) (Dictionary b) (value.Bool flag) h is = absurd is

@@ -4,7 +4,8 @@ use Rattle.std.specs.List.{range_with_len}
 use Rattle.scan_base.specs.declared.value.Value.TheVariants.{Int, Null, Text}
 use Rattle.scan_base.specs.declared.fault.Fault.TheVariants.{TableMissing, TableExists, LimitReached, BadBatch, SchemaMismatch}
 use Rattle.arrow_types.specs.declared.data_type.DataType.{DataType}
-use Rattle.arrow_types.specs.declared.data_type.DataType.TheVariants.{Integer, Utf8, Dictionary}
+use Rattle.arrow_types.specs.declared.data_type.DataType.TheVariants.{Number, Utf8, Dictionary}
+use Rattle.arrow_types.specs.declared.data_type.NumberType.TheVariants.{Integer}
 use Rattle.arrow_types.specs.declared.data_type.IntegerType.TheVariants.{Int8, Int64, UInt8}
 use Rattle.arrow_types.specs.declared.schema.Field.{Field}
 use Rattle.arrays.specs.Batch.{BatchAt}
@@ -35,7 +36,7 @@ put if_not_exist if_exists data_type rows =
     }
 
 abbrev int64 : DataType
-int64 = Integer Int64
+int64 = Number (Integer Int64)
 
 abbrev created : Put
 created = put absent.Create Fail int64 (int 1 ∷ int 2 ∷ [])
@@ -101,7 +102,7 @@ two_alike : after [] 0 (record created {
 }) ≡ Err SchemaMismatch
 two_alike = refl
 
-other_type : after (database_after (created ∷ [])) 1 (appended (Integer UInt8) []) ≡ Err SchemaMismatch
+other_type : after (database_after (created ∷ [])) 1 (appended (Number (Integer UInt8)) []) ≡ Err SchemaMismatch
 other_type = refl
 
 other_name : after (database_after (created ∷ [])) 1 (record (appended int64 []) { schema = record { fields = field (codes "b") int64 ∷ [] } })

@@ -1,15 +1,15 @@
 -- Tables as plain lists: columns, and rows.
-use Rattle.std.specs.Prelude.{ℕ, ◌==◌, Bool, true, false, not, ◌&&◌, List, [], ◌∷◌, length, nat_lt}
+use Rattle.std.specs.Prelude.{ℕ, Bool, true, false, not, ◌&&◌, List, [], ◌∷◌, length, nat_lt}
 use Rattle.std.specs.List.{list_any, zip}
 use Rattle.std.specs.Str.{bytes_eq}
 use Rattle.scan_base.specs.declared.value.Value.{Value}
 use Rattle.scan_base.specs.declared.value.Value.TheVariants.{Text}
 use Rattle.arrow_types.specs.declared.data_type.DataType.{DataType}
-use Rattle.arrow_types.specs.declared.data_type.DataType.TheVariants.{Integer, Utf8, Bool as Flag}
-use Rattle.arrow_types.specs.declared.data_type.DataType.TheVariants.{Decimal128, Date, Dictionary}
+use Rattle.arrow_types.specs.declared.data_type.DataType.TheVariants.{Number, Utf8, Bool as Flag}
+use Rattle.arrow_types.specs.declared.data_type.DataType.TheVariants.{Dictionary}
 use Rattle.arrow_types.specs.declared.schema.Field.{Field}
 use Rattle.arrow_types.specs.declared.schema.Schema.{Schema}
-use Rattle.arrow_types.specs.DataType.{bit_width, is_signed}
+use Rattle.arrow_types.specs.DataType.{same_number}
 use Rattle.scan_base.specs.Value.{is_null, same_flag}
 use Rattle.scan_base.specs.Limits.{most_text_bytes}
 
@@ -29,12 +29,9 @@ pub record Table : Type 0 where
 -- Whether two columns have values of one type. A dictionary's id and index type are not compared,
 -- and a dictionary of texts is another type than Utf8.
 abbrev pub same_type : DataType → DataType → Bool
-same_type (Integer a) (Integer b) =
-    bit_width a == bit_width b && same_flag (is_signed a) (is_signed b)
+same_type (Number a) (Number b) = same_number a b
 same_type Utf8 Utf8 = true
 same_type Flag Flag = true
-same_type Decimal128 Decimal128 = true
-same_type Date Date = true
 same_type (Dictionary a) (Dictionary b) = true
 same_type _ _ = false
 

@@ -4,29 +4,20 @@ ghost use Rattle.std.specs.Prelude.{◌≡◌, length};
 ghost use Rattle.std.specs.List.{list_any};
 ghost use Rattle.scan_base.specs.Lists.{repeats};
 ghost use Rattle.table_versions.specs.Table.{same_type, same_field, same_fields, same_name};
-ghost use Rattle.arrow_types.specs.declared.data_type.DataType.TheVariants.{Integer};
 
-use arrow_types::{DataType, Field, IntegerType};
+use arrow_types::{DataType, Field};
 
 // Whether two columns have values of one type. A dictionary's id and index type are not compared.
 fn same_type(old: DataType, new: DataType) -> bool
     ensures { result ≡ same_type old new }
 {
     match (old, new) {
-        (DataType::Integer(old), DataType::Integer(new)) => same_integers(old, new),
+        (DataType::Number(old), DataType::Number(new)) => old.is_same(new),
         (DataType::Utf8, DataType::Utf8) => true,
         (DataType::Bool, DataType::Bool) => true,
-        (DataType::Decimal128, DataType::Decimal128) => true,
-        (DataType::Date, DataType::Date) => true,
         (DataType::Dictionary(_), DataType::Dictionary(_)) => true,
         (_, _) => false,
     }
-}
-
-fn same_integers(old: IntegerType, new: IntegerType) -> bool
-    ensures { result ≡ same_type (Integer old) (Integer new) }
-{
-    old.bit_width() == new.bit_width() && old.is_signed() == new.is_signed()
 }
 
 fn same_field(old: &Field, new: &Field) -> bool

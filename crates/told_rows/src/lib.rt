@@ -2,7 +2,7 @@
 #![tactic(auto)]
 
 use arrays::{Batch, Cells};
-use arrow_types::Schema;
+use arrow_types::{DataType, NumberType, Schema};
 use scan_base::ValueRef;
 use std::alloc::AllocError;
 
@@ -37,12 +37,22 @@ pub fn push_rows(told: &mut String, batch: &Batch) -> Result<(), AllocError> {
     Ok(())
 }
 
+/// Adds a type, as `Integer(Int64)`, `Decimal128`, `Date` or `Utf8`.
+pub fn push_type(told: &mut String, data_type: DataType) -> Result<(), AllocError> {
+    match data_type {
+        DataType::Number(NumberType::Decimal) => told.push_str("Decimal128"),
+        DataType::Number(number) => write!(told, "{number:?}"),
+        other => write!(told, "{other:?}"),
+    }
+}
+
 /// Adds of each column its name, its type, and whether a cell may be null.
 pub fn push_schema(told: &mut String, schema: &Schema) -> Result<(), AllocError> {
     for field in schema.fields.as_slice() {
-        let (name, data_type) = (field.name.as_str(), field.data_type);
-        let end = if field.nullable { " or null;" } else { ";" };
-        write!(told, "{name} {data_type:?}{end}")?;
+        told.push_str(field.name.as_str())?;
+        told.push(' ')?;
+        push_type(told, field.data_type)?;
+        told.push_str(if field.nullable { " or null;" } else { ";" })?;
     }
     Ok(())
 }

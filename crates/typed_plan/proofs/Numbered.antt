@@ -1,4 +1,4 @@
--- A predicate with other names of its columns has the truth over what these stand for.
+-- A predicate in which other operands stand for what it names has its truth over what these are.
 use Rattle.std.proofs.Common.{◌≡◌, List, [], ◌∷◌, map, refl, ap, ◌∙◌}
 use Rattle.scan_base.specs.declared.comparison.Comparison.TheVariants.{Equal}
 use Rattle.scan_base.specs.declared.predicate.Operand.{Operand}
@@ -8,39 +8,42 @@ use Rattle.scan_base.specs.Comparison.{compared, nullness}
 use Rattle.scan_base.specs.Predicate.{Pred, conjunction, disjunction, negation, truth_test, comparing, between}
 use Rattle.scan_base.specs.Predicate.{membership, null_test, constant, truth_of, operand_value, any_equal}
 use Rattle.scan_base.specs.Truth.{truth_or, truth_not, truth_is, negated_if}
-use Rattle.typed_plan.specs.NumberedPredicates.{operand_map, predicate_map}
+use Rattle.typed_plan.specs.NumberedPredicates.{operand_bind, predicate_bind, predicate_map}
 
--- an operand with other names of its columns has the value of what these stand for
-operand_value-map : {C D : Type 0} (cell : D → Value) (f : C → D) (o : Operand C) →
-    operand_value cell (operand_map f o) ≡ operand_value (λ c. cell (f c)) o
-operand_value-map cell f (operand.Column column) = refl
-operand_value-map cell f (operand.Literal value) = refl
-operand_value-map cell f (operand.Date day) = refl
+module _ {C D : Type 0} (cell : D → Value) (f : C → Operand D) where
+  -- the value of what stands for a name
+  abbrev stands : C → Value
+  stands c = operand_value cell (f c)
 
-any_equal-map : {C D : Type 0} (cell : D → Value) (f : C → D) (value : Value) (items : List (Operand C)) →
-    any_equal cell value (map (operand_map f) items) ≡ any_equal (λ c. cell (f c)) value items
-any_equal-map cell f value [] = refl
-any_equal-map cell f value (item ∷ items) =
-    ap (λ other. truth_or (compared Equal value other) (any_equal cell value (map (operand_map f) items)))
-    (operand_value-map cell f item)
-    ∙ ap (truth_or (compared Equal value (operand_value (λ c. cell (f c)) item))) (any_equal-map cell f value items)
+  operand_value-bind : (o : Operand C) → operand_value cell (operand_bind f o) ≡ operand_value stands o
+  operand_value-bind (operand.Column column) = refl
+  operand_value-bind (operand.Literal value) = refl
 
--- and a predicate its truth
+  any_equal-bind : (value : Value) (items : List (Operand C)) →
+      any_equal cell value (map (operand_bind f) items) ≡ any_equal stands value items
+  any_equal-bind value [] = refl
+  any_equal-bind value (item ∷ items) =
+      ap (λ other. truth_or (compared Equal value other) (any_equal cell value (map (operand_bind f) items)))
+      (operand_value-bind item)
+      ∙ ap (truth_or (compared Equal value (operand_value stands item))) (any_equal-bind value items)
+
+  pub truth_of-bind : (p : Pred C) → truth_of cell (predicate_bind f p) ≡ truth_of stands p
+  truth_of-bind (conjunction p q) = let a = truth_of-bind p in let b = truth_of-bind q in cc
+  truth_of-bind (disjunction p q) = let a = truth_of-bind p in let b = truth_of-bind q in cc
+  truth_of-bind (negation p) = ap truth_not (truth_of-bind p)
+  truth_of-bind (truth_test negated tested p) =
+      ap (λ truth. negated_if negated (truth_is truth tested)) (truth_of-bind p)
+  truth_of-bind (comparing comparison left right) =
+      let a = operand_value-bind left in let b = operand_value-bind right in cc
+  truth_of-bind (between negated o low high) =
+      let a = operand_value-bind o in let b = operand_value-bind low in let c = operand_value-bind high in cc
+  truth_of-bind (membership negated o items) =
+      ap (λ value. negated_if negated (any_equal cell value (map (operand_bind f) items))) (operand_value-bind o)
+      ∙ ap (negated_if negated) (any_equal-bind (operand_value stands o) items)
+  truth_of-bind (null_test negated o) = ap (λ value. negated_if negated (nullness value)) (operand_value-bind o)
+  truth_of-bind (constant truth) = refl
+
+-- a predicate with other names of its columns has the truth over what these stand for
 pub truth_of-map : {C D : Type 0} (cell : D → Value) (f : C → D) (p : Pred C) →
     truth_of cell (predicate_map f p) ≡ truth_of (λ c. cell (f c)) p
-truth_of-map cell f (conjunction p q) = let a = truth_of-map cell f p in let b = truth_of-map cell f q in cc
-truth_of-map cell f (disjunction p q) = let a = truth_of-map cell f p in let b = truth_of-map cell f q in cc
-truth_of-map cell f (negation p) = ap truth_not (truth_of-map cell f p)
-truth_of-map cell f (truth_test negated tested p) =
-    ap (λ truth. negated_if negated (truth_is truth tested)) (truth_of-map cell f p)
-truth_of-map cell f (comparing comparison left right) =
-    let a = operand_value-map cell f left in let b = operand_value-map cell f right in cc
-truth_of-map cell f (between negated o low high) =
-    let a = operand_value-map cell f o in let b = operand_value-map cell f low in let c =
-    operand_value-map cell f high in cc
-truth_of-map cell f (membership negated o items) =
-    ap (λ value. negated_if negated (any_equal cell value (map (operand_map f) items))) (operand_value-map cell f o)
-    ∙ ap (negated_if negated) (any_equal-map cell f (operand_value (λ c. cell (f c)) o) items)
-truth_of-map cell f (null_test negated o) =
-    ap (λ value. negated_if negated (nullness value)) (operand_value-map cell f o)
-truth_of-map cell f (constant truth) = refl
+truth_of-map cell f p = truth_of-bind cell (λ c. operand.Column (f c)) p

@@ -7,7 +7,7 @@ use Rattle.std.proofs.lemmas.Option.{slice_get_within}
 use Rattle.arrow_types.specs.declared.data_type.DataType.{DataType}
 use Rattle.scan_base.specs.declared.fault.Fault.{Fault}
 use Rattle.scan_base.specs.declared.predicate.Operand.{Operand}
-use Rattle.scan_base.specs.declared.predicate.Operand.TheVariants.{Column, Literal, Date}
+use Rattle.scan_base.specs.declared.predicate.Operand.TheVariants.{Column, Literal}
 use Rattle.scan_base.specs.Predicate.{conjunction, disjunction, negation, truth_test, comparing, between, membership}
 use Rattle.scan_base.specs.Predicate.{null_test, constant, operand_names, names_only}
 use Rattle.typed_plan.specs.declared.class.Class.{Class}
@@ -30,7 +30,6 @@ compare_parts (Err fault) b e = cc
 operand_there : (types : List DataType) (o : Operand ℕ) → fault_in (operand_class (class_of_number types) o) ≡ None →
     operand_names (is_there types) o ≡ true
 operand_there types (Literal value) e = refl
-operand_there types (Date day) e = refl
 operand_there types (Column column) e = of_type (slice_get types column) refl e
   where
     of_type : (there : Option DataType) → slice_get types column ≡ there → fault_in (class_if_there there) ≡ None →

@@ -1,32 +1,55 @@
--- The classes of values: only values of one class are compared.
+-- The classes of values: only values of one class are compared. And the values of literals.
 use Rattle.std.specs.Prelude.{Bool, true, false}
+use denote.Enum.Bare.{sameb}
 use Rattle.arrow_types.specs.declared.data_type.DataType.{DataType}
-use Rattle.arrow_types.specs.declared.data_type.DataType.TheVariants.{Integer, Utf8, Bool as Flag}
-use Rattle.arrow_types.specs.declared.data_type.DataType.TheVariants.{Decimal128, Date as Days}
-use Rattle.arrow_types.specs.declared.data_type.DataType.TheVariants.{Dictionary}
+use Rattle.arrow_types.specs.declared.data_type.DataType.TheVariants as type
+use Rattle.arrow_types.specs.declared.data_type.NumberType.{NumberType}
+use Rattle.arrow_types.specs.declared.data_type.NumberType.TheVariants as number
 use Rattle.scan_base.specs.declared.value.Value.{Value}
 use Rattle.scan_base.specs.declared.value.Value.TheVariants as value
+use Rattle.sql_query.specs.declared.query.Literal.{Literal}
+use Rattle.sql_query.specs.declared.query.Literal.TheVariants as literal
+use Rattle.typed_plan.specs.contracts.class.Class.{the_type}
 use Rattle.typed_plan.specs.declared.class.Class.{Class}
 use Rattle.typed_plan.specs.declared.class.Class.TheVariants.{Number, Text, Truth, Date}
 
 -- whether two classes are one
 abbrev pub same_class : Class → Class → Bool
-same_class Number Number = true
-same_class Text Text = true
-same_class Truth Truth = true
-same_class Date Date = true
-same_class _ _ = false
+same_class a b = sameb the_type a b
+
+-- the class of the numbers of a column
+abbrev pub number_class : NumberType → Class
+number_class (number.Integer integer) = Number
+number_class number.Decimal = Number
+number_class number.Date = Date
 
 -- the class of a column's values
 abbrev pub type_class : DataType → Class
-type_class (Integer integer) = Number
-type_class Utf8 = Text
-type_class Flag = Truth
-type_class Decimal128 = Number
-type_class Days = Date
-type_class (Dictionary encoding) = Text
+type_class (type.Number kind) = number_class kind
+type_class type.Utf8 = Text
+type_class type.Bool = Truth
+type_class (type.Dictionary encoding) = Text
 
--- the class of a literal, which is no null, and no date: those are operands of their own
+-- the class of a literal
+abbrev pub literal_class : Literal → Class
+literal_class (literal.Text bytes) = Text
+literal_class (literal.Truth flag) = Truth
+literal_class (literal.Number number) = Number
+literal_class (literal.Date day) = Date
+
+-- the value of a literal: of a date it is the day number
+abbrev pub literal_value : Literal → Value
+literal_value (literal.Text bytes) = value.Text bytes
+literal_value (literal.Truth flag) = value.Bool flag
+literal_value (literal.Number number) = value.Int number
+literal_value (literal.Date day) = value.Int day
+
+-- the class where literals are values: a number is one, whatever it means
+abbrev pub bound_class : Class → Class
+bound_class Date = Number
+bound_class class = class
+
+-- the class of a value, which is no null
 abbrev pub value_class : Value → Class
 value_class value.Null = Number
 value_class (value.Bool flag) = Truth
@@ -35,5 +58,5 @@ value_class (value.Text text) = Text
 
 -- whether SUM takes values of this type
 abbrev pub can_sum : DataType → Bool
-can_sum (Integer integer) = true
+can_sum (type.Number (number.Integer integer)) = true
 can_sum _ = false

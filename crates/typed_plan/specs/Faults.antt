@@ -3,13 +3,12 @@ use Rattle.std.specs.Prelude.{Bool, true, false, List, [], ◌∷◌, Option, So
 use Rattle.scan_base.specs.declared.fault.Fault.{Fault}
 use Rattle.scan_base.specs.declared.fault.Fault.TheVariants.{TypeClash}
 use Rattle.scan_base.specs.declared.predicate.Operand.{Operand}
-use Rattle.scan_base.specs.declared.predicate.Operand.TheVariants.{Column, Literal, Date}
+use Rattle.scan_base.specs.declared.predicate.Operand.TheVariants.{Column, Literal}
 use Rattle.scan_base.specs.Predicate.{Pred, conjunction, disjunction, negation, truth_test}
 use Rattle.scan_base.specs.Predicate.{comparing, between}
 use Rattle.scan_base.specs.Predicate.{membership, null_test, constant}
 use Rattle.typed_plan.specs.declared.class.Class.{Class}
 use Rattle.typed_plan.specs.Class.{same_class, value_class}
-use Rattle.typed_plan.specs.declared.class.Class.TheVariants.{Date as DateClass}
 
 infixr 5 ◌then◌
 -- the first fault of the one check, then of the other
@@ -36,11 +35,10 @@ first_in check (x ∷ xs) = check x then first_in check xs
 abbrev pub fault_in : {A : Type 0} → Result A Fault → Option Fault
 fault_in result = found result (λ _. None)
 
--- the class of an operand, where `class_of` says each column's
+-- the class of an operand, where `class_of` says that of what a C names
 abbrev pub operand_class : {C : Type 0} → (C → Result Class Fault) → Operand C → Result Class Fault
 operand_class class_of (Column column) = class_of column
 operand_class class_of (Literal value) = Ok (value_class value)
-operand_class class_of (Date day) = Ok DateClass
 
 -- the left name, the right name, then whether the classes agree
 abbrev pub compare_fault : Result Class Fault → Result Class Fault → Option Fault
@@ -52,7 +50,7 @@ abbrev pub items_fault : {C : Type 0} → (C → Result Class Fault) → Result 
 items_fault class_of class items =
     first_in (λ item. compare_fault class (operand_class class_of item)) items
 
--- a predicate from the left, where `class_of` says each column's class
+-- a predicate from the left, where `class_of` says the class of what a C names
 abbrev pub predicate_fault : {C : Type 0} → (C → Result Class Fault) → Pred C → Option Fault
 predicate_fault class_of (conjunction p q) =
     predicate_fault class_of p then predicate_fault class_of q

@@ -7,14 +7,14 @@ use Rattle.scan_base.specs.declared.comparison.Comparison.TheVariants.{Equal}
 use Rattle.scan_base.specs.Truth.{keeps}
 use Rattle.scan_base.specs.Comparison.{compared}
 use Rattle.scan_base.specs.Predicate.{Pred, truth_of}
-use Rattle.sql_query.specs.declared.query.ColumnName.{ColumnName}
+use Rattle.sql_query.specs.declared.query.Term.{Term}
 use Rattle.sql_query.specs.declared.query.Place.{Place}
 use Rattle.sql_query.specs.declared.query.Join.{Join}
 use Rattle.sql_query.specs.declared.query.Equality.{Equality}
 use Rattle.sql_query.specs.Sentence.{Sentence, place_name}
 use Rattle.table_versions.specs.Table.{Row, Table}
 use Rattle.table_versions.specs.Database.{Database, table_at}
-use Rattle.typed_plan.specs.Scope.{Scope, columns_in, named_cell}
+use Rattle.typed_plan.specs.Scope.{Scope, columns_in, named_cell, term_value}
 
 -- the columns of a table, where it is there
 abbrev pub fields_in : Option Table → List Field
@@ -77,9 +77,9 @@ from_rows query database a b =
     (rows_between a b (place_rows database query.first))
 
 -- whether WHERE is true
-abbrev pub meets_where : Scope → Option (Pred ColumnName) → Row → Bool
+abbrev pub meets_where : Scope → Option (Pred Term) → Row → Bool
 meets_where scope None row = true
-meets_where scope (Some predicate) row = keeps (truth_of (named_cell scope row) predicate)
+meets_where scope (Some predicate) row = keeps (truth_of (term_value scope row) predicate)
 
 -- the joined rows for which WHERE is true, in order
 abbrev pub kept_rows : Sentence → Database → ℕ → ℕ → List Row

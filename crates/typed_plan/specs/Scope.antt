@@ -1,4 +1,4 @@
--- The columns that the names of a query may stand for.
+-- The columns that the names of a query may stand for, and what its terms are.
 use Rattle.std.specs.Prelude.{ℕ, ◌+◌, Bool, true, ◌&&◌, if◌then◌else◌, List, [], ◌∷◌, map, Option}
 use Rattle.std.specs.Prelude.{Some, None, Result}
 use Rattle.std.specs.Prelude.{Ok, Err}
@@ -6,10 +6,15 @@ use Rattle.std.specs.Str.{bytes_eq}
 use Rattle.arrow_types.specs.declared.schema.Field.{Field}
 use Rattle.scan_base.specs.declared.fault.Fault.{Fault}
 use Rattle.scan_base.specs.declared.fault.Fault.TheVariants.{UnknownName}
+use Rattle.scan_base.specs.declared.predicate.Operand.{Operand}
+use Rattle.scan_base.specs.declared.predicate.Operand.TheVariants.{Column, Literal}
 use Rattle.scan_base.specs.declared.value.Value.{Value}
-use Rattle.scan_base.specs.Predicate.{cell_in}
+use Rattle.scan_base.specs.Predicate.{cell_in, operand_value}
 use Rattle.sql_query.specs.declared.query.ColumnName.{ColumnName}
+use Rattle.sql_query.specs.declared.query.Term.{Term}
+use Rattle.sql_query.specs.declared.query.Term.TheVariants as term
 use Rattle.table_versions.specs.Table.{Name, Row}
+use Rattle.typed_plan.specs.Class.{literal_value}
 
 -- a column of a place, with the name that the place goes by
 pub record ScopeColumn : Type 0 where
@@ -63,3 +68,12 @@ numbered scope name = number_in (column_of scope name)
 -- before
 abbrev pub named_cell : Scope → Row → ColumnName → Value
 named_cell scope row name = cell_in row (numbered scope name)
+
+-- what a term is over numbers of columns: the column that a name means, or the value of a literal
+abbrev pub term_operand : Scope → Term → Operand ℕ
+term_operand scope (term.Name name) = Column (numbered scope name)
+term_operand scope (term.Literal literal) = Literal (literal_value literal)
+
+-- the value of a term in a row
+abbrev pub term_value : Scope → Row → Term → Value
+term_value scope row written = operand_value (cell_in row) (term_operand scope written)

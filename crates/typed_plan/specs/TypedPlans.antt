@@ -4,7 +4,8 @@ use Rattle.std.specs.Prelude.{nat_lt, slice_get, get_or, unwrap_or}
 use Rattle.std.specs.Prelude.{Option, Some, None, Result, Ok, Err}
 use Rattle.std.specs.List.{list_all}
 use Rattle.arrow_types.specs.declared.data_type.DataType.{DataType}
-use Rattle.arrow_types.specs.declared.data_type.DataType.TheVariants.{Integer, Utf8, Decimal128}
+use Rattle.arrow_types.specs.declared.data_type.DataType.TheVariants.{Number, Utf8}
+use Rattle.arrow_types.specs.declared.data_type.NumberType.TheVariants.{Integer, Decimal}
 use Rattle.arrow_types.specs.declared.data_type.IntegerType.TheVariants.{Int64}
 use Rattle.arrow_types.specs.declared.schema.Field.{Field}
 use Rattle.arrow_types.specs.Answer.{answered_from}
@@ -20,7 +21,7 @@ use Rattle.typed_plan.specs.declared.plan.Output.TheVariants.{Project, Groups}
 use Rattle.typed_plan.specs.declared.plan.Aggregate.{Aggregate}
 use Rattle.typed_plan.specs.declared.plan.Aggregate.TheVariants.{Key, CountRows, Count, Sum}
 use Rattle.typed_plan.specs.declared.plan.JoinKey.{JoinKey}
-use Rattle.typed_plan.specs.Class.{type_class, can_sum}
+use Rattle.typed_plan.specs.Class.{type_class, bound_class, can_sum}
 use Rattle.typed_plan.specs.Faults.{predicate_fault, compare_fault, first_in}
 use Rattle.typed_plan.specs.Plan.{Tree, scan, filtered, joined, PlanAt}
 
@@ -48,9 +49,9 @@ tree_types (scan table schema columns) = types_taken columns (types_of schema.fi
 tree_types (filtered predicate tree) = tree_types tree
 tree_types (joined left right on) = tree_types left ++ tree_types right
 
--- the class of a type, or that there is no such column
+-- the class of a type's values where literals are bound, or that there is no such column
 abbrev pub class_if_there : Option DataType → Result Class Fault
-class_if_there (Some data_type) = Ok (type_class data_type)
+class_if_there (Some data_type) = Ok (bound_class (type_class data_type))
 class_if_there None = Err UnknownName
 
 -- the class of the column of a number
@@ -92,9 +93,9 @@ has_item keys types (Sum column) = nat_lt column (length types) && can_sum (type
 -- the type of what an item gives
 abbrev pub item_type : List ℕ → List DataType → Aggregate → DataType
 item_type keys types (Key place) = type_at types (get_or keys place 0)
-item_type keys types CountRows = Integer Int64
-item_type keys types (Count column) = Integer Int64
-item_type keys types (Sum column) = Decimal128
+item_type keys types CountRows = Number (Integer Int64)
+item_type keys types (Count column) = Number (Integer Int64)
+item_type keys types (Sum column) = Number Decimal
 
 -- the types that an output gives of columns of these types
 abbrev pub output_types : Output → List DataType → List DataType

@@ -1,10 +1,11 @@
 //! Which values may be compared.
 
 ghost use Rattle.std.specs.Prelude.{◌≡◌};
-ghost use Rattle.typed_plan.specs.Class.{type_class, value_class};
+ghost use Rattle.typed_plan.specs.Class.{type_class, literal_class, value_class};
 
-use arrow_types::DataType;
+use arrow_types::{DataType, NumberType};
 use scan_base::Value;
+use sql_query::Literal;
 
 /// What a value is a value of. Only values of one class are compared.
 #[derive(Clone, Copy, PartialEq, Eq)]
@@ -25,14 +26,26 @@ impl Class {
         ensures { result ≡ type_class data_type }
     {
         match data_type {
-            DataType::Integer(_) | DataType::Decimal128 => Class::Number,
+            DataType::Number(NumberType::Integer(_) | NumberType::Decimal) => Class::Number,
+            DataType::Number(NumberType::Date) => Class::Date,
             DataType::Utf8 | DataType::Dictionary(_) => Class::Text,
             DataType::Bool => Class::Truth,
-            DataType::Date => Class::Date,
         }
     }
 
-    /// The class of a literal, which is no null.
+    /// The class of a literal.
+    pub fn of_literal(literal: &Literal) -> Class
+        ensures { result ≡ literal_class literal.now }
+    {
+        match literal {
+            Literal::Text(_) => Class::Text,
+            Literal::Truth(_) => Class::Truth,
+            Literal::Number(_) => Class::Number,
+            Literal::Date(_) => Class::Date,
+        }
+    }
+
+    /// The class of a value, which is no null.
     pub fn of_value(value: &Value) -> Class
         ensures { result ≡ value_class value.now }
     {

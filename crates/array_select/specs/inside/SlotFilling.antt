@@ -5,6 +5,8 @@ use Rattle.std.specs.Int.{w128, cast_unsigned}
 use Rattle.scan_base.specs.declared.value.Value.{Value}
 use Rattle.scan_base.specs.declared.value.Value.TheVariants.{Null, Bool, Int}
 use Rattle.scan_base.specs.Value.{is_null}
+use Rattle.arrow_types.specs.declared.data_type.Cell.{Cell}
+use Rattle.arrow_types.specs.declared.data_type.Cell.TheVariants as cell
 use Rattle.arrow_types.specs.declared.data_type.DataType.{DataType}
 use Rattle.arrow_types.specs.Answer.{copied_type}
 use Rattle.arrays.specs.Number.{element_at}
@@ -12,6 +14,7 @@ use Rattle.arrays.specs.Validity.{is_valid, IsLong}
 use Rattle.arrays.specs.Layout.{layout_count, layout_slot, IsLayout}
 use Rattle.arrays.specs.TypedLayouts.{IsOfType, IsValueOf}
 use Rattle.arrays.specs.declared.slots.Values.{Values}
+use Rattle.arrays.specs.declared.slots.Values.TheVariants as kept
 use Rattle.arrays.specs.Slots.{layout_of}
 
 -- the number of a value, and 0 of one that is no number
@@ -44,6 +47,11 @@ pub record AreNumbersOf (width : ℕ) (packed : List ℕ) (values : List Value)
   pub long : length packed ≡ width * count
   pub each : (k : ℕ) → k < count →
       element_at width packed k ≡ low_bytes width (get_or values k Null)
+
+-- packed numbers, as a column keeps those that lie in such cells
+abbrev pub kept_numbers : Cell → List ℕ → Values
+kept_numbers (cell.Integer integer) packed = kept.Integers integer packed
+kept_numbers cell.Wide packed = kept.Decimals packed
 
 -- slots of a layout have these values, and are of the type in which those of a type are copied
 pub record AreFilled (validity : Option (List Truth)) (kept : Values) (data_type : DataType)

@@ -1,5 +1,4 @@
--- Inside: runs that are written one after the other, each while the first stream of the next one
--- is begun.
+-- Inside: runs are written one after the other, while the next one's first stream is begun.
 use Rattle.std.specs.Prelude.{◌≡◌, ◌⊎◌, ◌≤◌, ℕ, ◌+◌, List, [], ◌∷◌, ◌++◌, map, length, Some, None}
 use Rattle.std.specs.Prelude.{Result, Ok, Err}
 use Rattle.flight_proto.specs.FlightInfo.{EndpointSaid}
@@ -122,8 +121,6 @@ pub record IsTurnBy {N : Type 0} (Gives : Giving N) (format : Format) (first : L
       (first ∷ map opened_line made) endpoints others behind begun now out
   pub remains : IsLeft (length endpoints) (length handles + 1) (length behind) (length left)
 
--- ---- all
-
 -- all runs were written, and what is written was ended; or not, and why
 abbrev pub WritesRuns : {N : Type 0} → Giving N → Format → Line → List N → List EndpointSaid →
     Result (Unit {0}) FetchFailure → Said → Said → Type 0
@@ -136,8 +133,7 @@ WritesRuns Gives format first handles endpoints (Err (Unconnected error)) out ou
 
 -- the rows of a query are written as they come, or not, and why
 abbrev pub StreamsOrNot : {N : Type 0} → Giving N → (N → N → N → Type 0) → Format → ℕ →
-    InfoCommand → N →
-    N → Result (Unit {0}) FetchFailure → Line → Line → Said → Said → Type 0
+    InfoCommand → N → N → Result (Unit {0}) FetchFailure → Line → Line → Said → Said → Type 0
 StreamsOrNot Gives Shares format streams wanted old new (Ok done) first last out out' =
     Streams Gives Shares format streams wanted old new (Ok done) first last out out'
 StreamsOrNot Gives Shares format streams wanted old new (Err (Failed failure)) first last out out' =

@@ -11,7 +11,7 @@ use crate::pieces::first_word;
 use anyhow::{Result, bail};
 use array_select::{SlotRef, column_of_slots, texts_fit};
 use arrays::{Cells, Column, Layout};
-use arrow_types::{DataType, DictionaryEncoding};
+use arrow_types::{DataType, DictionaryEncoding, NumberType};
 use std::alloc::Global;
 
 // How many turns there are, and how far the slot of each is after that of the one before.
@@ -58,8 +58,8 @@ fn type_of(column: &Column) -> DataType
     ensures { IsOfType result column.now.layout }
 {
     match column.layout() {
-        Layout::Integers(cells) => DataType::Integer(cells.integer_type()),
-        Layout::Decimals(_) => DataType::Decimal128,
+        Layout::Integers(cells) => DataType::Number(NumberType::Integer(cells.integer_type())),
+        Layout::Decimals(_) => DataType::Number(NumberType::Decimal),
         Layout::Bools(_) => DataType::Bool,
         Layout::Texts(_) => DataType::Utf8,
         Layout::Indices(cells) => DataType::Dictionary(DictionaryEncoding {

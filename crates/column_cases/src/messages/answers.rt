@@ -1,7 +1,7 @@
 //! What a reader answers, in words.
 
 use arrays::{Batch, Cells, Column};
-use arrow_types::{DataType, Schema};
+use arrow_types::{DataType, NumberType, Schema};
 use scan_base::{Fault, ValueRef};
 use std::alloc::{AllocError, Global};
 
@@ -91,12 +91,12 @@ pub fn push_count(told: &mut String, column: &Column) -> Result<(), AllocError> 
 
 fn push_type(told: &mut String, data_type: DataType) -> Result<(), AllocError> {
     match data_type {
-        DataType::Integer(integer) => write!(told, "{integer:?}"),
+        DataType::Number(NumberType::Integer(integer)) => write!(told, "{integer:?}"),
         DataType::Dictionary(encoding) => {
             let (id, index) = (encoding.id.cast_signed(), encoding.index);
             write!(told, "dictionary {id} {index:?}")
         }
-        other => write!(told, "{other:?}"),
+        other => told_rows::push_type(told, other),
     }
 }
 

@@ -1,19 +1,16 @@
 -- Inside: which types take the fields of columns so far.
-use Rattle.std.specs.Prelude.{◌≡◌, ◌<◌, ℕ, Bool as Truth, true, false, List, [], length, drop}
+use Rattle.std.specs.Prelude.{◌≡◌, ◌<◌, ℕ, Bool as Truth, true, false, List, [], length, drop, map}
 use Rattle.std.specs.Prelude.{get_or}
 use Rattle.std.specs.List.{list_any}
-use Rattle.arrow_types.specs.declared.data_type.IntegerType.TheVariants.{Int64}
-use Rattle.arrow_types.specs.declared.data_type.DataType.TheVariants.{Integer, Bool, Decimal128}
-use Rattle.arrow_types.specs.declared.data_type.DataType.TheVariants.{Date}
+use Rattle.arrow_types.specs.declared.data_type.DataType.TheVariants.{Number, Bool}
+use Rattle.number_words.specs.NumberTexts.{types_tried}
 use Rattle.csv_columns.specs.declared.type_candidates.TypeCandidates.{TypeCandidates}
 use Rattle.csv_columns.specs.FittingColumns.{column_of, is_empty, takes_all}
 
 -- these fields were seen of a column
 pub record HasSeen (seen : TypeCandidates) (fields : List (List ℕ)) : Type 0 where
   pub flag : seen.flag ≡ takes_all Bool fields
-  pub integer : seen.integer ≡ takes_all (Integer Int64) fields
-  pub decimal : seen.decimal ≡ takes_all Decimal128 fields
-  pub day : seen.day ≡ takes_all Date fields
+  pub numbers : seen.numbers ≡ map (λ kind. takes_all (Number kind) fields) types_tried
   pub empty : seen.empty ≡ list_any is_empty fields
 
 -- of each column those of these records

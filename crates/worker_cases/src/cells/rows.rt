@@ -2,12 +2,13 @@
 
 ghost use Rattle.std.specs.Prelude.{◌≡◌, ◌∷◌, [], true, IfOk, codes};
 ghost use Rattle.arrow_types.specs.Schema.{IsSchema};
-ghost use Rattle.arrow_types.specs.declared.data_type.DataType.TheVariants.{Integer};
+ghost use Rattle.arrow_types.specs.declared.data_type.DataType.TheVariants.{Number};
+ghost use Rattle.arrow_types.specs.declared.data_type.NumberType.TheVariants.{Integer};
 ghost use Rattle.arrow_types.specs.declared.data_type.IntegerType.TheVariants.{Int64};
 
 use array_select::column_of_int64s;
 use arrays::Batch;
-use arrow_types::{DataType, Field, IntegerType, Schema};
+use arrow_types::{DataType, Field, IntegerType, NumberType, Schema};
 use batch_stats::MeasuredBatch;
 use scan_base::{Fault, Items, Text};
 use std::alloc::{AllocError, Global};
@@ -18,7 +19,8 @@ use version_cell::{CellName, Putter, Scanner, SharedPutter};
 // One nullable Int64 column `a`.
 fn schema(alloc: Global) -> Result<Schema, AllocError>
     ensures fields { IfOk result (λ schema. schema ≡ record {
-      fields = record { name = codes "a"; nullable = true; data_type = Integer Int64 } ∷ [];
+      fields = record { name = codes "a"; nullable = true; data_type = Number (Integer Int64) }
+          ∷ [];
     }) }
     ensures valid { IfOk result IsSchema }
 {
@@ -26,7 +28,7 @@ fn schema(alloc: Global) -> Result<Schema, AllocError>
     fields.push(Field {
         name: Text::new(alloc, "a")?,
         nullable: true,
-        data_type: DataType::Integer(IntegerType::Int64),
+        data_type: DataType::Number(NumberType::Integer(IntegerType::Int64)),
     })?;
     Ok(Schema { fields })
 }

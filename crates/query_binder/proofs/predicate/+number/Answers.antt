@@ -2,12 +2,12 @@ use Rattle.std.proofs.Common.{arith, ap, sym, ◌∙◌}
 use Rattle.std.proofs.lemmas.Result.{err_from_is_err_and}
 use Rattle.scan_base.specs.Predicate.{Pred}
 use Rattle.scan_base.specs.View.{pred_of}
-use Rattle.sql_query.specs.declared.query.ColumnName.{ColumnName}
+use Rattle.sql_query.specs.declared.query.Term.{Term}
 use Rattle.typed_plan.specs.Faults.{predicate_fault}
-use Rattle.query_binder.specs.NameClasses.{class_of_name}
+use Rattle.query_binder.specs.NameClasses.{class_of_term}
 use Rattle.query_binder.specs.Chain.{connected, first_predicate, link_of}
-use Rattle.typed_plan.specs.NumberedPredicates.{predicate_map}
-use Rattle.typed_plan.specs.Scope.{numbered}
+use Rattle.typed_plan.specs.NumberedPredicates.{predicate_bind}
+use Rattle.typed_plan.specs.Scope.{term_operand}
 use Rattle.query_binder.proofs.Chains.{operators, first_operators, side_operators, started, popped, chain_fault}
 use Rattle.query_binder.proofs.Chains.{side_fault, bound_more}
 use Rattle.std.proofs.Common.{map}
@@ -19,14 +19,14 @@ number_chain-number_predicate-requires t c = (
     arith,
     c.decreases,
     first_operators (pred_of c.args.left.now),
-    ap (λ (p : Pred ColumnName). operators p) c.in_ok-first.ensures.first,
+    ap (λ (p : Pred Term). operators p) c.in_ok-first.ensures.first,
   ),
   tt,
 )
 
 pub number_chain-returns-in_err-bound : goal.number_chain-returns-in_err-bound
 number_chain-returns-in_err-bound t c =
-    let f = class_of_name c.args.scope.now in
+    let f = class_of_term c.args.scope.now in
     let left = pred_of c.args.left.now in
     let chain = started (record { connective = c.args.connective; predicate = c.args.right }) left
     c.new-sides.result.items c.push.new.self.items c.first_of.new.sides.items
@@ -37,8 +37,8 @@ number_chain-returns-in_err-bound t c =
 
 pub number_chain-loop-side-init : goal.number_chain-loop-side-init
 number_chain-loop-side-init t c =
-    let f = class_of_name c.args.scope.now in
-    let g = numbered c.args.scope.now in
+    let f = class_of_term c.args.scope.now in
+    let g = term_operand c.args.scope.now in
     let left = pred_of c.args.left.now in
     let first = c.in_ok-first.ensures.first in
     let chain = started (record { connective = c.args.connective; predicate = c.args.right }) left
@@ -48,7 +48,7 @@ number_chain-loop-side-init t c =
       chain,
       ap (predicate_fault f) (sym first) ∙ c.in_ok-bound.ensures.0,
       c.in_ok-bound.ensures.1
-          ∙ ap (predicate_map g) first,
+          ∙ ap (predicate_bind g) first,
     )
 
 pub number_chain-number_predicate-requires-in-Some : goal.number_chain-number_predicate-requires-in-Some
@@ -62,7 +62,7 @@ number_chain-number_predicate-requires-in-Some t c =
 
 pub number_chain-returns-in_err-right : goal.number_chain-returns-in_err-right
 number_chain-returns-in_err-right t c =
-    let f = class_of_name c.args.scope.now in
+    let f = class_of_term c.args.scope.now in
     let (done, chain, clean, made) = c.loop-side.invariant in
     let side = c.in-Some.side in
     let right = pred_of side.predicate.now in
@@ -73,8 +73,8 @@ number_chain-returns-in_err-right t c =
 
 pub number_chain-loop-side-preserved : goal.number_chain-loop-side-preserved
 number_chain-loop-side-preserved t c =
-    let f = class_of_name c.args.scope.now in
-    let g = numbered c.args.scope.now in
+    let f = class_of_term c.args.scope.now in
+    let g = term_operand c.args.scope.now in
     let (done, chain, clean, made) = c.loop-side.invariant in
     let side = c.in-Some.side in
     let right = pred_of side.predicate.now in
@@ -84,3 +84,6 @@ number_chain-loop-side-preserved t c =
       side_fault f done right side.connective clean ∙ c.in_ok-right.ensures.0,
       bound_more g side.connective done right _ _ _ c.in_ok-bound-2.ensures made c.in_ok-right.ensures.1,
     )
+
+pub number_predicate-returns-in-In : goal.number_predicate-returns-in-In
+number_predicate-returns-in-In t c = rw c.in-In.is (rw c.as_slice.ensures at c.number_in.ensures)

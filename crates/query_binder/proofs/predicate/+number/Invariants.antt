@@ -1,12 +1,12 @@
 use Rattle.std.proofs.Common.{◌≡◌, ◌+◌, ◌*◌, None, map, vec_len}
 use Rattle.scan_base.specs.Predicate.{Pred}
 use Rattle.scan_base.specs.View.{pred_of}
-use Rattle.sql_query.specs.declared.query.ColumnName.{ColumnName}
+use Rattle.sql_query.specs.declared.query.Term.{Term}
 use Rattle.typed_plan.specs.Faults.{predicate_fault}
-use Rattle.query_binder.specs.NameClasses.{class_of_name}
+use Rattle.query_binder.specs.NameClasses.{class_of_term}
 use Rattle.query_binder.specs.Chain.{connected, link_of}
-use Rattle.typed_plan.specs.NumberedPredicates.{predicate_map}
-use Rattle.typed_plan.specs.Scope.{numbered}
+use Rattle.typed_plan.specs.NumberedPredicates.{predicate_bind}
+use Rattle.typed_plan.specs.Scope.{term_operand}
 use Rattle.query_binder.proofs.Chains.{chained, operators}
 use Rattle.query_binder.proofs.predicate.+number.Given as goal
 
@@ -22,10 +22,10 @@ decreases-number_truth_test l = 2 * operators (pred_of l.predicate.now) + 1
 -- what is bound so far is without a fault, and the sides that are left stand after it
 abbrev pub invariant-number_chain-loop-side : goal.invariant-number_chain-loop-side
 invariant-number_chain-loop-side l =
-    (done : Pred ColumnName)
+    (done : Pred Term)
     × (chained done (map link_of l.sides.items) ≡ connected l.fn.connective (pred_of l.left) (pred_of l.right))
-    × (predicate_fault (class_of_name l.scope) done ≡ None)
-    × (pred_of l.bound ≡ predicate_map (numbered l.scope) done)
+    × (predicate_fault (class_of_term l.scope) done ≡ None)
+    × (pred_of l.bound ≡ predicate_bind (term_operand l.scope) done)
 
 abbrev pub decreases-number_chain-loop-side : goal.decreases-number_chain-loop-side
 decreases-number_chain-loop-side l = vec_len l.sides

@@ -2,7 +2,8 @@ use Rattle.std.proofs.Common.{◌≡◌, ◌≤◌, ◌<◌, ◌+◌, ◌-◌, �
 use Rattle.std.proofs.lemmas.List.{length-map}
 use Rattle.arrow_types.specs.Answer.{copied_type}
 use Rattle.arrow_types.specs.declared.data_type.DataType.{DataType}
-use Rattle.arrow_types.specs.declared.data_type.DataType.TheVariants.{Integer}
+use Rattle.arrow_types.specs.declared.data_type.DataType.TheVariants.{Number}
+use Rattle.arrow_types.specs.declared.data_type.NumberType.TheVariants.{Integer}
 use Rattle.arrow_types.specs.declared.data_type.IntegerType.TheVariants.{Int8}
 use Rattle.scan_base.specs.declared.value.Value.{Value}
 use Rattle.array_select.specs.declared.of_slots.SlotRef.{SlotRef}
@@ -28,8 +29,8 @@ pub column_of_slots-requires-clause-there : goal.column_of_slots-requires-clause
 column_of_slots-requires-clause-there c =
     let types = c.args.self.now.types.now in
     let column = get_or c.args.self.now.keys.now c.in-Key.place 0 in
-    let is = type_there types column (Integer Int8) (key (goal.at.column_of_slots-requires-clause-there c).In-Key).column in
-    subst (λ (slots : List SlotRef). All (IsSlotOf (get_or types column (Integer Int8))) slots) (sym c.as_slice.ensures.value)
+    let is = type_there types column (Number (Integer Int8)) (key (goal.at.column_of_slots-requires-clause-there c).In-Key).column in
+    subst (λ (slots : List SlotRef). All (IsSlotOf (get_or types column (Number (Integer Int8)))) slots) (sym c.as_slice.ensures.value)
     (subst (λ (t : DataType). All (IsSlotOf t) c.in_ok-slots-in-Key.slots.items) (sym is) c.in_ok-slots-in-Key.ensures.there)
 
 pub column_of_slots-requires-clause-short : goal.column_of_slots-requires-clause-short
@@ -49,7 +50,7 @@ returns-in_ok-slots-in-Key c =
     let cell = first_cell c.args.self.now.batches.now column in
     let at = key (goal.at.returns-in_ok-slots-in-Key c).In-Key in
     let cells = values (goal.at.returns-in_ok-slots-in-Key c).After-as_slice in
-    let is = type_there types column (Integer Int8) at.column in
+    let is = type_there types column (Number (Integer Int8)) at.column in
     let long : length c.as_slice.result.now ≡ length c.part.result.now =
     sym (length-map c.as_slice.result.now slot_value) ∙ ap (λ (values : List Value). length values) cells ∙ length-map c.part.result.now cell in
     if_ok_three _ _ _ _

@@ -3,12 +3,13 @@ use Rattle.std.specs.Prelude.{codes}
 use Rattle.std.proofs.lemmas.List.Elements.{All-nil, All-cons}
 use Rattle.arrow_types.specs.Schema.{IsField, IsSchema}
 use Rattle.arrow_types.specs.declared.schema.Field.{Field}
-use Rattle.arrow_types.specs.declared.data_type.DataType.TheVariants.{Integer}
+use Rattle.arrow_types.specs.declared.data_type.DataType.TheVariants.{Number}
+use Rattle.arrow_types.specs.declared.data_type.NumberType.TheVariants.{Integer}
 use Rattle.arrow_types.specs.declared.data_type.IntegerType.TheVariants.{Int64}
 use Rattle.worker_cases.proofs.cells.rows.schema.Goals as goal
 
 abbrev column : Field
-column = record { name = codes "a"; nullable = true; data_type = Integer Int64 }
+column = record { name = codes "a"; nullable = true; data_type = Number (Integer Int64) }
 
 one_column : IsField column → IsSchema (record { fields = column ∷ [] })
 one_column first = record {

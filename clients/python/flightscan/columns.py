@@ -1,0 +1,228 @@
+"""Columns of a record batch: numpy arrays that are views of the body that was received, and masks of their nulls."""
+
+from __future__ import annotations
+
+import datetime
+from decimal import Decimal
+from functools import cached_property
+from typing import Any
+
+import numpy as np
+
+from .errors import DataError, fault
+from .schema import DAY, NUMBER, TEXT, TRUTH, Field
+
+Array = np.ndarray[Any, np.dtype[Any]]
+EPOCH = datetime.date(1970, 1, 1).toordinal()
+LAST_DAY = datetime.date.max.toordinal() - EPOCH
+
+
+class Column:
+    """A column of a batch. `values` is an array, and `mask` is True at its nulls, or None where it has none."""
+
+    def __init__(self, field: Field, length: int, nulls: int, *buffers: memoryview):
+        self.field, self.length, self.buffers = field, length, buffers
+        self.validity = buffers[0] if nulls != 0 else None
+
+    def __len__(self) -> int:
+        return self.length
+
+    @cached_property
+    def cleared(self) -> Array | None:
+        """True where the validity bits say that a slot is null."""
+        if self.validity is None:
+            return None
+        bits = np.unpackbits(np.frombuffer(self.validity, np.uint8), count=self.length, bitorder="little")
+        found: Array = bits == 0
+        return found if found.any() else None
+
+    @property
+    def mask(self) -> Array | None:
+        """True where a slot is null."""
+        return self.cleared
+
+    @property
+    def values(self) -> Array:
+        """The values. What stands at a null says nothing, but is None where the values are objects."""
+        raise NotImplementedError
+
+    def objects(self) -> list[Any]:
+        """The values as Python has them, with None for a null."""
+        found: list[Any] = self.values.tolist()
+        return found if self.mask is None else [None if null else one for one, null in zip(found, self.mask.tolist())]
+
+    def check(self) -> None:
+        """Looks at what the layout asks of the bytes of each slot; a column does so itself before it gives values."""
+
+    def broken(self, reason: str) -> DataError:
+        return DataError(str(fault(8, f"column {self.field.name}: {reason}")))
+
+
+class Slots(Column):
+    """A column whose data are slots of one width: `slots` is a view of them."""
+
+    def __init__(self, field: Field, length: int, nulls: int, validity: memoryview, data: memoryview):
+        super().__init__(field, length, nulls, validity, data)
+        self.slots: Array = np.frombuffer(data, field.type.dtype, length)
+
+
+class Integers(Slots):
+    """A column of integers: `values` is a view of the body."""
+
+    @property
+    def values(self) -> Array:
+        return self.slots
+
+
+class Days(Slots):
+    """A column of dates: `slots` are days since 1970-01-01, and `values` are of dtype datetime64[D], with NaT at nulls."""
+
+    @cached_property
+    def values(self) -> Array:
+        found = self.slots.astype("datetime64[D]")
+        if self.mask is not None:
+            found[self.mask] = np.datetime64("NaT")
+        return found
+
+    def objects(self) -> list[Any]:
+        """Dates; outside the years 1 to 9999 the number of the day."""
+        found = [datetime.date.fromordinal(day + EPOCH) if -EPOCH < day <= LAST_DAY else day for day in self.slots.tolist()]
+        return found if self.mask is None else [None if null else one for one, null in zip(found, self.mask.tolist())]
+
+
+class Decimals(Slots):
+    """A column of decimals of scale 0: `slots` has the fields `low` and `high`, and `values` are Decimal objects."""
+
+    def integers(self) -> list[int]:
+        """The values as whole numbers, also where a slot is null."""
+        return [(high << 64) + low for low, high in zip(self.slots["low"].tolist(), self.slots["high"].tolist())]
+
+    @cached_property
+    def values(self) -> Array:
+        nulls = [False] * self.length if self.mask is None else self.mask.tolist()
+        return as_objects([None if null else Decimal(one) for one, null in zip(self.integers(), nulls)])
+
+    def objects(self) -> list[Any]:
+        found: list[Any] = self.values.tolist()
+        return found
+
+    def int64(self) -> Array:
+        """The values as integers of 64 bits, where all that are not null fit."""
+        low = self.slots["low"].view("<i8")
+        fits = self.slots["high"] == low >> 63
+        if not (fits if self.mask is None else fits | self.mask).all():
+            raise DataError(f"column {self.field.name}: a decimal that 64 bits do not hold")
+        return low
+
+
+class Truths(Column):
+    """A column of booleans."""
+
+    def __init__(self, field: Field, length: int, nulls: int, validity: memoryview, data: memoryview):
+        super().__init__(field, length, nulls, validity, data)
+        self.bits: Array = np.frombuffer(data, np.uint8)
+
+    @cached_property
+    def values(self) -> Array:
+        return np.unpackbits(self.bits, count=self.length, bitorder="little").view(np.bool_)
+
+
+class Texts(Column):
+    """A column of strings: `offsets` and `data` are views of the body, and `values` are str objects."""
+
+    def __init__(self, field: Field, length: int, nulls: int, validity: memoryview, *buffers: memoryview):
+        super().__init__(field, length, nulls, validity, *buffers)
+        offsets, data = buffers
+        is_empty = length == 0 and len(offsets) == 0
+        self.offsets: Array = np.zeros(1, "<i4") if is_empty else np.frombuffer(offsets, "<i4", length + 1)
+        self.data: Array = np.frombuffer(data, np.uint8)
+
+    @cached_property
+    def values(self) -> Array:
+        self.check()
+        return as_objects(self.objects())
+
+    def check(self) -> None:
+        offsets = self.offsets
+        if offsets[0] < 0 or offsets[-1] > len(self.data) or (offsets[1:] < offsets[:-1]).any():
+            raise self.broken("offsets that fall or lie outside")
+
+    def objects(self) -> list[Any]:
+        """The strings, with None for a null."""
+        self.check()
+        ends = self.offsets.tolist()
+        data = self.data[: ends[-1]].tobytes()
+        found: list[Any]
+        try:
+            if data.isascii():
+                whole = data.decode("ascii")
+                found = [whole[begin:end] for begin, end in zip(ends, ends[1:])]
+            elif self.mask is None:
+                found = [data[begin:end].decode() for begin, end in zip(ends, ends[1:])]
+            else:
+                nulls = self.mask.tolist()
+                return [None if null else data[begin:end].decode() for begin, end, null in zip(ends, ends[1:], nulls)]
+        except UnicodeDecodeError:
+            raise self.broken("a string that is not UTF-8") from None
+        return found if self.mask is None else [None if null else one for one, null in zip(found, self.mask.tolist())]
+
+
+class Categories(Slots):
+    """A column of indices into a dictionary: `slots` is a view of the indices, and `categories` are the strings.
+
+    A value of the dictionary may be null, and then so is a slot with its index.
+    """
+
+    def __init__(self, field: Field, length: int, nulls: int, validity: memoryview, data: memoryview,
+                 dictionary: list[str | None]):
+        super().__init__(field, length, nulls, validity, data)
+        self.categories = dictionary
+
+    @cached_property
+    def nulls(self) -> Array | None:
+        """True where the index is null or leads to a null."""
+        self.check()
+        if None not in self.categories or self.length == 0:
+            return self.cleared
+        is_null = np.array([value is None for value in self.categories])
+        if self.cleared is None:
+            found: Array = is_null[self.slots]
+        else:
+            found = is_null[np.where(self.cleared, 0, self.slots)] | self.cleared
+        return found if found.any() else None
+
+    @property
+    def mask(self) -> Array | None:
+        return self.nulls
+
+    def check(self) -> None:
+        """Each index that is not null must lie in the dictionary."""
+        outside = (self.slots < 0) | (self.slots >= len(self.categories))
+        if (outside if self.cleared is None else outside & ~self.cleared).any():
+            raise self.broken("an index outside its dictionary")
+
+    def codes(self) -> Array:
+        """The indices with -1 at each null. Without nulls it is the view of the body."""
+        self.check()
+        if self.mask is None:
+            return self.slots
+        return np.where(self.mask, -1, self.slots.astype(np.int64))
+
+    @cached_property
+    def values(self) -> Array:
+        self.check()
+        return as_objects([*self.categories, None])[self.codes()]
+
+    def objects(self) -> list[Any]:
+        found: list[Any] = self.values.tolist()
+        return found
+
+
+def as_objects(found: list[Any]) -> Array:
+    """An array of objects, whatever they are."""
+    made = np.empty(len(found), object)
+    made[:] = found
+    return made
+
+
+KINDS: dict[str, type[Column]] = {TEXT.name: Texts, TRUTH.name: Truths, DAY.name: Days, NUMBER.name: Decimals}

@@ -1,0 +1,115 @@
+"""DataFrames of pandas: made of answers, and put."""
+
+from __future__ import annotations
+
+from typing import Any
+
+import numpy as np
+import pandas
+
+from .columns import Array
+from .errors import DataError, InterfaceError
+from .rows import Values
+from .schema import DAY, INTEGERS, NUMBER, TEXT, TRUTH, Field, Schema, dictionary_of
+from .tables import JoinedColumn, Table
+from .values import of_array, refused, values_of, with_codes
+
+FIRST_DAY, LAST_DAY = -106_751, 106_751  # what 64 bits of nanoseconds hold: 1677-09-22 to 2262-04-11
+CHOICES = {"decimals": ("objects", "integers"), "dates": ("datetime64", "objects")}
+
+
+def frame_of(table: Table, decimals: str = "objects", dates: str = "datetime64") -> pandas.DataFrame:
+    """The rows of an answer. The dtypes follow from the schema, and never from the values.
+
+    | Column | dtype |
+    |---|---|
+    | an integer or bool without nulls; with nulls | int64 and the like; pandas' own Int64 and the like |
+    | utf8 | object: str, and None at nulls |
+    | date | datetime64[ns]; with dates="objects" object: datetime.date |
+    | decimal | object: Decimal; with decimals="integers" int64 or Int64 |
+    | dictionary | category |
+    """
+    for name, choice in (("decimals", decimals), ("dates", dates)):
+        if choice not in CHOICES[name]:
+            raise InterfaceError(f"{name} is {choice!r}, and must be one of {CHOICES[name]}")
+    made = {number: series_of(column, decimals, dates) for number, column in enumerate(table)}
+    frame = pandas.DataFrame(made, index=pandas.RangeIndex(len(table)), copy=False)
+    frame.columns = pandas.Index(table.schema.names, dtype=object)
+    return frame
+
+
+def series_of(column: JoinedColumn, decimals: str, dates: str) -> Any:
+    """The array of a frame's column."""
+    of, values = column.field.type, column.values if column.field.type not in (NUMBER, DAY) else None
+    if of.is_dictionary:
+        codes, categories = column.coded()
+        return pandas.Categorical.from_codes(codes, pandas.Index(categories, dtype=object))
+    if of == TEXT:
+        return values
+    if of == DAY:
+        return column_of_objects(column) if dates == "objects" else times_of(column)
+    if of == NUMBER and decimals == "objects":
+        return column.values
+    if of == NUMBER:
+        values = column.int64()
+    assert values is not None
+    if not values.flags.aligned or not values.flags.writeable:
+        values = values.copy()
+    if not column.field.nullable:
+        return values
+    mask = np.zeros(len(column), np.bool_) if column.mask is None else column.mask
+    return (pandas.arrays.BooleanArray if of == TRUTH else pandas.arrays.IntegerArray)(values, mask)
+
+
+def column_of_objects(column: JoinedColumn) -> Array:
+    made = np.empty(len(column), object)
+    made[:] = column.objects()
+    return made
+
+
+def times_of(column: JoinedColumn) -> Array:
+    """Dates in nanoseconds, which is what pandas has."""
+    days = column.values
+    kept = days[~np.isnat(days)].astype(np.int64)
+    if len(kept) and not FIRST_DAY <= kept.min() <= kept.max() <= LAST_DAY:
+        raise DataError(f"column {column.field.name}: a date outside 1677-09-22 to 2262-04-11; ask with dates='objects'")
+    return days.astype("datetime64[ns]")
+
+
+def values_of_frame(frame: pandas.DataFrame, schema: Schema | None) -> list[Values]:
+    """The columns of a frame to put. The index is left out."""
+    if schema is not None and list(frame.columns) != schema.names:
+        raise InterfaceError(f"the frame has the columns {list(frame.columns)}, and the schema {schema.names}")
+    fields = [None] * frame.shape[1] if schema is None else schema.fields
+    return [values_of_series(name, frame.iloc[:, number], field)
+            for number, (name, field) in enumerate(zip(frame.columns, fields))]
+
+
+def values_of_series(name: Any, series: pandas.Series[Any], field: Field | None) -> Values:
+    """A column of a frame to put. pandas' own types may have nulls, and numpy's integers and truths may not."""
+    if not isinstance(name, str):
+        raise InterfaceError(f"a column is named {name!r}, and a name must be a string")
+    dtype = series.dtype
+    if isinstance(dtype, pandas.CategoricalDtype):
+        return values_of_categories(name, series, field)
+    if isinstance(dtype, pandas.DatetimeTZDtype):
+        raise refused(name, dtype)
+    numpy_dtype = getattr(dtype, "numpy_dtype", None)
+    if pandas.api.types.is_extension_array_dtype(dtype) and numpy_dtype is not None and numpy_dtype.kind in "iub":
+        nulls = series.isna().to_numpy()
+        data = series.to_numpy(dtype=numpy_dtype, na_value=0)
+        of = TRUTH if numpy_dtype.kind == "b" else INTEGERS[numpy_dtype.name]
+        return of_array(name, data, nulls if nulls.any() else None, field or Field(name, of))
+    if pandas.api.types.is_extension_array_dtype(dtype):
+        return values_of(name, series.to_numpy(dtype=object), field)
+    return values_of(name, series.to_numpy(), field)
+
+
+def values_of_categories(name: str, series: pandas.Series[Any], field: Field | None) -> Values:
+    categories = series.cat.categories
+    if not all(isinstance(value, str) for value in categories):
+        return values_of_series(name, series.astype(categories.dtype), field)
+    codes = series.cat.codes.to_numpy()
+    nulls = codes == -1
+    field = field or Field(name, dictionary_of(codes.dtype))
+    return with_codes(field, codes, nulls if nulls.any() else None, tuple(categories))

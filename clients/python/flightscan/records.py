@@ -1,0 +1,199 @@
+"""Calls over records: sockets to a `flightscan serve` (docs/PROTOCOL.md, section 2)."""
+
+from __future__ import annotations
+
+import select
+import socket
+import struct
+import threading
+from collections.abc import Iterable, Iterator, Sequence
+from typing import Any
+
+import numpy as np
+
+from .errors import Error, OperationalError, fault, refusal
+from .messages import SERVICE
+
+OPEN, MESSAGE, END, STATUS = 1, 2, 3, 4  # the kinds of records
+LONGEST_MESSAGE = 16_777_216
+ALIGNMENT = 64
+MOST_PIECES = 512  # of one system call
+MOST_IDLE = 2  # sockets that a connection keeps; each takes a seat of the server
+Piece = Any  # bytes, a memoryview, or an array of bytes
+Pieces = Sequence[Piece]
+
+
+def room_for(length: int) -> memoryview:
+    """Memory for a message that ends at a multiple of 64 bytes.
+
+    The body comes last in a message and its length is a multiple of 8, so the body begins at such a multiple, and so do
+    its buffers: columns that are views of it are aligned.
+    """
+    room = np.empty(length + ALIGNMENT, np.uint8)
+    begin = -(room.__array_interface__["data"][0] + length) % ALIGNMENT
+    return room.data[begin : begin + length]
+
+
+class Link:
+    """A socket to the server. It carries one call after another, and keeps a seat while it is open."""
+
+    def __init__(self, host: str, port: int, timeout: float | None):
+        self.server, self.timeout, self.seen = f"{host}:{port}", timeout, 0
+        try:
+            self.socket = socket.create_connection((host, port), timeout)
+            self.socket.setsockopt(socket.IPPROTO_TCP, socket.TCP_NODELAY, 1)
+        except OSError as failed:
+            raise fault(22, f"no server: {failed}", self.server) from None
+
+    def close(self) -> None:
+        self.socket.close()
+
+    def is_whole(self) -> bool:
+        """Whether the server still has this connection, and has said nothing after the last answer."""
+        looked = select.poll()
+        looked.register(self.socket, select.POLLIN)
+        return not looked.poll(0)
+
+    # ---- sent
+
+    def send_call(self, method: str, messages: Iterable[Pieces]) -> None:
+        """Sends a call's records, each message as it is made. The server answers after the last."""
+        path = (SERVICE + method).encode()
+        held: list[Piece] = [struct.pack(">BH", OPEN, len(path)) + path]
+        for pieces in messages:
+            length = sum(map(len, pieces))
+            if length > LONGEST_MESSAGE:
+                raise fault(2, f"a message of {length} bytes", self.server)
+            self.send([*held, struct.pack(">BBI", MESSAGE, 0, length), *pieces])
+            held = []
+        self.send([*held, bytes([END])])
+
+    def send(self, pieces: Pieces) -> None:
+        """Sends pieces from where they lie, without joining them."""
+        views = [memoryview(piece) for piece in pieces if len(piece)]
+        first = 0
+        try:
+            while first < len(views):
+                sent = self.socket.sendmsg(views[first : first + MOST_PIECES])
+                while first < len(views) and sent >= len(views[first]):
+                    sent -= len(views[first])
+                    first += 1
+                if sent:
+                    views[first] = views[first][sent:]
+        except OSError as failed:
+            raise self.last_word(failed) from None
+
+    def last_word(self, failed: OSError) -> Error:
+        """Why the server ended the connection inside a call, where it said so."""
+        if isinstance(failed, TimeoutError):
+            return self.lost(failed)
+        try:
+            for _ in self.answer():
+                pass
+        except Error as said:
+            if said.code is not None:
+                return said
+        return self.lost(failed)
+
+    def lost(self, failed: OSError | None = None) -> OperationalError:
+        if isinstance(failed, TimeoutError):
+            said = f"no byte in {self.timeout:g} seconds; perhaps all seats of the server are taken"
+        else:
+            said = f"the connection broke: {failed}" if failed else "the server ended the connection"
+        return OperationalError(str(fault(22, said)), None, self.server)
+
+    # ---- read
+
+    def fill(self, view: memoryview) -> memoryview:
+        """Reads as many bytes as there is room for, right to their place."""
+        place, length = 0, len(view)
+        while place < length:
+            try:
+                more = self.socket.recv_into(view[place:] if place else view)
+            except OSError as failed:
+                raise self.lost(failed) from None
+            if more == 0:
+                raise self.lost()
+            place += more
+        return view
+
+    def take(self, count: int) -> memoryview:
+        return self.fill(memoryview(bytearray(count)))
+
+    def answer(self) -> Iterator[memoryview]:
+        """The messages of an answer, as they come. A Status other than 0 is raised."""
+        while (kind := self.take(1)[0]) == MESSAGE:
+            flag, length = struct.unpack(">BI", self.take(5))
+            if flag != 0 or length > LONGEST_MESSAGE:
+                raise fault(1, "the server's answer breaks the rules of records", self.server)
+            yield self.fill(room_for(length))
+        if kind != STATUS:
+            raise fault(1, "the server's answer breaks the rules of records", self.server)
+        code, length = struct.unpack(">BH", self.take(3))
+        said = bytes(self.take(length)).decode(errors="replace")
+        if code != 0:
+            raise refusal(said, code, self.server)
+
+
+class Records:
+    """The sockets of one connection of the user.
+
+    The server promises that a call sees the puts that its own socket made before, and those made before the socket was
+    accepted. So a call that asks about tables takes a socket that has seen all puts of this connection, or a new one.
+    A fetch may take any, since its ticket names a version.
+    """
+
+    def __init__(self, host: str, port: int, timeout: float | None):
+        self.host, self.port, self.timeout, self.server = host, port, timeout, f"{host}:{port}"
+        self.lock, self.puts, self.is_closed = threading.Lock(), 0, False
+        self.idle: list[Link] = []
+
+    def close(self) -> None:
+        with self.lock:
+            self.is_closed, idle, self.idle = True, self.idle, []
+        for link in idle:
+            link.close()
+
+    def call(self, method: str, messages: Iterable[Pieces]) -> Iterator[memoryview]:
+        """The messages that answer a call. What refuses it is raised, and a call that is left early closes its socket."""
+        link = self.take(method)
+        is_whole = False
+        try:
+            link.send_call(method, messages)
+            yield from link.answer()
+            is_whole = True
+        except Error as said:
+            is_whole = said.code is not None
+            raise
+        finally:
+            self.end(link, method, is_whole)
+
+    def take(self, method: str) -> Link:
+        with self.lock:
+            puts, idle = self.puts, self.idle
+            wanted = [link for link in idle if method == "DoGet" or link.seen == puts]
+            wanted.sort(key=lambda link: link.seen, reverse=True)
+            while wanted:
+                link = wanted.pop()
+                idle.remove(link)
+                if link.is_whole():
+                    return link
+                link.close()
+        link = Link(self.host, self.port, self.timeout)
+        link.seen = puts
+        return link
+
+    def end(self, link: Link, method: str, is_whole: bool) -> None:
+        """Keeps a socket for the next call where its call went to its end, and else closes it."""
+        with self.lock:
+            if method == "DoPut":
+                link.seen += link.seen == self.puts
+                self.puts += 1
+            if not is_whole or self.is_closed:
+                link.close()
+                return
+            self.idle.append(link)
+            if len(self.idle) > MOST_IDLE:
+                oldest = min(self.idle, key=lambda one: one.seen)
+                self.idle.remove(oldest)
+                oldest.close()

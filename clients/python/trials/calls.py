@@ -1,0 +1,302 @@
+"""Puts, infos and fetches of a running server, by records."""
+
+from __future__ import annotations
+
+import socket
+import threading
+import time
+from typing import Any
+
+import flightscan
+import numpy as np
+from flightscan.records import Link
+from random_calls.answers import same
+
+from trials.bytes_written import SPELLED, plain_columns
+from trials.cases import Run, case, refused, same_array, trips
+
+
+def plain_rows(table: flightscan.Table) -> list[list[Any]]:
+    """The rows of an answer with dates and decimals as whole numbers."""
+    found = []
+    for column in table:
+        of = column.field.type.name
+        if of == "date":
+            values = [None if null else day for day, null in zip(
+                column.values.astype("datetime64[D]").astype(np.int64).tolist(), nulls_of(column))]
+        else:
+            values = [int(value) if of == "decimal" and value is not None else value for value in column.objects()]
+        found.append(values)
+    return [list(row) for row in zip(*found)]
+
+
+def nulls_of(column: flightscan.JoinedColumn) -> list[bool]:
+    return [False] * len(column) if column.mask is None else column.mask.tolist()
+
+
+@case("rows of every type come back as they were put, in one part and in seven, over one socket and over four")
+def rows_come_back(run: Run) -> str:
+    with run.connected("--parts", "7", "--seats", "8") as connection:
+        for count in (0, 1, 5, 40_000):
+            columns = trips(count, count + 3)
+            same("the number of rows", count, connection.put(f"t{count}", columns, schema=SPELLED))
+            info = connection.info(f"SELECT * FROM t{count}")
+            same("the columns", SPELLED.replace(", ", ","), ",".join(map(str, info.schema)))
+            same("the endpoints", max(1, min(7, count)), len(info.endpoints))
+            wanted = plain_columns(columns)
+            same(f"{count} rows", wanted, plain_rows(connection.read_all(info)))
+            same(f"{count} rows over four sockets", wanted, plain_rows(connection.query(f"SELECT * FROM t{count}", streams=4)))
+            parts = [plain_rows(connection.read(endpoint)) for endpoint in reversed(info.endpoints)]
+            same("the endpoints in another order", wanted, [row for part in reversed(parts) for row in part])
+        same("the tables", ["t0", "t1", "t40000", "t5"], connection.tables())
+        same("a schema", str(info.schema), str(connection.schema("SELECT * FROM t5")))
+    return "4 tables"
+
+
+@case("columns are views of what was received, aligned, with their masks; filters and sums are those of numpy")
+def columns_of_numpy(run: Run) -> str:
+    columns = trips(200_000)
+    with run.connected() as connection:
+        connection.put("t", columns)
+        (endpoint,) = connection.endpoints("SELECT id, km, great, day, town, paid FROM t")
+        with_memory = 0
+        for batch in connection.stream(endpoint):
+            for column, part in (("id", "values"), ("km", "values"), ("great", "slots"), ("day", "slots"), ("town", "offsets"),
+                                 ("town", "data"), ("paid", "bits")):
+                array = getattr(batch[column], part)
+                body = np.frombuffer(batch[column].buffers[-1].obj, np.uint8)
+                same(f"{column}.{part} is a view of the message", True, np.shares_memory(array, body))
+                same(f"{column}.{part} is aligned", True, array.flags.aligned)
+                with_memory += 1
+        table = connection.read(endpoint)
+        same_array("id", columns["id"], table["id"].values)
+        same_array("great", columns["great"], table["great"].values)
+        same_array("day", columns["day"], table["day"].values)
+        same("km", columns["km"].tolist(), table["km"].masked().tolist())
+        same("the mask of km", np.ma.getmaskarray(columns["km"]).tolist(), nulls_of(table["km"]))
+        kept = ~np.ma.getmaskarray(columns["km"]) & (columns["km"].data > 400)
+        found = connection.query("SELECT id FROM t WHERE km > 400")
+        same_array("a filter", columns["id"][kept], found["id"].values)
+        sums = connection.query("SELECT COUNT(*) AS n, COUNT(km) AS k, SUM(km) AS s FROM t WHERE km > 400").rows()
+        same("a sum", [(int(kept.sum()), int(kept.sum()), int(columns["km"].data[kept].astype(np.int64).sum()))],
+             [tuple(map(int, sums[0]))])
+    return f"{with_memory} arrays of views"
+
+
+@case("what was read can be put again, without a copy of its strings; dictionaries stay dictionaries")
+def answers_put_again(run: Run) -> None:
+    columns = trips(9_000)
+    with run.connected("--parts", "3") as connection:
+        towns = np.array([None if town is None else town for town in columns["town"]], object)
+        connection.put("t", {**columns, "code": towns}, schema=SPELLED + ", code:dictionary?")
+        table = connection.query("SELECT * FROM t")
+        same("the rows of the copy", 9_000, connection.put("copy", table))
+        copy = connection.query("SELECT * FROM copy")
+        same("its columns", str(table.schema), str(copy.schema))
+        same("its rows", plain_rows(table), plain_rows(copy))
+        same("the strings of the dictionary", towns.tolist(), copy["code"].objects())
+        connection.put("copy", table.batches[0], mode="append")
+        same("a batch more", 9_000 + len(table.batches[0]), len(connection.query("SELECT id FROM copy")))
+        connection.put("texts", {"code": towns}, schema="code:utf8?")
+        connection.put("texts", connection.query("SELECT code FROM t"), mode="append", schema="code:utf8?")
+        same("a dictionary as strings", towns.tolist() * 2, connection.query("SELECT * FROM texts")["code"].objects())
+
+
+@case("create, append and replace; versions stay, and expire")
+def modes_and_versions(run: Run) -> None:
+    with run.connected("--parts", "2") as connection:
+        connection.put("t", {"a": np.arange(4)})
+        first = connection.info("SELECT a FROM t")
+        connection.put("t", {"a": np.arange(4, 6)}, mode="append")
+        second = connection.info("SELECT a FROM t")
+        connection.put("t", {"b": ["x"]}, mode="replace")
+        same("the versions", (1, 2), (first.version, second.version))
+        same("the ranges", [(0, 2), (2, 4)], [endpoint.range for endpoint in first.endpoints])
+        same_array("version 1", np.arange(4), connection.read_all(first)["a"].values)
+        same_array("version 2", np.arange(6), connection.read_all(second)["a"].values)
+        same("version 3", [("x",)], connection.query("SELECT * FROM t").rows())
+        refused("a table that is there", flightscan.IntegrityError, "F10 TableExists", lambda: connection.put("t", {"a": [1]}))
+        refused("other columns", flightscan.IntegrityError, "F11 SchemaMismatch",
+                lambda: connection.put("t", {"a": [1]}, mode="append"))
+        refused("a table that is absent", flightscan.ProgrammingError, "F9 TableMissing",
+                lambda: connection.put("u", {"a": [1]}, mode="append"))
+        same("a floor", 2, connection.expire(2))
+        refused("an expired version", flightscan.OperationalError, "F19 VersionExpired", lambda: connection.read_all(first))
+        same("a floor that is there", 2, connection.expire(1))
+        refused("a version to come", flightscan.OperationalError, "F18 VersionUnknown", lambda: connection.expire(9))
+        same_array("version 2 again", np.arange(6), connection.read_all(second)["a"].values)
+
+
+@case("each refusal is an exception of DB-API with the server's text, and the connection goes on")
+def refusals(run: Run) -> None:
+    with run.connected() as connection:
+        connection.put("t", {"a": [1], "s": ["x"]})
+        for query, kind, text, position in (
+                ("SELECT a, FROM t", flightscan.ProgrammingError, "F13 BadSql at byte 10", 10),
+                ("SELECT b FROM t", flightscan.ProgrammingError, "F14 UnknownName", None),
+                ("SELECT a FROM u", flightscan.ProgrammingError, "F9 TableMissing", None),
+                ("SELECT a FROM t WHERE a = 'x'", flightscan.ProgrammingError, "F15 TypeClash", None),
+                ("SELECT MAX(a) FROM t", flightscan.NotSupportedError, "F16 NotInSubset", None),
+                ("SELECT a FROM t" + " " * 16_384, flightscan.OperationalError, "F12 LimitReached", None)):
+            failed = refused(query[:40], kind, text, lambda query=query: connection.info(query))
+            same("number, position and server", (int(text[1:].split()[0]), position, connection.server),
+                 (failed.number, failed.position, failed.server))
+            refused(query[:40], kind, text, lambda query=query: connection.schema(query))
+        refused("a long name", flightscan.OperationalError, "F12", lambda: connection.put("n" * 65, {"a": [1]}))
+        refused("a long string", flightscan.OperationalError, "F12", lambda: connection.put("u", {"s": ["x" * 65_537]}))
+        refused("one name twice", flightscan.IntegrityError, "F11",
+                lambda: connection.put("u", flightscan.Table(*twice(connection))))
+        ticket = flightscan.Endpoint(b"nothing", connection.server)
+        refused("another ticket", flightscan.ProgrammingError, "F17 BadTicket", lambda: connection.read(ticket))
+        elsewhere = flightscan.Endpoint(ticket.ticket, "127.0.0.1:1")
+        refused("another server's ticket", flightscan.InterfaceError, "an endpoint of", lambda: connection.read(elsewhere))
+        same("what is still there", [(1, "x")], connection.query("SELECT * FROM t").rows())
+    refused("a closed connection", flightscan.InterfaceError, "the connection is closed", lambda: connection.tables())
+    for address in ("here", "://h:1", "127.0.0.1:99999", "http://h:1", ""):
+        refused("no address", flightscan.InterfaceError, f"{address!r} is no address",
+                lambda address=address: flightscan.connect(address))
+
+
+def twice(connection: flightscan.Connection) -> tuple[flightscan.Schema, tuple[flightscan.Batch, ...]]:
+    table = connection.query("SELECT a, a FROM t")
+    return table.schema, table.batches
+
+
+@case("a source that fails while it is put puts nothing, and the next call is whole")
+def sources_that_fail(run: Run) -> None:
+    def parts() -> Any:
+        yield {"a": np.arange(100_000)}
+        raise KeyError("the source")
+
+    with run.connected() as connection:
+        connection.put("t", {"a": [7]})
+        try:
+            connection.put("t", parts(), mode="append")
+        except KeyError as failed:
+            same("what was raised", "'the source'", str(failed))
+        refused("a later part", flightscan.DataError, "column a: a null",
+                lambda: connection.put("t", [{"a": np.arange(9)}, {"a": [None]}], mode="append", schema="a:int64"))
+        same("the rows", [(7,)], connection.query("SELECT * FROM t").rows())
+
+
+@case("a call sees what its connection has put, whatever other calls are under way")
+def own_puts_are_seen(run: Run) -> str:
+    with run.connected("--seats", "8") as connection:
+        connection.put("t", {"a": np.arange(300_000)})
+        (endpoint,) = connection.endpoints("SELECT a FROM t")
+        streams, begun = [], []
+        for number in range(4):
+            streams.append(connection.stream(endpoint))
+            begun.append(len(next(streams[-1])))
+            connection.put(f"u{number}", {"a": [number]})
+            same("the tables", ["t", *(f"u{one}" for one in range(number + 1))], connection.tables())
+        for stream, count in zip(streams[:2], begun):
+            same("the rows of a stream", 300_000, count + sum(map(len, stream)))
+        look_at_sockets(connection)
+        for stream in streams[2:]:
+            stream.close()
+        threads = [threading.Thread(target=puts_and_looks, args=(connection, number, found)) for number in range(4)
+                   for found in [FOUND.setdefault(number, [])]]
+        for thread in threads:
+            thread.start()
+        for thread in threads:
+            thread.join()
+        same("what threads saw of their puts", [[index + 1 for index in range(30)]] * 4, [FOUND[number] for number in range(4)])
+        same("sockets that are kept", True, len(connection.calls.idle) <= 2)
+    return "124 puts"
+
+
+def look_at_sockets(connection: flightscan.Connection) -> None:
+    """A socket that has not seen each put of the connection is for fetches only. (Today's server tells all sockets at once.)"""
+    calls = connection.calls
+    same("sockets that have not seen all puts are kept", True, any(link.seen < calls.puts for link in calls.idle))
+    for method, wanted in (("GetFlightInfo", True), ("DoPut", True), ("GetSchema", True), ("DoGet", False)):
+        link = calls.take(method)
+        same(f"the socket of {method} has seen all puts", wanted, link.seen == calls.puts)
+        calls.end(link, "GetFlightInfo", True)
+
+
+FOUND: dict[int, list[int]] = {}
+
+
+def puts_and_looks(connection: flightscan.Connection, number: int, found: list[int]) -> None:
+    for turn in range(30):
+        connection.put(f"thread{number}", {"a": [turn]}, mode="append" if turn else "create")
+        found.append(len(connection.query(f"SELECT a FROM thread{number}")))
+
+
+@case("a fetch that is left gives its seat back; a connection that the server ended is made again; without a server it fails")
+def connections_that_end(run: Run) -> None:
+    with run.serving("--seats", "1", "--idle", "1") as server, flightscan.connect(server.port, timeout=20) as connection:
+        connection.put("t", {"a": np.arange(1_000_000)})
+        (endpoint,) = connection.endpoints("SELECT a FROM t")
+        stream = connection.stream(endpoint)
+        next(stream)
+        stream.close()
+        same("the next call", ["t"], connection.tables())
+        time.sleep(1.5)
+        same("after the server ended the connection", ["t"], connection.tables())
+        taken = Link("127.0.0.1", server.port, 5)
+        connection.close()
+        with flightscan.connect(server.port, timeout=0.3) as other:
+            refused("without a seat", flightscan.OperationalError, "F22 Transport (no byte in 0.3 seconds", other.tables)
+        taken.close()
+    refused("without a server", flightscan.OperationalError, "F22 Transport (no server", flightscan.connect(server.port).tables)
+
+
+@case("a server that breaks off or breaks the rules: the rows so far are no answer")
+def servers_that_break_off(run: Run) -> None:
+    for said, kind, text in (
+            (b"", flightscan.OperationalError, "F22 Transport (the server ended"),
+            (b"\x05", flightscan.InternalError, "F1 BadFrame"),
+            (b"\x02\x00\x00\x00\x00\x09abc", flightscan.OperationalError, "F22 Transport (the server ended"),
+            (b"\x02\x00\x7f\x00\x00\x00", flightscan.InternalError, "F1 BadFrame"),
+            (b"\x04\x00\x00\x00", flightscan.InternalError, "F4 BadProto (0 messages"),
+            (b"\x04\x08\x00\x0fF21 OutOfMemory", flightscan.OperationalError, "F21 OutOfMemory"),
+            (b"\x04\x0e\x00\x05later", flightscan.OperationalError, "later")):
+        with socket.create_server(("127.0.0.1", 0)) as listener:
+            thread = threading.Thread(target=answer_once, args=(listener, said))
+            thread.start()
+            with flightscan.connect(listener.getsockname()[1], timeout=20) as connection:
+                refused(f"the answer {said!r}", kind, text, lambda: connection.info("SELECT a FROM t"))
+            thread.join()
+    with socket.create_server(("127.0.0.1", 0)) as listener:
+        thread = threading.Thread(target=answer_once, args=(listener, b"\x04\x00\x00\x00"))
+        thread.start()
+        with flightscan.connect(listener.getsockname()[1], timeout=20) as connection:
+            endpoint = flightscan.Endpoint(b"", connection.server)
+            refused("no schema", flightscan.DataError, "F8 BadBatch (a stream without", lambda: connection.read(endpoint))
+        thread.join()
+
+
+def answer_once(listener: socket.socket, said: bytes) -> None:
+    """Takes one call of a connection, says these bytes, and ends it."""
+    with listener.accept()[0] as stream:
+        stream.recv(65_536)
+        stream.sendall(said)
+
+
+@case("a client that puts while others read: each info is of one version, and all its endpoints too")
+def puts_meanwhile(run: Run) -> str:
+    with run.serving("--parts", "4", "--seats", "6") as server:
+        with flightscan.connect(server.port) as writer, flightscan.connect(server.port) as reader:
+            writer.put("t", {"put": np.zeros(10, np.int64)})
+            stop, seen = threading.Event(), []
+            thread = threading.Thread(target=keep_putting, args=(writer, stop))
+            thread.start()
+            for _ in range(40):
+                info = reader.info("SELECT put FROM t")
+                numbers = reader.read_all(info)["put"].values
+                wanted = np.repeat(np.arange(info.version), 10)
+                same_array(f"version {info.version}", wanted, numbers)
+                seen.append(info.version)
+            stop.set()
+            thread.join()
+    return f"versions {seen[0]} to {seen[-1]}"
+
+
+def keep_putting(connection: flightscan.Connection, stop: threading.Event) -> None:
+    number = 1
+    while not stop.is_set() and number < 2_000:
+        connection.put("t", {"put": np.full(10, number, np.int64)}, mode="append")
+        number += 1

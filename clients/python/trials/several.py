@@ -1,0 +1,171 @@
+"""Several servers under Dask."""
+
+from __future__ import annotations
+
+import threading
+from decimal import Decimal
+from typing import Any
+
+import flightscan
+import numpy as np
+from random_calls.answers import same
+
+from trials.cases import Run, case, refused, wanted_package
+from trials.frames import frame_of_trips, same_frame
+
+GROUPS = "SELECT town, COUNT(*) AS n, COUNT(km) AS k, SUM(km) AS s FROM t GROUP BY town"
+
+
+def modules() -> tuple[Any, Any]:
+    """pandas, and flightscan.dask."""
+    pandas = wanted_package("pandas")
+    wanted_package("dask.dataframe")
+    import flightscan.dask
+
+    return pandas, flightscan.dask
+
+
+def in_order(frame: Any) -> Any:
+    return frame.sort_values("id").reset_index(drop=True)
+
+
+@case("rows spread by a hash and by ranges, and read from all servers: they are those of one frame, each once")
+def spread_and_read(run: Run) -> str:
+    pandas, several = modules()
+    frame = frame_of_trips(pandas, 40_000)
+    with run.several(3, "--parts", "4", "--seats", "16") as servers:
+        counts = several.put_table(frame, servers, "rider", "t")
+        same("all rows", len(frame), sum(counts))
+        towns = [set(flightscan.connect(server).query("SELECT rider FROM t")["rider"].objects()) for server in servers]
+        same("no town is on two servers", set(), (towns[0] & towns[1]) | (towns[1] & towns[2]) | (towns[0] & towns[2]))
+        read = several.read_query("SELECT * FROM t", servers)
+        same("the partitions", sum(max(1, min(4, count)) for count in counts), read.npartitions)
+        same_frame(pandas, "all servers", frame, with_categories(pandas, in_order(read.compute()), frame))
+        few = several.read_query("SELECT * FROM t", servers, 2)
+        same("two partitions of each server", sum(max(1, min(2, count)) for count in counts), few.npartitions)
+        same("their rows", frame["id"].tolist(), in_order(few.compute())["id"].tolist())
+        same("the promised dtypes", {name: str(dtype) for name, dtype in frame.dtypes.items()},
+             {name: str(dtype) for name, dtype in read.dtypes.items()})
+        counts = several.put_table(frame, servers, ("id", [10_000, 35_000]), "u")
+        same("ranges", [10_000, 25_000, 5_000], counts)
+        same("a filter", frame["id"][(frame["km"] > 250).fillna(False)].tolist(),
+             several.read_query("SELECT id FROM u WHERE km > 250", servers)["id"].compute().tolist())
+        dask_frame = several.dask.dataframe.from_pandas(frame, npartitions=5)
+        same("a frame of five partitions", 40_000, sum(several.put_table(dask_frame, servers, "km", "v", mode="replace")))
+        same("its rows", frame["id"].tolist(), in_order(several.read_query("SELECT id FROM v", servers).compute())["id"].tolist())
+        same("a sum by Dask", int(frame["km"].sum()), int(several.read_query("SELECT km FROM v", servers)["km"].sum().compute()))
+    return f"{len(frame)} rows"
+
+
+def with_categories(pandas: Any, given: Any, wanted: Any) -> Any:
+    """The same values with the categories in one order: that order is of no meaning."""
+    given["town"] = pandas.Categorical(given["town"].astype(object), wanted["town"].cat.categories)
+    return given
+
+
+@case("groups: counts and sums of all servers, added exactly, are those of pandas over all rows")
+def groups_added(run: Run) -> str:
+    pandas, several = modules()
+    frame = frame_of_trips(pandas, 30_000)
+    frame["huge"] = np.uint64(2**64 - 1)
+    with run.several(4) as servers:
+        several.put_table(frame, servers, "id", "t")
+        given = several.grouped(GROUPS, servers)
+        by_pandas = frame.groupby(frame["town"].astype(object).where(frame["town"].notna(), "none"))
+        names = [name if isinstance(name, str) else "none" for name in given["town"].astype(object)]
+        for column, wanted in (("n", by_pandas.size()), ("k", by_pandas["km"].count()), ("s", by_pandas["km"].sum())):
+            same(column, {name: int(value) for name, value in wanted.items()}, dict(zip(names, map(int, given[column]))))
+        same("the versions", [(server, 1) for server in servers], given.attrs["versions"])
+        whole = several.grouped("SELECT SUM(huge) AS h, COUNT(*), SUM(small) AS none FROM t WHERE id < 29999", servers)
+        same("a sum of large numbers", [Decimal((2**64 - 1) * 29_999)], whole["h"].tolist())
+        same("names without an alias", ["h", "col2", "none"], list(whole.columns))
+        nothing = several.grouped("SELECT COUNT(*) AS n, SUM(km) AS s FROM t WHERE id < 0", servers)
+        same("no rows", [(0, None)], list(zip(nothing["n"].tolist(), nothing["s"].tolist())))
+        none = several.grouped("SELECT town, day, SUM(small) AS s FROM t WHERE id < 0 GROUP BY day, town", servers)
+        same("no groups", (0, ["town", "day", "s"]), (len(none), list(none.columns)))
+        look_at_many_keys(pandas, several, frame, servers)
+        for query, text in (("SELECT COUNT(*) FROM t GROUP BY town", "groups of several servers need their keys: select town"),
+                            ("SELECT id FROM t", "the query has no groups")):
+            refused(query, flightscan.InterfaceError, text, lambda query=query: several.grouped(query, servers))
+    return f"{len(frame)} rows"
+
+
+def look_at_many_keys(pandas: Any, several: Any, frame: Any, servers: list[str]) -> None:
+    """Groups by three columns with nulls, next to a plain dictionary."""
+    wanted: dict[tuple[Any, ...], list[int | None]] = {}
+    for town, day, paid, small in zip(frame["rider"], frame["day"], frame["paid"], frame["small"]):
+        key = (town, None if day is pandas.NaT else day.year, None if paid is pandas.NA else paid)
+        found = wanted.setdefault((town, None if day is pandas.NaT else day, key[2]), [0, None])
+        found[0] += 1
+        if small is not pandas.NA:
+            found[1] = (found[1] or 0) + int(small)
+    given = several.grouped("SELECT rider, day, paid, COUNT(*) AS n, SUM(small) AS s FROM t GROUP BY paid, day, t.rider", servers)
+    keys = [(rider, None if day is pandas.NaT else day, None if paid is pandas.NA else bool(paid))
+            for rider, day, paid in zip(given["rider"], given["day"], given["paid"])]
+    found = {key: [int(count), None if total is None else int(total)] for key, count, total in zip(keys, given["n"], given["s"])}
+    same("groups by three columns", wanted, found)
+    same("each group once", len(keys), len(found))
+
+
+@case("each server's rows are of the version that its info named, whoever puts meanwhile; a snapshot by named puts")
+def versions_meanwhile(run: Run) -> str:
+    pandas, several = modules()
+    with run.several(3, "--parts", "2", "--seats", "8") as servers:
+        writers = [flightscan.connect(server) for server in servers]
+        for writer in writers:
+            writer.put("t", {"put": np.zeros(5, np.int64)})
+        stop, done = threading.Event(), [0]
+        thread = threading.Thread(target=put_by_name, args=(writers, stop, done))
+        thread.start()
+        for _ in range(25):
+            named = done[0]
+            infos = several.ask("SELECT put FROM t", servers)
+            rows = infos.frame().compute()["put"].tolist()
+            wanted = [number for _, version in infos.versions for number in range(version) for _ in range(5)]
+            same("the rows of the versions", wanted, rows)
+            snapshot = several.grouped(f"SELECT put, COUNT(*) AS n FROM t WHERE put <= {named} GROUP BY put", servers)
+            found = dict(zip(snapshot["put"].tolist(), snapshot["n"].tolist()))
+            same("a snapshot", dict.fromkeys(range(named + 1), 15), found)
+        stop.set()
+        thread.join()
+        for writer in writers:
+            writer.close()
+    return f"{done[0]} puts to each server"
+
+
+def put_by_name(writers: list[flightscan.Connection], stop: threading.Event, done: list[int]) -> None:
+    """Puts rows to each server, and says which put all servers have."""
+    number = 1
+    while not stop.is_set() and number < 2_000:
+        for writer in writers:
+            writer.put("t", {"put": np.full(5, number, np.int64)}, mode="append")
+        done[0] = number
+        number += 1
+
+
+@case("a server that is gone, refuses, or has other columns: no answer rather than a part of one, and puts say who has what")
+def servers_that_fail(run: Run) -> None:
+    pandas, several = modules()
+    frame = frame_of_trips(pandas, 1_000)
+    with run.several(2) as servers:
+        with run.several(1) as third:
+            several.put_table(frame, [*servers, *third], "id", "t")
+            infos = several.ask("SELECT id FROM t", [*servers, *third])
+        every = [*servers, *third]
+        for what, call in (("an info", lambda: several.ask("SELECT id FROM t", every)),
+                           ("a partition", lambda: infos.frame().compute()),
+                           ("groups", lambda: several.grouped(GROUPS, every))):
+            refused(what, flightscan.OperationalError, "F22 Transport (no server", call)
+        failed = refused("a put", several.PartPut, "not every server made the put",
+                         lambda: several.put_table(frame, every, "id", "u"))
+        same("who made it", [True, True, False], [rows is not None for rows in failed.rows])
+        same("their rows", failed.rows[:2], [len(flightscan.connect(server).query("SELECT id FROM u")) for server in servers])
+        failed = refused("a put that one refuses", several.PartPut, "not every server", lambda: several.put_table(
+            frame, servers, "id", "u"))
+        same("the reasons", ["F10 TableExists"] * 2, [one.text for one in failed.failures])
+        flightscan.connect(servers[1]).put("t", {"id": ["x"]}, mode="replace")
+        refused("other columns", flightscan.IntegrityError, "F11 SchemaMismatch",
+                lambda: several.ask("SELECT id FROM t", servers))
+        refused("no server", flightscan.InterfaceError, "there is no server", lambda: several.ask("SELECT id FROM t", []))
+        refused("too few bounds", flightscan.InterfaceError, "0 bounds for 2 servers", lambda: several.put_table(
+            frame, servers, ("id", []), "u"))

@@ -1,0 +1,225 @@
+-- The table of each type is read as it is written, and as what it says.
+use Rattle.std.proofs.Common.{◌≡◌, ℕ, ◌≤◌, ◌<◌, ◌==◌, ◌&&◌, not, Bool, true, false, List, [], length, Result, Ok, refl, arith, sym, subst}
+use Rattle.std.proofs.lemmas.Bool.{and_parts, eqb-true}
+use Rattle.scan_base.specs.declared.fault.Fault.{Fault}
+use Rattle.scan_base.specs.declared.fault.Fault.TheVariants.{UnsupportedArrow}
+use Rattle.scan_base.specs.Reading.{◌>>=◌, demand}
+use Rattle.flatbuf.specs.Layout.{TableAt, IsBytes, HasScalar, Stands}
+use Rattle.flatbuf.specs.Place.{scalar_of}
+use Rattle.flatbuf.specs.Block.{IsWhole, AreWhole, table_part}
+use Rattle.flatbuf.specs.WrittenTables.{table_at}
+use Rattle.flatbuf.proofs.Written.{table_reads}
+use Rattle.flatbuf.proofs.Lengths.{whole_table, short_table, fits_table}
+use Rattle.arrow_types.specs.declared.data_type.IntegerType.{IntegerType}
+use Rattle.arrow_types.specs.declared.data_type.IntegerType.TheVariants.{Int8, Int16, Int32, Int64, UInt8, UInt16, UInt32, UInt64}
+use Rattle.arrow_types.specs.declared.data_type.NumberType.TheVariants.{Integer, Decimal, Date}
+use Rattle.arrow_types.specs.declared.data_type.DataType.{DataType}
+use Rattle.arrow_types.specs.declared.data_type.DataType.TheVariants.{Number, Utf8, Bool as Flags, Dictionary}
+use Rattle.arrow_types.specs.DataType.{bit_width, is_signed}
+use Rattle.arrow_schema.specs.TypeTables.{meaning_of, flag, SaysInteger, SaysDecimal, SaysDate, SaysType, signed_types, unsigned_types, integer_type, integer_of, integer_slots, integer_part, decimal_of, date_of, type_readings, type_written, type_number, type_part, type_of}
+use Rattle.arrow_schema.proofs.Readings.{bind_ok, demand_ok, HoldOf, meaning_told, says_scalar, reads_scalar}
+
+-- ---- Int
+
+pub low_flag : (b : Bool) → flag b ≤ 1
+low_flag true = omega arith
+low_flag false = omega arith
+
+pub flag_again : (b : Bool) → not (flag b == 0) ≡ b
+flag_again true = refl
+flag_again false = refl
+
+few_bits : (integer : IntegerType) → bit_width integer ≤ 64
+few_bits Int8 = omega arith
+few_bits Int16 = omega arith
+few_bits Int32 = omega arith
+few_bits Int64 = omega arith
+few_bits UInt8 = omega arith
+few_bits UInt16 = omega arith
+few_bits UInt32 = omega arith
+few_bits UInt64 = omega arith
+
+integer_type_is : (integer : IntegerType) → integer_type (is_signed integer) (bit_width integer) ≡ Ok integer
+integer_type_is Int8 = refl
+integer_type_is Int16 = refl
+integer_type_is Int32 = refl
+integer_type_is Int64 = refl
+integer_type_is UInt8 = refl
+integer_type_is UInt16 = refl
+integer_type_is UInt32 = refl
+integer_type_is UInt64 = refl
+
+-- the bits are those of a type, and it has a sign or none
+abbrev IsIntegerOf : Bool → ℕ → IntegerType → Type 0
+IsIntegerOf signed bits integer = (bits ≡ bit_width integer) × (signed ≡ is_signed integer)
+
+integer_is : (signed : Bool) (bits : ℕ) (integer : IntegerType) → integer_type signed bits ≡ Ok integer → IsIntegerOf signed bits integer
+integer_is true bits integer e = meaning_told (IsIntegerOf true) signed_types bits integer ((refl, refl), ((refl, refl), ((refl, refl), ((refl, refl), tt)))) e
+integer_is false bits integer e = meaning_told (IsIntegerOf false) unsigned_types bits integer ((refl, refl), ((refl, refl), ((refl, refl), ((refl, refl), tt)))) e
+
+pub integer_told : (table : TableAt) (integer : IntegerType) → IsBytes table.bytes → integer_of table ≡ Ok integer → SaysInteger table integer
+unfolding integer_of
+integer_told table integer is e =
+    let a = bind_ok (scalar_of 4 table 0 0) _ integer e in
+    let b = bind_ok (scalar_of 1 table 1 0) _ integer a.2 in
+    let c = integer_is (not (b.0 == 0)) a.0 integer b.2 in
+    record { width = rw (← c.0) (says_scalar 4 table 0 0 a.0 is a.1); signed = (b.0, says_scalar 1 table 1 0 b.0 is b.1, sym c.1) }
+
+pub integer_read : (table : TableAt) (integer : IntegerType) → IsBytes table.bytes → SaysInteger table integer → integer_of table ≡ Ok integer
+unfolding integer_of
+integer_read table integer is says =
+    rw (reads_scalar 4 table 0 0 (bit_width integer) is says.width, reads_scalar 1 table 1 0 says.signed.0 is says.signed.1, ← says.signed.2) (integer_type_is integer)
+
+pub whole_integer : (integer : IntegerType) → IsWhole (integer_part integer)
+unfolding integer_part
+whole_integer integer = whole_table (integer_slots integer) tt
+
+pub short_integer : (integer : IntegerType) → length (integer_part integer).bytes ≤ 40
+unfolding integer_part
+short_integer integer = let s = short_table (integer_slots integer) in omega arith
+
+pub integer_again : (integer : IntegerType) (bytes : List ℕ) (at : ℕ) → Stands (integer_part integer).bytes bytes at →
+    integer_of (table_at bytes at (integer_part integer)) ≡ Ok integer
+unfolding integer_part integer_of
+integer_again integer bytes at s =
+    let slots = integer_slots integer in
+    let t = table_at bytes at (table_part slots) in
+    let b = few_bits integer in
+    let f = low_flag (is_signed integer) in
+    let reads = table_reads slots bytes at (fits_table slots (omega arith) (omega arith)) tt s in
+    let bits : scalar_of 4 t 0 0 ≡ Ok (bit_width integer) = reads 0 4 0 (omega arith) (omega arith) in
+    let signed : scalar_of 1 t 1 0 ≡ Ok (flag (is_signed integer)) = reads 1 1 0 (omega arith) (omega arith) in
+    rw (bits, signed, flag_again (is_signed integer)) (integer_type_is integer)
+
+-- ---- what a table that is read says
+
+-- a table that is read as one of a kind says the type that it is read as
+abbrev IsTold : ℕ → (TableAt → Result DataType Fault) → Type 0
+IsTold kind reading = (table : TableAt) (t : DataType) → IsBytes table.bytes → reading table ≡ Ok t → (kind ≡ type_number t) × SaysType t table
+
+integer_row : IsTold 2 (λ table. integer_of table >>= λ integer. Ok (Number (Integer integer)))
+integer_row table t is e =
+    let a = bind_ok (integer_of table) _ t e in
+    let last = a.2 in
+    let f : Number (Integer a.0) ≡ t = cc in
+    rw (← f) (refl, integer_told table a.0 is a.1)
+
+decimal_row : IsTold 7 decimal_of
+unfolding decimal_of
+decimal_row table t is e =
+    let a = bind_ok (scalar_of 4 table 0 0) _ t e in
+    let b = bind_ok (scalar_of 4 table 1 0) _ t a.2 in
+    let c = bind_ok (scalar_of 4 table 2 128) _ t b.2 in
+    let d = bind_ok (demand ((a.0 == 38) && (b.0 == 0) && (c.0 == 128)) UnsupportedArrow) _ t c.2 in
+    let tests = demand_ok ((a.0 == 38) && (b.0 == 0) && (c.0 == 128)) UnsupportedArrow d.0 d.1 in
+    let both = and_parts ((a.0 == 38) && (b.0 == 0)) (c.0 == 128) tests in
+    let first = and_parts (a.0 == 38) (b.0 == 0) both.0 in
+    let last = d.2 in
+    let f : Number Decimal ≡ t = cc in
+    rw (← f) (
+      refl,
+      record {
+        precision = subst (λ (n : ℕ). HasScalar 4 table 0 0 n) (eqb-true a.0 38 first.0) (says_scalar 4 table 0 0 a.0 is a.1);
+        scale = subst (λ (n : ℕ). HasScalar 4 table 1 0 n) (eqb-true b.0 0 first.1) (says_scalar 4 table 1 0 b.0 is b.1);
+        width = subst (λ (n : ℕ). HasScalar 4 table 2 128 n) (eqb-true c.0 128 both.1) (says_scalar 4 table 2 128 c.0 is c.1);
+      },
+    )
+
+date_row : IsTold 8 date_of
+unfolding date_of
+date_row table t is e =
+    let a = bind_ok (scalar_of 2 table 0 1) _ t e in
+    let b = bind_ok (demand (a.0 == 0) UnsupportedArrow) _ t a.2 in
+    let last = b.2 in
+    let f : Number Date ≡ t = cc in
+    rw (← f) (
+      refl,
+      record { unit = subst (λ (n : ℕ). HasScalar 2 table 0 1 n) (eqb-true a.0 0 (demand_ok (a.0 == 0) UnsupportedArrow b.0 b.1)) (says_scalar 2 table 0 1 a.0 is a.1) },
+    )
+
+utf8_row : IsTold 5 (λ table. Ok Utf8)
+utf8_row table t is e = let f : Utf8 ≡ t = cc in rw (← f) (refl, tt)
+
+flags_row : IsTold 6 (λ table. Ok Flags)
+flags_row table t is e = let f : Flags ≡ t = cc in rw (← f) (refl, tt)
+
+told_rows : HoldOf IsTold type_readings
+told_rows = (integer_row, (utf8_row, (flags_row, (decimal_row, (date_row, tt)))))
+
+pub type_told : (kind : ℕ) (table : Result TableAt Fault) (t : DataType) → type_of kind table ≡ Ok t → (found : TableAt) × (table ≡ Ok found) × (IsBytes found.bytes → (kind ≡ type_number t) × SaysType t found)
+type_told kind table t e =
+    let a = bind_ok (meaning_of type_readings kind) _ t e in
+    let b = bind_ok table a.0 t a.2 in
+    (b.0, b.1, λ is. meaning_told IsTold type_readings kind a.0 told_rows a.1 b.0 t is b.2)
+
+-- ---- how a type's table is read
+
+-- the type of the values, also of a dictionary's
+abbrev pub values : DataType → DataType
+values (Dictionary encoding) = Utf8
+values t = t
+
+-- a type's table is short, and reads as the type where it is written and where it says the type
+pub record Row (t : DataType) : Type 0 where
+  pub whole : AreWhole (type_written t).1
+  pub short : length (type_part t).bytes ≤ 50
+  pub reading : TableAt → Result DataType Fault
+  pub known : meaning_of type_readings (type_number t) ≡ Ok reading
+  pub again : (bytes : List ℕ) (at : ℕ) → Stands (type_part t).bytes bytes at → reading (table_at bytes at (type_part t)) ≡ Ok (values t)
+  pub read : (table : TableAt) → IsBytes table.bytes → SaysType t table → reading table ≡ Ok t
+
+decimal_again : (bytes : List ℕ) (at : ℕ) → Stands (type_part (Number Decimal)).bytes bytes at → decimal_of (table_at bytes at (type_part (Number Decimal))) ≡ Ok (Number Decimal)
+unfolding type_part decimal_of
+decimal_again bytes at s =
+    let slots = (type_written (Number Decimal)).1 in
+    let t = table_at bytes at (table_part slots) in
+    let reads = table_reads slots bytes at (fits_table slots (omega arith) (omega arith)) tt s in
+    let precision : scalar_of 4 t 0 0 ≡ Ok 38 = reads 0 4 0 (omega arith) (omega arith) in
+    let scale : scalar_of 4 t 1 0 ≡ Ok 0 = reads 1 4 0 (omega arith) (omega arith) in
+    let bits : scalar_of 4 t 2 128 ≡ Ok 128 = reads 2 4 128 (omega arith) (omega arith) in
+    rw (precision, scale, bits) refl
+
+decimal_read : (table : TableAt) → IsBytes table.bytes → SaysDecimal table → decimal_of table ≡ Ok (Number Decimal)
+unfolding decimal_of
+decimal_read table is says =
+    rw (reads_scalar 4 table 0 0 38 is says.precision, reads_scalar 4 table 1 0 0 is says.scale, reads_scalar 4 table 2 128 128 is says.width) refl
+
+date_again : (bytes : List ℕ) (at : ℕ) → Stands (type_part (Number Date)).bytes bytes at → date_of (table_at bytes at (type_part (Number Date))) ≡ Ok (Number Date)
+unfolding type_part date_of
+date_again bytes at s =
+    let slots = (type_written (Number Date)).1 in
+    let t = table_at bytes at (table_part slots) in
+    let reads = table_reads slots bytes at (fits_table slots (omega arith) (omega arith)) tt s in
+    let unit : scalar_of 2 t 0 1 ≡ Ok 0 = reads 0 2 1 (omega arith) (omega arith) in
+    rw unit refl
+
+date_read : (table : TableAt) → IsBytes table.bytes → SaysDate table → date_of table ≡ Ok (Number Date)
+unfolding date_of
+date_read table is says = rw (reads_scalar 2 table 0 1 0 is says.unit) refl
+
+pub row : (t : DataType) → Row t
+unfolding type_part integer_part
+row (Number (Integer integer)) = record {
+  whole = tt;
+  short = (let s = short_integer integer in omega arith);
+  reading = λ table. integer_of table >>= λ integer. Ok (Number (Integer integer));
+  known = refl;
+  again = λ bytes at s. rw (integer_again integer bytes at s) refl;
+  read = λ table is says. rw (integer_read table integer is says) refl;
+}
+row (Number Decimal) = record { whole = tt; short = (let s = short_table (type_written (Number Decimal)).1 in omega arith); reading = decimal_of; known = refl; again = decimal_again; read = decimal_read }
+row (Number Date) = record { whole = tt; short = (let s = short_table (type_written (Number Date)).1 in omega arith); reading = date_of; known = refl; again = date_again; read = date_read }
+row Utf8 = record { whole = tt; short = (let s = short_table [] in omega arith); reading = λ table. Ok Utf8; known = refl; again = λ bytes at s. refl; read = λ table is says. refl }
+row Flags = record { whole = tt; short = (let s = short_table [] in omega arith); reading = λ table. Ok Flags; known = refl; again = λ bytes at s. refl; read = λ table is says. refl }
+row (Dictionary encoding) = record { whole = tt; short = (let s = short_table [] in omega arith); reading = λ table. Ok Utf8; known = refl; again = λ bytes at s. refl; read = λ table is says. absurd says }
+
+-- the number of a kind is one of a byte that is not 0
+abbrev IsKind : ℕ → (TableAt → Result DataType Fault) → Type 0
+IsKind kind reading = (1 ≤ kind) × (kind < 256)
+
+pub is_kind : (t : DataType) → (1 ≤ type_number t) × (type_number t < 256)
+is_kind t = meaning_told IsKind type_readings (type_number t) (row t).reading ((omega arith, omega arith), ((omega arith, omega arith), ((omega arith, omega arith), ((omega arith, omega arith), ((omega arith, omega arith), tt))))) (row t).known
+
+pub whole_type : (t : DataType) → IsWhole (type_part t)
+unfolding type_part
+whole_type t = whole_table (type_written t).1 (row t).whole

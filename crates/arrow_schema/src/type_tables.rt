@@ -1,0 +1,117 @@
+//! The table of each type in a schema. A type has one row where tables are read, and one where they
+//! are written.
+
+ghost use Rattle.std.specs.Prelude.{◌≡◌, IfOk};
+ghost use Rattle.scan_base.specs.Reading.{Gives};
+ghost use Rattle.arrow_types.specs.Schema.{IsType};
+ghost use Rattle.arrow_schema.specs.Fields.{table_wanted};
+ghost use Rattle.arrow_schema.specs.TypeTables.{integer_type, integer_of, decimal_of, date_of};
+ghost use Rattle.arrow_schema.specs.TypeTables.{type_of, integer_part, type_number, type_part};
+
+use crate::header::table_wanted;
+use arrow_types::{DataType, IntegerType, NumberType};
+use flatbuf::{Block, Builder, Slot, Table, Width};
+use scan_base::Fault;
+use std::alloc::AllocError;
+
+fn integer_type(signed: bool, bits: u64) -> Result<IntegerType, Fault>
+    ensures { Gives (λ integer. integer) result (integer_type signed bits) }
+{
+    match (signed, bits) {
+        (true, 8) => Ok(IntegerType::Int8),
+        (true, 16) => Ok(IntegerType::Int16),
+        (true, 32) => Ok(IntegerType::Int32),
+        (true, 64) => Ok(IntegerType::Int64),
+        (false, 8) => Ok(IntegerType::UInt8),
+        (false, 16) => Ok(IntegerType::UInt16),
+        (false, 32) => Ok(IntegerType::UInt32),
+        (false, 64) => Ok(IntegerType::UInt64),
+        _ => Err(Fault::UnsupportedArrow),
+    }
+}
+
+#[tactic(auto, unfolding(crate::specs::TypeTables::integer_of))]
+pub(crate) fn integer(table: &Table<'_>) -> Result<IntegerType, Fault>
+    ensures { Gives (λ integer. integer) result (integer_of table.now) }
+{
+    let bits = table.scalar(0, Width::Four, 0)?;
+    let signed = table.scalar(1, Width::One, 0)?;
+    integer_type(signed != 0, bits)
+}
+
+#[tactic(auto, unfolding(crate::specs::TypeTables::decimal_of))]
+fn decimal(table: &Table<'_>) -> Result<DataType, Fault>
+    ensures value { Gives (λ decimal. decimal) result (decimal_of table.now) }
+    ensures valid { IfOk result IsType }
+{
+    let precision = table.scalar(0, Width::Four, 0)?;
+    let scale = table.scalar(1, Width::Four, 0)?;
+    let bits = table.scalar(2, Width::Four, 128)?;
+    if precision != 38 || scale != 0 || bits != 128 {
+        return Err(Fault::UnsupportedArrow);
+    }
+    Ok(DataType::Number(NumberType::Decimal))
+}
+
+// A date of whole days.
+#[tactic(auto, unfolding(crate::specs::TypeTables::date_of))]
+fn date(table: &Table<'_>) -> Result<DataType, Fault>
+    ensures value { Gives (λ date. date) result (date_of table.now) }
+    ensures valid { IfOk result IsType }
+{
+    if table.scalar(0, Width::Two, 1)? != 0 {
+        return Err(Fault::UnsupportedArrow);
+    }
+    Ok(DataType::Number(NumberType::Date))
+}
+
+/// The type of a field's values, by the number of its kind. It refuses an unknown kind before an
+/// absent table.
+pub(crate) fn type_from(kind: u64, field: &Table<'_>) -> Result<DataType, Fault>
+    ensures value { Gives (λ data_type. data_type) result
+        (type_of kind (table_wanted field.now 3)) }
+    ensures valid { IfOk result IsType }
+{
+    let table = table_wanted(field, 3);
+    match kind {
+        2 => Ok(DataType::Number(NumberType::Integer(integer(&table?)?))),
+        5 => {
+            table?;
+            Ok(DataType::Utf8)
+        }
+        6 => {
+            table?;
+            Ok(DataType::Bool)
+        }
+        7 => decimal(&table?),
+        8 => date(&table?),
+        _ => Err(Fault::UnsupportedArrow),
+    }
+}
+
+#[tactic(auto, using(flatbuf::proofs::Lengths::fits), unfolding(crate::specs::TypeTables::integer_part))]
+pub(crate) fn integer_block(builder: &Builder, integer: IntegerType) -> Result<Block, AllocError>
+    ensures { IfOk result (λ block. block ≡ integer_part integer) }
+{
+    builder.table(&[
+        Slot::Number(u64::from(integer.bit_width())),
+        Slot::Number(u64::from(integer.is_signed())),
+    ])
+}
+
+/// The number of a type's kind, and its table.
+#[tactic(auto, using(flatbuf::proofs::Lengths::fits), unfolding(crate::specs::TypeTables::type_part, crate::specs::TypeTables::integer_part))]
+pub(crate) fn type_block(builder: &Builder, data_type: DataType) -> Result<(u64, Block), AllocError>
+    ensures { IfOk result (λ made. made ≡ (type_number data_type, type_part data_type)) }
+{
+    match data_type {
+        DataType::Number(NumberType::Integer(integer)) => Ok((2, integer_block(builder, integer)?)),
+        DataType::Utf8 | DataType::Dictionary(_) => Ok((5, builder.table(&[])?)),
+        DataType::Bool => Ok((6, builder.table(&[])?)),
+        DataType::Number(NumberType::Decimal) => {
+            let slots = [Slot::Number(38), Slot::Number(0), Slot::Number(128)];
+            Ok((7, builder.table(&slots)?))
+        }
+        DataType::Number(NumberType::Date) => Ok((8, builder.table(&[Slot::Number(0)])?)),
+    }
+}

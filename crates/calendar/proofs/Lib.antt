@@ -1,5 +1,0 @@
-pub mod Rows
-pub mod Parts
-pub mod Numbers
-pub mod Texts
-pub mod Printed

@@ -1,5 +1,0 @@
-use Rattle.calendar.proofs.Texts.{texts_are_dates}
-use Rattle.calendar.proofs.laws.texts_are_dates.Goals as goal
-
-pub returns : goal.returns
-returns c = texts_are_dates

@@ -1,5 +1,0 @@
-use Rattle.calendar.proofs.Parts.{form_parts}
-use Rattle.calendar.proofs.reading.day_of_month_in.Goals as goal
-
-pub two_digits-requires-clause-digits : goal.two_digits-requires-clause-digits
-two_digits-requires-clause-digits c = (form_parts c.args.text.now c.requires).day

@@ -1,2 +1,0 @@
-pub mod Dates
-pub mod DateText

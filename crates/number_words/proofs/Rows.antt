@@ -1,0 +1,133 @@
+-- Worked rows.
+use Rattle.std.proofs.Common.{◌≡◌, Bool, if◌then◌else◌, List, ℕ, ℤ, Option, refl, sym, ap, ◌∙◌, codes, Some, None, pos, negsuc}
+use Rattle.std.specs.Prelude.{unwrap_or}
+use Rattle.std.specs.Fmt.{digits, signed_decimal}
+use Rattle.jiff_core.specs.Calendar.{days_from_civil, day_count, days_of_years, days_of_months}
+use Rattle.number_words.specs.Dates.{day_in}
+use Rattle.arrow_types.specs.declared.data_type.IntegerType.TheVariants.{Int8, Int16, Int32}
+use Rattle.arrow_types.specs.declared.data_type.Cell.TheVariants as cell
+use Rattle.arrow_types.specs.declared.data_type.NumberType.TheVariants.{Integer, Decimal, Date}
+use Rattle.sql_text.specs.Values.{number_of}
+use Rattle.number_words.specs.DateText.{date_of}
+use Rattle.number_words.specs.WholeNumbers.{kept_in}
+use Rattle.number_words.specs.NumberTexts.{form_of, literal_text, number_read, shown, worded}
+use Rattle.number_words.proofs.Texts.{texts_are_dates}
+
+-- ---- texts that are a date
+
+row : day_in (codes "1994-01-01") ≡ Some (pos 8766)
+unfolding days_from_civil day_count days_of_years days_of_months
+row = refl
+
+leap_day : day_in (codes "2000-02-29") ≡ Some (pos 11016)
+unfolding days_from_civil day_count days_of_years days_of_months
+leap_day = refl
+
+first_day : day_in (codes "0001-01-01") ≡ Some (negsuc 719161)
+unfolding days_from_civil day_count days_of_years days_of_months
+first_day = refl
+
+last_day : day_in (codes "9999-12-31") ≡ Some (pos 2932896)
+unfolding days_from_civil day_count days_of_years days_of_months
+last_day = refl
+
+-- ---- texts that are none
+
+no_leap_day : day_in (codes "1994-02-29") ≡ None
+no_leap_day = refl
+
+century : day_in (codes "1900-02-29") ≡ None
+century = refl
+
+short_parts : day_in (codes "1994-1-1") ≡ None
+short_parts = refl
+
+year_0 : day_in (codes "0000-01-01") ≡ None
+year_0 = refl
+
+month_13 : day_in (codes "1994-13-01") ≡ None
+month_13 = refl
+
+day_32 : day_in (codes "1994-01-32") ≡ None
+day_32 = refl
+
+space_before : day_in (codes " 1994-01-01") ≡ None
+space_before = refl
+
+byte_behind : day_in (codes "1994-01-01T") ≡ None
+byte_behind = refl
+
+empty : day_in (codes "") ≡ None
+empty = refl
+
+-- ---- what is printed
+
+-- a text that reads as a day is its form
+form : (text : List ℕ) (day : ℤ) → day_in text ≡ Some day → form_of Date day ≡ Some text
+form text day reads =
+    let law = texts_are_dates text day reads in
+    ap (λ (test : Bool). if test then Some (date_of day) else None) law.0 ∙ ap Some (sym law.1)
+
+pub row_form : form_of Date (pos 8766) ≡ Some (codes "1994-01-01")
+row_form = form (codes "1994-01-01") (pos 8766) row
+
+pub before_form : form_of Date (negsuc 719162) ≡ None
+unfolding days_from_civil day_count days_of_years days_of_months
+before_form = refl
+
+row_shown : shown Date (pos 8766) ≡ codes "1994-01-01"
+row_shown = ap (λ (o : Option (List ℕ)). unwrap_or o (signed_decimal (pos 8766))) row_form
+
+first_shown : shown Date (negsuc 719161) ≡ codes "0001-01-01"
+first_shown = ap (λ (o : Option (List ℕ)). unwrap_or o (signed_decimal (negsuc 719161))) (form (codes "0001-01-01") (negsuc 719161) first_day)
+
+last_shown : shown Date (pos 2932896) ≡ codes "9999-12-31"
+last_shown = ap (λ (o : Option (List ℕ)). unwrap_or o (signed_decimal (pos 2932896))) (form (codes "9999-12-31") (pos 2932896) last_day)
+
+behind_shown : shown Date (pos 2932897) ≡ codes "2932897"
+unfolding digits days_from_civil day_count days_of_years days_of_months
+behind_shown = refl
+
+number_shown : shown (Integer Int16) (negsuc 127) ≡ codes "-128"
+unfolding digits
+number_shown = refl
+
+-- ---- literals
+
+pub row_literal : literal_text Date (pos 8766) ≡ codes "DATE '1994-01-01'"
+row_literal = ap (worded (codes "DATE") (pos 8766)) row_form
+
+pub before_literal : literal_text Date (negsuc 719162) ≡ codes "DATE(-719163)"
+unfolding digits
+before_literal = ap (worded (codes "DATE") (negsuc 719162)) before_form
+
+number_literal : literal_text Decimal (pos 36893488147419103230) ≡ codes "36893488147419103230"
+unfolding digits
+number_literal = refl
+
+-- ---- what is read
+
+day_read : number_read Date (codes "1994-01-01") ≡ Some (pos 8766)
+day_read = ap (kept_in (cell.Integer Int32)) row
+
+-- the least number of a type, the one before it, and a plus
+least : number_read (Integer Int8) (codes "-128") ≡ Some (negsuc 127)
+unfolding number_of
+least = refl
+
+too_small : number_read (Integer Int8) (codes "-129") ≡ None
+unfolding number_of
+too_small = refl
+
+plus : number_read (Integer Int8) (codes "+1") ≡ None
+unfolding number_of
+plus = refl
+
+-- zeros in front, and a number of 39 digits
+zeros : number_read Decimal (codes "-007") ≡ Some (negsuc 6)
+unfolding number_of
+zeros = refl
+
+too_long : number_read Decimal (codes "100000000000000000000000000000000000000") ≡ None
+unfolding number_of
+too_long = refl

@@ -1,0 +1,41 @@
+-- The words of types.
+use Rattle.std.proofs.Common.{◌≡◌, ◌≢◌, ◌<◌, ℕ, true, List, length, get_or, refl, arith}
+use Rattle.std.specs.Prelude.{◌||◌, Bool, nat_le}
+use Rattle.std.specs.Char.{is_ascii_digit}
+use Rattle.std.specs.List.{list_all}
+use Rattle.std.specs.Str.{byte}
+use Rattle.arrow_types.specs.declared.data_type.IntegerType.TheVariants.{Int8, Int16, Int32, Int64, UInt8, UInt16, UInt32, UInt64}
+use Rattle.arrow_types.specs.declared.data_type.NumberType.{NumberType}
+use Rattle.arrow_types.specs.declared.data_type.NumberType.TheVariants.{Integer, Decimal, Date}
+use Rattle.number_words.specs.declared.words.TheConstants.{TYPES}
+use Rattle.number_words.specs.NumberTexts.{word}
+
+-- a byte is a digit, or "a" or after it
+abbrev pub is_plain : ℕ → Bool
+is_plain b = is_ascii_digit b || nat_le (byte "a") b
+
+-- each byte of a word is
+pub plain_word : (kind : NumberType) → list_all is_plain (word kind) ≡ true
+plain_word (Integer Int8) = refl
+plain_word (Integer Int16) = refl
+plain_word (Integer Int32) = refl
+plain_word (Integer Int64) = refl
+plain_word (Integer UInt8) = refl
+plain_word (Integer UInt16) = refl
+plain_word (Integer UInt32) = refl
+plain_word (Integer UInt64) = refl
+plain_word Decimal = refl
+plain_word Date = refl
+
+-- a text that is the word of none of them is that of no type
+pub none_named : (text : List ℕ) → ((k : ℕ) (d : NumberType) → k < length TYPES → text ≢ word (get_or TYPES k d)) → (kind : NumberType) → text ≢ word kind
+none_named text other (Integer Int8) = other 0 Date (omega arith)
+none_named text other (Integer Int16) = other 1 Date (omega arith)
+none_named text other (Integer Int32) = other 2 Date (omega arith)
+none_named text other (Integer Int64) = other 3 Date (omega arith)
+none_named text other (Integer UInt8) = other 4 Date (omega arith)
+none_named text other (Integer UInt16) = other 5 Date (omega arith)
+none_named text other (Integer UInt32) = other 6 Date (omega arith)
+none_named text other (Integer UInt64) = other 7 Date (omega arith)
+none_named text other Decimal = other 8 Date (omega arith)
+none_named text other Date = other 9 Date (omega arith)

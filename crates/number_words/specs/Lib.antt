@@ -1,0 +1,4 @@
+pub mod Dates
+pub mod DateText
+pub mod WholeNumbers
+pub mod NumberTexts

@@ -1,0 +1,82 @@
+-- How numbers of a type are written and read.
+use Rattle.std.specs.Prelude.{◌≡◌, ℕ, ◌^◌, ◌&&◌, Bool, nat_lt, List, [], ◌∷◌, ◌++◌, codes, IsTrue}
+use Rattle.std.specs.Prelude.{ℤ, unsigned_abs, Option, Some, None, option_map, unwrap_or}
+use Rattle.std.specs.Fmt.{signed_decimal}
+use Rattle.arrow_types.specs.declared.data_type.IntegerType.TheVariants.{Int8, Int16, Int32, Int64}
+use Rattle.arrow_types.specs.declared.data_type.IntegerType.TheVariants.{UInt8, UInt16, UInt32}
+use Rattle.arrow_types.specs.declared.data_type.IntegerType.TheVariants.{UInt64}
+use Rattle.arrow_types.specs.declared.data_type.NumberType.{NumberType}
+use Rattle.arrow_types.specs.declared.data_type.NumberType.TheVariants.{Integer, Decimal, Date}
+use Rattle.arrow_types.specs.DataType.{cell_of}
+use Rattle.number_words.specs.Dates.{day_in}
+use Rattle.number_words.specs.DateText.{date_within, has_date}
+use Rattle.number_words.specs.WholeNumbers.{holds, kept_in, decimal_in}
+
+-- ---- words
+
+-- the word for a type
+abbrev pub word : NumberType → List ℕ
+word (Integer Int8) = codes "int8"
+word (Integer Int16) = codes "int16"
+word (Integer Int32) = codes "int32"
+word (Integer Int64) = codes "int64"
+word (Integer UInt8) = codes "uint8"
+word (Integer UInt16) = codes "uint16"
+word (Integer UInt32) = codes "uint32"
+word (Integer UInt64) = codes "uint64"
+word Decimal = codes "decimal"
+word Date = codes "date"
+
+-- the word before a literal of a type; an integer and a decimal have none
+abbrev pub keyword : NumberType → Option (List ℕ)
+keyword Date = Some (codes "DATE")
+keyword _ = None
+
+-- the types that a text may be of, in the order in which they are tried
+abbrev pub types_tried : List NumberType
+types_tried = Integer Int64 ∷ Decimal ∷ Date ∷ []
+
+-- ---- what is printed
+
+-- what a type has for a number in the place of its decimal: a date in the years 1 to 9999
+abbrev pub form_of : NumberType → ℤ → Option (List ℕ)
+form_of Date day = date_within day
+form_of _ number = None
+
+-- what is printed of a number: its form, or else its decimal
+abbrev pub shown : NumberType → ℤ → List ℕ
+shown kind number = unwrap_or (form_of kind number) (signed_decimal number)
+
+-- a form in quotes, or else a number in brackets, after a word
+abbrev pub worded : List ℕ → ℤ → Option (List ℕ) → List ℕ
+worded word number (Some form) = word ++ (codes " '" ++ (form ++ codes "'"))
+worded word number None = word ++ (codes "(" ++ (signed_decimal number ++ codes ")"))
+
+-- a number as a literal: as it is printed, or after the word of its type
+abbrev pub literal_text : NumberType → ℤ → List ℕ
+literal_text kind number =
+    unwrap_or (option_map (λ word. worded word number (form_of kind number)) (keyword kind))
+    (shown kind number)
+
+-- ---- what is read
+
+-- the number that a text says: a day, or a whole number
+abbrev pub number_said : NumberType → List ℕ → Option ℤ
+number_said Date text = day_in text
+number_said _ text = decimal_in text
+
+-- the number that a text says, if a cell of the type holds it
+abbrev pub number_read : NumberType → List ℕ → Option ℤ
+number_read kind text = kept_in (cell_of kind) (number_said kind text)
+
+-- ---- laws
+
+-- whether a text may say the number: a day of the years 1 to 9999, or a number below 10^38
+abbrev pub is_sayable : NumberType → ℤ → Bool
+is_sayable Date day = has_date day
+is_sayable _ number = nat_lt (unsigned_abs number) (10 ^ 38)
+
+-- what is printed of a number that fits its type reads as that number
+abbrev pub ReadsBack : NumberType → ℤ → Type 0
+ReadsBack kind number = IsTrue (holds (cell_of kind) number && is_sayable kind number) →
+    number_read kind (shown kind number) ≡ Some number

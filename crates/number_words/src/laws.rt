@@ -1,0 +1,19 @@
+//! The laws of numbers and their texts. The contracts are the laws.
+
+ghost use Rattle.number_words.specs.DateText.{TextsAreDates};
+ghost use Rattle.number_words.specs.NumberTexts.{ReadsBack};
+
+use crate::calendar::date_of;
+use arrow_types::NumberType;
+
+/// What is printed of a number reads as that number, if it fits its type and a text may say it.
+pub fn shown_reads_back(kind: NumberType, number: i128)
+    ensures { ReadsBack kind number }
+{
+    let _date = date_of(number);
+}
+
+/// A text that reads as a day is the date that is printed of it.
+pub fn texts_are_dates()
+    ensures { TextsAreDates }
+{}

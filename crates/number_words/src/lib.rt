@@ -1,0 +1,14 @@
+//! How numbers of a type are written and read, as `specs/NumberTexts.antt` says it.
+#![tactic(auto)]
+
+mod calendar;
+pub mod laws;
+mod number_text;
+mod reading;
+mod whole_number;
+mod words;
+
+pub use crate::calendar::day_in;
+pub use crate::number_text::NumberText;
+pub use crate::reading::read;
+pub use crate::words::{TYPES_TRIED, keyword, type_named, word};

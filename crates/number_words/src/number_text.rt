@@ -1,0 +1,100 @@
+//! What is printed of numbers.
+
+ghost use Rattle.std.specs.Prelude.{◌≡◌, ◌≤◌, ◌++◌, codes, length, option_map};
+ghost use Rattle.std.specs.Fmt.{signed_decimal};
+ghost use Rattle.number_words.specs.NumberTexts.{form_of, literal_text, shown, worded};
+
+use crate::calendar::date_of;
+use crate::keyword;
+use arrayvec::ArrayString;
+use arrow_types::NumberType;
+use itoa::Buffer;
+
+/// Room for the text of a number. It takes no memory.
+#[derive(Clone, Copy)]
+pub struct NumberText {
+    decimal: Buffer,
+    form: Option<ArrayString<10>>,
+    literal: Option<ArrayString<56>>,
+}
+
+impl NumberText {
+    /// Room for a text.
+    pub fn new() -> NumberText {
+        NumberText {
+            decimal: Buffer::new(),
+            form: None,
+            literal: None,
+        }
+    }
+
+    /// What is printed of a number: what its type has in the place of its decimal, as the date of a
+    /// day, or else its decimal.
+    pub fn shown(&mut self, kind: NumberType, number: i128) -> &str
+        ensures { result.now ≡ shown kind number }
+    {
+        match form_of(kind, number) {
+            Some(form) => self.form.insert(form).as_str(),
+            None => self.decimal.format(number),
+        }
+    }
+
+    /// A number as a literal: as it is printed, or after the word of its type `DATE 'yyyy-mm-dd'`,
+    /// and `DATE(n)` where the type has nothing in the place of its decimal.
+    pub fn literal(&mut self, kind: NumberType, number: i128) -> &str
+        ensures { result.now ≡ literal_text kind number }
+    {
+        match keyword(kind) {
+            Some(word) => self.literal.insert(worded(word, kind, number)).as_str(),
+            None => self.shown(kind, number),
+        }
+    }
+}
+
+// What a type has for a number in the place of its decimal.
+fn form_of(kind: NumberType, number: i128) -> Option<ArrayString<10>>
+    ensures { option_map (λ text. text.bytes) result ≡ form_of kind number }
+{
+    match kind {
+        NumberType::Date => date_of(number),
+        NumberType::Integer(_) | NumberType::Decimal => None,
+    }
+}
+
+// A number after the word of its type.
+fn worded(word: &str, kind: NumberType, number: i128) -> ArrayString<56>
+    requires { length word.now ≤ 12 }
+    ensures { result.bytes ≡ worded word.now number (form_of kind number) }
+{
+    match form_of(kind, number) {
+        Some(form) => in_quotes(word, form.as_str()),
+        None => in_brackets(word, number),
+    }
+}
+
+// A form in quotes, after a word.
+fn in_quotes(word: &str, form: &str) -> ArrayString<56>
+    requires word { length word.now ≤ 12 }
+    requires form { length form.now ≤ 10 }
+    ensures { result.bytes ≡ word.now ++ (codes " '" ++ (form.now ++ codes "'")) }
+{
+    let mut text = ArrayString::new();
+    text.push_str(word);
+    text.push_str(" '");
+    text.push_str(form);
+    text.push('\'');
+    text
+}
+
+// A number in brackets, after a word.
+fn in_brackets(word: &str, number: i128) -> ArrayString<56>
+    requires { length word.now ≤ 12 }
+    ensures { result.bytes ≡ word.now ++ (codes "(" ++ (signed_decimal number ++ codes ")")) }
+{
+    let mut text = ArrayString::new();
+    text.push_str(word);
+    text.push('(');
+    text.push_str(Buffer::new().format(number));
+    text.push(')');
+    text
+}

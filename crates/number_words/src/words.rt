@@ -1,0 +1,80 @@
+//! The words of types.
+
+ghost use Rattle.std.specs.Prelude.{◌≡◌, ◌≢◌, ◌≤◌, IfSome, MatchOption, length, option_map};
+ghost use Rattle.arrow_types.specs.declared.data_type.NumberType.{NumberType};
+ghost use Rattle.arrow_types.specs.declared.data_type.NumberType.TheVariants as type;
+ghost use Rattle.number_words.specs.NumberTexts.{keyword, word};
+
+use arrow_types::{IntegerType, NumberType};
+
+// All types of numbers.
+const TYPES: [NumberType; 10] = [
+    NumberType::Integer(IntegerType::Int8),
+    NumberType::Integer(IntegerType::Int16),
+    NumberType::Integer(IntegerType::Int32),
+    NumberType::Integer(IntegerType::Int64),
+    NumberType::Integer(IntegerType::UInt8),
+    NumberType::Integer(IntegerType::UInt16),
+    NumberType::Integer(IntegerType::UInt32),
+    NumberType::Integer(IntegerType::UInt64),
+    NumberType::Decimal,
+    NumberType::Date,
+];
+
+/// The types that a text may be of, in the order in which they are tried.
+pub const TYPES_TRIED: [NumberType; 3] = [
+    NumberType::Integer(IntegerType::Int64),
+    NumberType::Decimal,
+    NumberType::Date,
+];
+
+/// The type of a word, if it is one of a type.
+pub fn type_named(text: &[u8]) -> Option<NumberType>
+    ensures { MatchOption result ((kind : NumberType) → text.now ≢ word kind)
+        (λ kind. text.now ≡ word kind) }
+{
+    for kind in TYPES {
+        if word(kind).as_bytes() == text {
+            return Some(kind);
+        }
+    }
+    None
+}
+
+/// The word for a type.
+pub fn word(kind: NumberType) -> &'static str
+    ensures { result.now ≡ word kind }
+{
+    match kind {
+        NumberType::Integer(integer) => integer_word(integer),
+        NumberType::Decimal => "decimal",
+        NumberType::Date => "date",
+    }
+}
+
+// The word for an integer's type.
+fn integer_word(integer: IntegerType) -> &'static str
+    ensures { result.now ≡ word (type.Integer integer) }
+{
+    match integer {
+        IntegerType::Int8 => "int8",
+        IntegerType::Int16 => "int16",
+        IntegerType::Int32 => "int32",
+        IntegerType::Int64 => "int64",
+        IntegerType::UInt8 => "uint8",
+        IntegerType::UInt16 => "uint16",
+        IntegerType::UInt32 => "uint32",
+        IntegerType::UInt64 => "uint64",
+    }
+}
+
+/// The word before a literal of a type, if it has one.
+pub fn keyword(kind: NumberType) -> Option<&'static str>
+    ensures word { option_map (λ word. word.now) result ≡ keyword kind }
+    ensures short { IfSome result (λ word. length word.now ≤ 12) }
+{
+    match kind {
+        NumberType::Date => Some("DATE"),
+        NumberType::Integer(_) | NumberType::Decimal => None,
+    }
+}
