@@ -1,0 +1,150 @@
+"""Cases of clients that flood: by frames of HTTP/2 that are made here, while another client goes on calling."""
+
+from __future__ import annotations
+
+import contextlib
+import itertools
+import socket
+import struct
+import threading
+import time
+from collections.abc import Callable, Iterator
+
+import grpc
+
+import wire
+from loopback import Server
+from random_calls.answers import same
+from served.cases import MEGABYTE
+
+from tested.cases import case
+from tested.client import SERVICE, Client
+from tested.running import Gateway, Run, StubServer
+
+PREFACE = b"PRI * HTTP/2.0\r\n\r\nSM\r\n\r\n"
+DATA, HEADERS, RST_STREAM, SETTINGS, PING, WINDOW_UPDATE, CONTINUATION = 0, 1, 3, 4, 6, 8, 9  # kinds of frames: RFC 9113, 6
+END_STREAM, END_HEADERS = 1, 4  # flags
+CANCEL = 8  # an error code
+DONE = b"\x04\0\0\0"
+CONNECTIONS = 1_000  # that the gateway takes
+SECONDS = 2.0  # that another client waits at most while one floods
+
+
+def frame(kind: int, flags: int, stream: int, content: bytes = b"") -> bytes:
+    """RFC 9113, 4.1: a length of 24 bits, a kind, flags, a stream, and what it carries."""
+    return struct.pack(">I", len(content))[1:] + struct.pack(">BBI", kind, flags, stream) + content
+
+
+def text(value: bytes) -> bytes:
+    """RFC 7541, 5.2: a string that is not compressed."""
+    return bytes([len(value)]) + value
+
+
+def header_block(method: str) -> bytes:
+    """RFC 7541, 6.2.2: what begins a call of gRPC, each field as a literal without indexing, under a new name."""
+    fields = [(":method", "POST"), (":scheme", "http"), (":path", SERVICE + method), (":authority", "x"), ("te", "trailers"),
+              ("content-type", "application/grpc")]
+    return b"".join(b"\0" + text(name.encode()) + text(value.encode()) for name, value in fields)
+
+
+BLOCK = header_block("DoGet")
+MESSAGE = b"\0" + struct.pack(">I", 1) + b"x"  # of gRPC: not compressed, its length, its bytes
+
+
+def begun(stream: int) -> bytes:
+    """A call of which nothing but its header comes."""
+    return frame(HEADERS, END_HEADERS, stream, BLOCK)
+
+
+def streams(count: int) -> range:
+    return range(1, 2 * count, 2)
+
+
+@contextlib.contextmanager
+def raw(port: int) -> Iterator[socket.socket]:
+    """A connection that has said that it speaks HTTP/2."""
+    with socket.create_connection(("127.0.0.1", port), 20) as found:
+        found.sendall(PREFACE + frame(SETTINGS, 0, 0))
+        yield found
+
+
+def poured(port: int, parts: Iterator[bytes]) -> bool:
+    """Sends what it is given, and reads what comes. Tells whether it was cut off."""
+    with raw(port) as stream:
+        stream.setblocking(True)
+        stop = threading.Event()
+
+        def drain() -> None:
+            with contextlib.suppress(OSError):
+                while stream.recv(65_536):
+                    pass
+            stop.set()
+
+        threading.Thread(target=drain, daemon=True).start()
+        try:
+            for part in parts:
+                stream.sendall(part)
+            return stop.wait(1)
+        except OSError:
+            return True
+
+
+class Others:
+    """A client that goes on calling, each time also as a new one, and the longest times that it waited."""
+
+    def __init__(self, port: int):
+        self.port, self.longest, self.newest, self.calls, self.stop = port, 0.0, 0.0, 0, threading.Event()
+        self.failed: list[str] = []
+        self.thread = threading.Thread(target=self.run, daemon=True)
+
+    def __enter__(self) -> Others:
+        self.thread.start()
+        time.sleep(0.3)
+        return self
+
+    def __exit__(self, *_: object) -> None:
+        self.stop.set()
+        self.thread.join(60)
+
+    def run(self) -> None:
+        with Client(self.port) as client:
+            while not self.stop.is_set():
+                self.longest = max(self.longest, self.timed(client))
+                with Client(self.port) as other:
+                    self.newest = max(self.newest, self.timed(other))
+                time.sleep(0.02)
+
+    def timed(self, client: Client) -> float:
+        began = time.monotonic()
+        answer = client.answer("DoGet", [b"x"], 60)
+        self.calls += 1
+        if answer != wire.Answer([b"x"], 0, ""):
+            self.failed.append(repr(answer))
+        return time.monotonic() - began
+
+    def said(self) -> str:
+        return f"{self.longest:.2f} s, as a new client {self.newest:.2f} s"
+
+
+def echo(path: bytes, messages: list[bytes]) -> bytes:
+    return b"".join(map(wire.record_message, messages)) + DONE
+
+
+FLOODS: dict[str, tuple[Callable[[], Iterator[bytes]], bool]] = {
+    "20,000 calls that are begun and given up":
+        (lambda: (begun(one) + frame(RST_STREAM, 0, one, struct.pack(">I", CANCEL)) for one in streams(20_000)), True),
+    "10,000 calls that are only begun": (lambda: map(begun, streams(10_000)), True),
+    "a header of 20,000 parts of 10,000 bytes":
+        (lambda: itertools.chain([frame(HEADERS, 0, 1, BLOCK)],
+                                 itertools.repeat(frame(CONTINUATION, 0, 1, bytes(10_000)), 20_000)), True),
+    "a header of 20,000 empty parts":
+        (lambda: itertools.chain([frame(HEADERS, 0, 1, BLOCK)], itertools.repeat(frame(CONTINUATION, 0, 1), 20_000)), True),
+    "20,000 frames of data without a byte":
+        (lambda: itertools.chain([begun(1)], itertools.repeat(frame(DATA, 0, 1), 20_000)), True),
+    "20,000 headers of one call": (lambda: itertools.repeat(begun(1), 20_000), True),
+    "100,000 pings": (lambda: itertools.repeat(frame(PING, 0, 0, bytes(8)), 100_000), False),
+    "100,000 settings": (lambda: itertools.repeat(frame(SETTINGS, 0, 0), 100_000), False),
+    "100,000 openings of a window":
+        (lambda: itertools.chain([begun(1)], itertools.repeat(frame(WINDOW_UPDATE, 0, 1, struct.pack(">I", 1)), 100_000)), False),
+    "20 MB that are not HTTP/2": (lambda: itertools.repeat(bytes(65_536), 320), True),
+}
