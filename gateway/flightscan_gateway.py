@@ -27,6 +27,7 @@ import contextlib
 import logging
 import os
 import pathlib
+import resource
 import shutil
 import signal
 import sys
@@ -52,6 +53,12 @@ from bridge.seats import Patience, Seats  # noqa: E402
 
 MOST_SEATS = 32  # that a server has
 MEGABYTE = 1_000_000
+
+
+def take_descriptors() -> None:
+    """Lets the process open as many files as the system lets it: a client has three."""
+    _, most = resource.getrlimit(resource.RLIMIT_NOFILE)
+    resource.setrlimit(resource.RLIMIT_NOFILE, (most, most))
 
 
 def grpc_options(longest_put: int) -> list[tuple[str, int]]:
@@ -154,6 +161,7 @@ def main() -> int:
     except Unusable as refused:
         print(f"fault: {refused}", file=sys.stderr)
         return 2
+    take_descriptors()
     with private_socket() as inner:
         return asyncio.run(serve(words, inner))
 

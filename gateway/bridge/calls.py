@@ -3,7 +3,7 @@
 from __future__ import annotations
 
 import asyncio
-from collections.abc import AsyncIterator, Awaitable
+from collections.abc import Awaitable
 
 import grpc
 import grpc.aio
@@ -27,8 +27,8 @@ class ServerSpoke(Exception):
 class Call:
     """A call of a client: its messages, and what is sent back. A client that stalls is waited for so many seconds."""
 
-    def __init__(self, requests: AsyncIterator[bytes], context: grpc.aio.ServicerContext, seconds: float):
-        self.requests, self.context, self.seconds = aiter(requests), context, seconds
+    def __init__(self, context: grpc.aio.ServicerContext, seconds: float):
+        self.context, self.seconds = context, seconds
         self.limit: asyncio.Timeout | None = None
         self.server_spoke = False
 
@@ -36,11 +36,12 @@ class Call:
         """The client's next message, or None at the end of them."""
         try:
             async with asyncio.timeout(0 if self.server_spoke else self.seconds) as self.limit:
-                return await anext(self.requests, None)
+                message = await self.context.read()
         except TimeoutError:
             raise ServerSpoke if self.server_spoke else stalled(self.seconds) from None
         finally:
             self.limit = None
+        return None if message is grpc.aio.EOF else message
 
     def end_wait(self) -> None:
         """Ends the wait for the client."""
@@ -78,8 +79,9 @@ class Gateway(grpc.GenericRpcHandler):
         self.seats, self.access = seats, access
 
     def service(self, details: grpc.HandlerCallDetails) -> grpc.RpcMethodHandler:
-        async def answer(requests: AsyncIterator[bytes], context: grpc.aio.ServicerContext) -> None:
-            call = Call(requests, context, self.seats.patience.stall)
+        async def answer(_: object, context: grpc.aio.ServicerContext) -> None:  # (what gRPC iterates over is left alone:
+            # where it is begun and not ended, it keeps its connection until Python looks for cycles)
+            call = Call(context, self.seats.patience.stall)
             try:
                 await self.answer(details.method, dict(details.invocation_metadata), call)
             except Refused as refused:

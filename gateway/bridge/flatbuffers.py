@@ -5,7 +5,7 @@ from __future__ import annotations
 import struct
 from dataclasses import dataclass
 
-SIZES = {"b": 1, "B": 1, "h": 2, "i": 4, "q": 8}  # of numbers, by the letters of `struct`
+MOST_TABLES, MOST_PAIRS = 64, 192  # of a vector that is read here: a table has at most 64 columns of three buffers
 
 
 class Unreadable(ValueError):
@@ -61,8 +61,8 @@ class Table:
         if place is None:
             return []
         count = number_at(self.data, place, "I")
-        if count > len(self.data) // 4:
-            raise Unreadable("a vector is longer than its buffer")
+        if count > MOST_TABLES:
+            raise Unreadable("a vector is too long")
         ends = [place + 4 + 4 * index for index in range(count)]
         return [Table(self.data, end + number_at(self.data, end, "I")) for end in ends]
 
@@ -72,8 +72,8 @@ class Table:
         if place is None:
             raise Unreadable("a part is absent")
         count = number_at(self.data, place, "I")
-        if place + 4 + 16 * count > len(self.data):
-            raise Unreadable("a vector is longer than its buffer")
+        if count > MOST_PAIRS or place + 4 + 16 * count > len(self.data):
+            raise Unreadable("a vector is too long")
         return list(struct.iter_unpack("<qq", self.data[place + 4 : place + 4 + 16 * count]))
 
 

@@ -59,13 +59,18 @@ class Front:
             await asyncio.sleep(self.given_up.debt())
             with contextlib.suppress(grpc.aio.AioRpcError):
                 await self.turn(b"")
-            client = self.waiting.popleft()
-            while client.is_gone() and self.waiting:
-                client.transport.abort()
-                client = self.waiting.popleft()
-            client.enter()
+            self.next_waiting()
             await asyncio.sleep(TURN_SECONDS)
         self.turns = None
+
+    def next_waiting(self) -> None:
+        """Lets one in that is still there."""
+        while self.waiting:
+            client = self.waiting.popleft()
+            if not client.is_gone():
+                client.enter()
+                return
+            client.transport.abort()
 
     def gave_up(self, client: Client) -> None:
         """Counts a call that was given up. Where all gave up too many, who gave up several is cut off."""
@@ -143,15 +148,16 @@ class Client(End):
 
     def is_gone(self) -> bool:
         """Whether the client has left, also where nothing is read of it."""
+        if self.transport.is_closing():
+            return True
         look = select.poll()
         look.register(self.transport.get_extra_info("socket"), select.POLLRDHUP)
-        return self.transport.is_closing() or bool(look.poll(0))
+        return bool(look.poll(0))
 
     def enter(self) -> None:
         """Reads what the client sends, from now on."""
-        if not self.transport.is_closing():
-            self.late = self.front.loop.call_later(PREFACE_SECONDS, self.transport.abort)
-            self.transport.resume_reading()
+        self.late = self.front.loop.call_later(PREFACE_SECONDS, self.transport.abort)
+        self.transport.resume_reading()
 
     def buffer_updated(self, count: int) -> None:
         data = bytes(self.front.room[:count])

@@ -38,7 +38,7 @@ ALL_INFOS: dict[int, tuple[int, object]] = dict(sorted({
 }.items()))
 
 
-def info_rows(wanted: list[int]) -> list[tuple]:
+def info_rows(wanted: set[int]) -> list[tuple]:
     """The infos of these numbers that there are, or all of them where none is named."""
     return [(number, value) for number, value in ALL_INFOS.items() if not wanted or number in wanted]
 

@@ -2,6 +2,7 @@
 
 from __future__ import annotations
 
+import itertools
 import re
 import struct
 from dataclasses import dataclass
@@ -36,16 +37,35 @@ COLUMNS = {
     "CommandGetTables": TABLE_COLUMNS,
 }
 TABLE = "TABLE"  # the type of all tables
+LONGEST_NAME = 64  # bytes of a table's name
 UNKNOWN = -1  # how many rows and bytes an answer has
 
 
-def matches(pattern: str | None, name: str) -> bool:
-    """Whether a name fits a pattern: % is any text, _ any character, and a backslash takes both meanings away."""
-    if pattern is None:
+class Pattern:
+    """A pattern of names: % is any text, _ any character, and a backslash takes both meanings away. None fits all."""
+
+    def __init__(self, text: str | None):
+        parts = re.findall(r"\\[\\%_]|.", "%" if text is None else text, re.DOTALL)
+        self.runs = [[*run] for is_any, run in itertools.groupby(parts, lambda part: part == "%") if not is_any]
+        self.is_open = [parts[:1] == ["%"], parts[-1:] == ["%"]]
+        self.has_any, self.least = "%" in parts, sum(map(len, self.runs))
+        self.forms = [re.compile("".join("." if part == "_" else re.escape(part[-1]) for part in run), re.DOTALL)
+                      for run in self.runs if self.least <= LONGEST_NAME]
+
+    def fits(self, name: str) -> bool:
+        """Whether a name fits: its runs of characters stand in it in their order, each taken as early as it can be."""
+        if self.least > len(name) or not self.has_any and self.least != len(name):
+            return False
+        place = 0
+        for index, form in enumerate(self.forms):
+            is_last = index == len(self.forms) - 1 and not self.is_open[1]
+            if is_last:
+                place = max(place, len(name) - len(self.runs[index]))
+            found = form.match(name, place) if is_last or index == 0 and not self.is_open[0] else form.search(name, place)
+            if found is None or is_last and found.end() != len(name):
+                return False
+            place = found.end()
         return True
-    parts = re.findall(r"\\[\\%_]|.", pattern, re.DOTALL)
-    signs = {"%": ".*", "_": "."}
-    return re.fullmatch("".join(signs.get(part) or re.escape(part[-1]) for part in parts), name, re.DOTALL) is not None
 
 
 def select_all(table: str) -> str:
@@ -71,9 +91,11 @@ class Metadata:
     @classmethod
     def asked(cls, name: str, content: bytes) -> Metadata | None:
         """The command of this name and content, if it is the gateway's. The server has the tables without any filter."""
-        if name not in COLUMNS or name == "CommandGetTables" and not content:
+        if name not in COLUMNS:
             return None
-        return cls(name, Message(content))
+        value = Message(content)
+        is_plain = not value.number(5) and not any(value.contents(number) for number in (1, 2, 3, 4))
+        return None if name == "CommandGetTables" and is_plain else cls(name, value)
 
     def columns(self) -> list[Field]:
         if self.name == "CommandGetTables" and self.value.number(5):
@@ -101,7 +123,7 @@ class Metadata:
     def own_rows(self) -> list[tuple]:
         value = self.value
         if self.name == "CommandGetSqlInfo":
-            return info_rows(value.numbers(1))
+            return info_rows(set(value.numbers(1)))
         if self.name == "CommandGetXdbcTypeInfo":
             return type_rows(signed(value.number(1)) if value.has(1) else None)
         if self.name == "CommandGetTableTypes":
@@ -115,8 +137,8 @@ class Metadata:
         value, kinds = self.value, self.value.texts(4)
         if not is_ours(value) or kinds and TABLE not in kinds:
             return []
-        pattern = value.text(3)
-        rows = [(None, None, name, TABLE) for name in await table_names(server) if matches(pattern, name)]
+        pattern = Pattern(value.text(3))
+        rows = [(None, None, name, TABLE) for name in await table_names(server) if pattern.fits(name)]
         if not value.number(5):
             return rows
         return [(*row, await table_schema(server, row[2])) for row in rows]
@@ -124,7 +146,7 @@ class Metadata:
 
 def is_ours(value: Message) -> bool:
     """Whether a catalog and a pattern of schemas leave the one schema that there is: it has no catalog, and no name."""
-    return not value.text(1) and matches(value.text(2), "")
+    return not value.text(1) and Pattern(value.text(2)).fits("")
 
 
 def signed(number: int) -> int:

@@ -2,12 +2,14 @@
 
 from __future__ import annotations
 
+import itertools
 from collections.abc import Iterator
 
 from bridge.refusals import Unread
 
 VARINT, EIGHT_BYTES, BYTES, FOUR_BYTES = 0, 1, 2, 5  # the wire types
 MOST_SHIFT = 63  # of a varint's last byte
+MOST_FIELDS = 10_000  # of a message, and numbers of a field, that are read here: more would keep others waiting
 PACKAGE = "arrow.flight.protocol.sql."
 PREFIX = "type.googleapis.com/"
 Field = tuple[int, "int | memoryview"]
@@ -20,7 +22,9 @@ class Message:
     """The fields of a message: of each its number, and its varint or its bytes. A message that does not read is F4."""
 
     def __init__(self, data: bytes | memoryview):
-        self.fields: list[Field] = list(fields_of(memoryview(data)))
+        self.fields: list[Field] = list(itertools.islice(fields_of(memoryview(data)), MOST_FIELDS + 1))
+        if len(self.fields) > MOST_FIELDS:
+            raise Unread
 
     def has(self, number: int) -> bool:
         return any(one == number for one, _ in self.fields)
@@ -65,6 +69,8 @@ def fields_of(data: memoryview) -> Iterator[Field]:
     while place < len(data):
         tag, place = varint_at(data, place)
         number, kind = tag >> 3, tag & 7
+        if number == 0:
+            raise Unread
         if kind == VARINT:
             value, place = varint_at(data, place)
             yield number, value
@@ -75,7 +81,7 @@ def fields_of(data: memoryview) -> Iterator[Field]:
             length = 8 if kind == EIGHT_BYTES else 4
         else:
             raise Unread
-        if place + length > len(data) or number == 0:
+        if place + length > len(data):
             raise Unread
         if kind == BYTES:
             yield number, data[place : place + length]
@@ -99,6 +105,8 @@ def varints(data: memoryview) -> list[int]:
     while place < len(data):
         value, place = varint_at(data, place)
         found.append(value)
+        if len(found) > MOST_FIELDS:
+            raise Unread
     return found
 
 

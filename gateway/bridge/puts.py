@@ -4,13 +4,11 @@ from __future__ import annotations
 
 from collections.abc import Iterator
 
-import grpc
-
 from bridge.cutting import pieces_of, widths_of
 from bridge.flatbuffers import Unreadable
 from bridge.protobuf import Message, chunk, chunk_head, command_in
 from bridge.records import LONGEST_MESSAGE
-from bridge.refusals import Refused, not_supported
+from bridge.refusals import Unread, not_supported, too_long
 
 DESCRIPTOR, HEADER, BODY = 1, 2, 1000  # the fields of a FlightData
 NO_PARAMETERS = "parameters of prepared statements are not supported"
@@ -23,16 +21,18 @@ class PutMessages:
         self.is_before_schema, self.widths = True, None
 
     def look_at_command(self, first: bytes) -> None:
-        """Refuses what no put may be, by its first message. The server refuses the rest."""
-        descriptor = Message(first).message(DESCRIPTOR)
-        name, _ = command_in(descriptor.content(2))
+        """Refuses parameters, by the command in the first message. The server refuses the rest."""
+        try:
+            name, _ = command_in(Message(first).message(DESCRIPTOR).content(2))
+        except Unread:
+            return
         if name in ("CommandPreparedStatementQuery", "CommandPreparedStatementUpdate"):
             raise not_supported(NO_PARAMETERS)
 
     def pieces(self, message: bytes) -> Iterator[bytes]:
         """The message, or in its place some that are not too long."""
         if self.is_before_schema:
-            header = Message(message).content(HEADER)
+            header = header_of(message)
             if header:
                 self.is_before_schema, self.widths = False, widths_of(header)
         if len(message) <= LONGEST_MESSAGE:
@@ -41,9 +41,9 @@ class PutMessages:
             yield from self.cut(message)
 
     def cut(self, message: bytes) -> Iterator[bytes]:
-        whole = Message(message)
-        bodies = whole.contents(BODY)
         try:
+            whole = Message(message)
+            bodies = whole.contents(BODY)
             if self.widths is None or not bodies:
                 raise Unreadable("it is no batch of a schema that is supported")
             for header, body in pieces_of(whole.content(HEADER), bodies[-1], self.widths):
@@ -51,6 +51,13 @@ class PutMessages:
                 if len(piece) > LONGEST_MESSAGE:
                     raise Unreadable("a row is longer than a message may be")
                 yield piece
-        except Unreadable as why:
-            said = f"a message of {len(message)} bytes, of which at most {LONGEST_MESSAGE} pass, cannot be cut: {why}"
-            raise Refused(grpc.StatusCode.INVALID_ARGUMENT, said) from None
+        except (Unread, Unreadable) as why:
+            raise too_long(len(message), LONGEST_MESSAGE, f", and it cannot be cut: {why}") from None
+
+
+def header_of(message: bytes) -> bytes:
+    """The header of Arrow's metadata in a message; none where it does not read, which the server refuses."""
+    try:
+        return Message(message).content(HEADER)
+    except Unread:
+        return b""

@@ -39,9 +39,9 @@ def not_supported(text: str) -> Refused:
     return Refused(grpc.StatusCode.UNIMPLEMENTED, text)
 
 
-def too_long(length: int, most: int) -> Refused:
+def too_long(length: int, most: int, more: str = "") -> Refused:
     """What gRPC says of a message that is too long."""
-    return Refused(grpc.StatusCode.RESOURCE_EXHAUSTED, f"Received message larger than max ({length} vs. {most})")
+    return Refused(grpc.StatusCode.RESOURCE_EXHAUSTED, f"Received message larger than max ({length} vs. {most}){more}")
 
 
 def no_token(text: str) -> Refused:

@@ -2,6 +2,7 @@
 
 from __future__ import annotations
 
+import contextlib
 import os
 import signal
 import socket
@@ -123,8 +124,9 @@ def many_that_wait(run: Run) -> None:
         return b"\x04\0\0\0"
 
     with StubServer(answer) as stub, run.behind(stub.port, "--seats", "1", "--wait", "300") as gateway:
-        with Client(gateway.port) as client:
-            calls = [client.call("DoGet", [b"x"], 300) for _ in range(1_040)]
+        with contextlib.ExitStack() as stack:  # of clients, each of which has 80 calls at once
+            clients = [stack.enter_context(Client(gateway.port)) for _ in range(13)]
+            calls = [client.call("DoGet", [b"x"], 300) for client in clients for _ in range(80)]
             for _ in range(300):
                 if sum(call.done() for call in calls) < 39:
                     time.sleep(0.1)
