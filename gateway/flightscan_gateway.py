@@ -53,12 +53,13 @@ from bridge.seats import Patience, Seats  # noqa: E402
 
 MOST_SEATS = 32  # that a server has
 MEGABYTE = 1_000_000
+MOST_FILES = 4_096  # three of each client, and some
 
 
 def take_descriptors() -> None:
-    """Lets the process open as many files as the system lets it: a client has three."""
+    """Lets the process open as many files as its clients need, if the system does. No more: who begins TLS has one, too."""
     _, most = resource.getrlimit(resource.RLIMIT_NOFILE)
-    resource.setrlimit(resource.RLIMIT_NOFILE, (most, most))
+    resource.setrlimit(resource.RLIMIT_NOFILE, (min(MOST_FILES, most), most))
 
 
 def grpc_options(longest_put: int) -> list[tuple[str, int]]:
@@ -95,11 +96,11 @@ async def serve(words: argparse.Namespace, inner: str) -> int:
     patience = Patience(words.wait, words.stall, words.idle)
     server = grpc.aio.server(options=grpc_options(words.longest_put))
     server.add_generic_rpc_handlers((Gateway(Seats(words.port, words.seats, patience), words.access),))
-    server.add_insecure_port(f"unix:{inner}")
-    await server.start()
     try:
+        server.add_insecure_port(f"unix:{inner}")
+        await server.start()
         port = await Front(inner).listen(words.listen, words.grpc_port, words.tls)
-    except OSError:
+    except (OSError, RuntimeError):
         print(f"fault: cannot listen on {words.listen}:{words.grpc_port}", file=sys.stderr)
         return 3
     host = f"[{words.listen}]" if ":" in words.listen else words.listen

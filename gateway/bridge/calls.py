@@ -13,11 +13,12 @@ from bridge.drivers import own_answer
 from bridge.protobuf import chunk
 from bridge.puts import PutMessages
 from bridge.records import LONGEST_MESSAGE, SERVICE
-from bridge.refusals import not_supported, stalled, too_long, Refused
+from bridge.refusals import Refused, not_supported, stalled, too_long
 from bridge.seats import Seat, Seats
 
 METHODS = ("Handshake", "ListFlights", "GetFlightInfo", "PollFlightInfo", "GetSchema", "DoGet", "DoPut", "DoAction",
            "ListActions")
+MOST_HANDSHAKES, HANDSHAKE_SECONDS = 2, 10  # by a message, at once; and how long each may take
 
 
 class ServerSpoke(Exception):
@@ -76,7 +77,7 @@ class Gateway(grpc.GenericRpcHandler):
     """What is called by gRPC. Every method is taken as one of streams, so that the server sees the messages as they came."""
 
     def __init__(self, seats: Seats, access: Access):
-        self.seats, self.access = seats, access
+        self.seats, self.access, self.handshakes = seats, access, asyncio.Semaphore(MOST_HANDSHAKES)
 
     def service(self, details: grpc.HandlerCallDetails) -> grpc.RpcMethodHandler:
         async def answer(_: object, context: grpc.aio.ServicerContext) -> None:  # (what gRPC iterates over is left alone:
@@ -108,10 +109,14 @@ class Gateway(grpc.GenericRpcHandler):
         if "authorization" in metadata:
             self.access.demand(metadata)
             await call.sent(call.context.send_initial_metadata((("authorization", BEARER + self.access.given()),)))
-        elif (request := await call.next()) is not None:
-            await call.give(chunk(2, self.access.answer(request)))
-        else:
-            self.access.demand(metadata)
+            return
+        async with self.handshakes:  # who has shown no token yet may send long messages
+            call.seconds = min(call.seconds, HANDSHAKE_SECONDS)
+            request = await call.next()
+            if request is None:
+                self.access.demand(metadata)
+            else:
+                await call.give(chunk(2, self.access.answer(request)))
 
 
 async def ask(method: str, seat: Seat, call: Call) -> None:

@@ -11,7 +11,7 @@ from collections.abc import Iterator
 from dataclasses import dataclass
 
 from bridge.arrow import RECORD_BATCH, SCHEMA, V5, message, record_batch
-from bridge.flatbuffers import Table, Unreadable, padded, table
+from bridge.flatbuffers import Table, Unreadable, table
 
 DICTIONARY = 2  # the kind of a dictionary's message
 INT, UTF8, BOOL, DECIMAL, DATE = 2, 5, 6, 7, 8  # the kinds of types

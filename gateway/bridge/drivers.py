@@ -11,7 +11,7 @@ from bridge.metadata import Metadata, select_all, statement, table_names
 from bridge.protobuf import Message, chunk, command, command_in, scalar
 from bridge.puts import NO_PARAMETERS
 from bridge.records import Connection
-from bridge.refusals import Answered, Unread, not_supported, other_server
+from bridge.refusals import ServerRefusal, UnreadMessage, not_supported, other_server
 from bridge.seats import Seat
 
 LONGEST_DESCRIPTOR, LONGEST_COMMAND = 1_048_576, 65_536  # that are read here; the server refuses longer ones
@@ -32,7 +32,7 @@ async def own_answer(method: str, messages: list[bytes], seat: Seat) -> list[byt
     """The messages that answer a call, or None where the server has to."""
     if len(messages) != 1:
         if method in ("ListFlights", "ListActions", "PollFlightInfo"):
-            raise Unread
+            raise UnreadMessage
         return None
     (message,) = messages
     try:
@@ -53,7 +53,7 @@ async def own_answer(method: str, messages: list[bytes], seat: Seat) -> list[byt
 
 
 @dataclass(frozen=True)
-class Asked:
+class OwnQuestion:
     """What a descriptor asks for that the gateway answers: a command of its own, or a query that it puts in its place."""
 
     metadata: Metadata | None
@@ -61,7 +61,7 @@ class Asked:
     command: bytes
 
     @classmethod
-    def read(cls, descriptor: bytes) -> Asked | None:
+    def read(cls, descriptor: bytes) -> OwnQuestion | None:
         """None for all others. What does not read is the server's to refuse."""
         if len(descriptor) > LONGEST_DESCRIPTOR:
             return None
@@ -76,14 +76,14 @@ class Asked:
             if name == "CommandPreparedStatementQuery":
                 return cls(None, Message(value).content(1), content)
             metadata = Metadata.asked(name, value)
-        except Unread:
+        except UnreadMessage:
             return None
         return metadata and cls(metadata, None, content)
 
 
 async def described(method: str, descriptor: bytes, seat: Seat) -> list[bytes] | None:
-    """An info, alone or in a PollInfo, or a schema."""
-    asked, is_schema = Asked.read(descriptor), method == "GetSchema"
+    """An info, by itself or in a PollInfo, or a schema."""
+    asked, is_schema = OwnQuestion.read(descriptor), method == "GetSchema"
     if asked is not None and asked.metadata is not None:
         metadata = asked.metadata
         return [metadata.schema_result()] if is_schema else [told(method, metadata.info(descriptor, asked.command))]
@@ -115,10 +115,10 @@ async def asked_of(server: Connection, method: str, query: bytes) -> bytes:
     """The one message that answers a query's descriptor. Where a parameter offends, it is said."""
     try:
         (found,) = await server.ask(method, statement(query))
-    except Answered as refused:
+    except ServerRefusal as refused:
         place = BAD_SQL.fullmatch(refused.text)
         if place and query[int(place[1]) :][:1] in (b"?", b"$"):
-            raise Answered(refused.code, f"{refused.text}: {NO_PARAMETERS}") from None
+            raise ServerRefusal(refused.code, f"{refused.text}: {NO_PARAMETERS}") from None
         raise
     return found
 
@@ -142,7 +142,7 @@ async def fetched(ticket: bytes, seat: Seat) -> list[bytes] | None:
     try:
         name, value = command_in(Message(ticket).content(1))
         metadata = Metadata.asked(name, value)
-    except Unread:
+    except UnreadMessage:
         return None
     return metadata and metadata.answer(await metadata.rows(seat))
 
@@ -152,7 +152,7 @@ async def done(action: bytes, seat: Seat) -> list[bytes] | None:
     try:
         whole = Message(action)
         kind, body = whole.text(1), whole.content(2)
-    except Unread:
+    except UnreadMessage:
         return None
     if kind == "CreatePreparedStatement":
         return [chunk(1, await prepared(body, seat))]

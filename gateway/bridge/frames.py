@@ -2,14 +2,15 @@
 
 from __future__ import annotations
 
+import struct
 import time
 from collections.abc import Iterator
-from dataclasses import dataclass
+from typing import NamedTuple
 
 PREFACE = b"PRI * HTTP/2.0\r\n\r\nSM\r\n\r\n"
-HEAD = 9  # bytes before what a frame carries
+HEAD, HEAD_FORM = 9, struct.Struct(">IBI")  # before what a frame carries: length and kind, flags, stream
 DATA, HEADERS, RST_STREAM, SETTINGS, PING, CONTINUATION = 0, 1, 3, 4, 6, 9  # the kinds of frames that are looked at
-LOOKED_AT = {DATA, HEADERS, RST_STREAM, SETTINGS, PING, CONTINUATION}
+NOT_LOOKED_AT = {2, 5, 7, 8}  # PRIORITY, PUSH_PROMISE, GOAWAY, WINDOW_UPDATE
 END_STREAM = 1  # a flag
 MOST_HEADER_BYTES = 16_384  # of one call's header, as it is sent
 MOST_HEADER_FRAMES = 16
@@ -43,8 +44,7 @@ class Budget:
         return max(0.0, -self.left / self.a_second)
 
 
-@dataclass(frozen=True, slots=True)
-class Frame:
+class Frame(NamedTuple):
     """The head of a frame."""
 
     length: int
@@ -54,33 +54,31 @@ class Frame:
 
 
 class Heads:
-    """Finds the heads of frames in bytes, however these are cut."""
+    """Finds the heads of frames in bytes, however these are cut. Those of data in the middle of a call are passed over."""
 
     def __init__(self):
         self.head, self.rest = bytearray(), 0
 
     def of(self, data: memoryview) -> Iterator[Frame]:
-        place, size = 0, len(data)
-        while True:
-            if self.rest > size - place:
-                self.rest -= size - place
-                return
-            place += self.rest
-            self.rest = 0
+        place, size = self.rest, len(data)
+        while place < size:
             if self.head or size - place < HEAD:
                 more = data[place : place + HEAD - len(self.head)]
                 self.head += more
                 place += len(more)
                 if len(self.head) < HEAD:
-                    return
-                head, self.head = self.head, bytearray()
+                    break
+                word, flags, stream = HEAD_FORM.unpack(self.head)
+                self.head.clear()
             else:
-                head = data[place : place + HEAD]
+                word, flags, stream = HEAD_FORM.unpack_from(data, place)
                 place += HEAD
-            self.rest = head[0] << 16 | head[1] << 8 | head[2]
-            kind = head[3]
-            if kind in LOOKED_AT:
-                yield Frame(self.rest, kind, head[4], int.from_bytes(head[5:9], "big") & 0x7FFFFFFF)
+            length, kind = word >> 8, word & 255
+            place += length
+            if kind == DATA and length and not flags & END_STREAM or kind in NOT_LOOKED_AT:
+                continue
+            yield Frame(length, kind, flags, stream & 0x7FFFFFFF)
+        self.rest = place - size
 
 
 class Streams:
@@ -114,7 +112,7 @@ class Streams:
         elif frame.kind == PING:
             spend(self.pings, "pings")
         else:
-            spend(self.settings, "settings")
+            spend(self.settings, "settings, or frames of no kind")
 
     def look_at_header(self, frame: Frame) -> None:
         if frame.kind == HEADERS:

@@ -11,6 +11,7 @@ import asyncio
 import collections
 import contextlib
 import select
+import socket
 import ssl
 
 import grpc.aio
@@ -22,6 +23,7 @@ MOST_CALLS = 1_100  # open at once on all connections
 PREFACE_SECONDS = 10  # until a client has said that it speaks HTTP/2, with TLS before that
 CLOSE_SECONDS = 10  # that a client may take to read the rest, where gRPC ends its connection
 PIECE = 131_072  # bytes that are read at once
+ROOM = 1_048_576  # that the system keeps between a client's end and gRPC
 MOST_GIVEN_UP, GIVEN_UP_A_SECOND = 400, 200  # calls of all clients; where there are more, new connections wait
 FREE_TO_GIVE_UP = 10  # calls of a client, whatever others do
 TURN_SECONDS = 0.05  # that the calls of one who waited have, until they reach gRPC
@@ -115,6 +117,7 @@ class Grpc(End):
 
     def connection_made(self, transport: asyncio.Transport) -> None:
         self.transport = transport
+        transport.get_extra_info("socket").setsockopt(socket.SOL_SOCKET, socket.SO_SNDBUF, ROOM)
 
     def buffer_updated(self, count: int) -> None:
         data = self.front.room[:count]

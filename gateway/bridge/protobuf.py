@@ -5,7 +5,7 @@ from __future__ import annotations
 import itertools
 from collections.abc import Iterator
 
-from bridge.refusals import Unread
+from bridge.refusals import UnreadMessage
 
 VARINT, EIGHT_BYTES, BYTES, FOUR_BYTES = 0, 1, 2, 5  # the wire types
 MOST_SHIFT = 63  # of a varint's last byte
@@ -24,7 +24,7 @@ class Message:
     def __init__(self, data: bytes | memoryview):
         self.fields: list[Field] = list(itertools.islice(fields_of(memoryview(data)), MOST_FIELDS + 1))
         if len(self.fields) > MOST_FIELDS:
-            raise Unread
+            raise UnreadMessage
 
     def has(self, number: int) -> bool:
         return any(one == number for one, _ in self.fields)
@@ -53,7 +53,7 @@ class Message:
         try:
             return [str(value, "utf-8") for value in self.contents(number)]
         except UnicodeDecodeError:
-            raise Unread from None
+            raise UnreadMessage from None
 
     def text(self, number: int) -> str | None:
         """The last string of a field."""
@@ -70,7 +70,7 @@ def fields_of(data: memoryview) -> Iterator[Field]:
         tag, place = varint_at(data, place)
         number, kind = tag >> 3, tag & 7
         if number == 0:
-            raise Unread
+            raise UnreadMessage
         if kind == VARINT:
             value, place = varint_at(data, place)
             yield number, value
@@ -80,9 +80,9 @@ def fields_of(data: memoryview) -> Iterator[Field]:
         elif kind in (EIGHT_BYTES, FOUR_BYTES):
             length = 8 if kind == EIGHT_BYTES else 4
         else:
-            raise Unread
+            raise UnreadMessage
         if place + length > len(data):
-            raise Unread
+            raise UnreadMessage
         if kind == BYTES:
             yield number, data[place : place + length]
         place += length
@@ -97,7 +97,7 @@ def varint_at(data: memoryview, place: int) -> tuple[int, int]:
         place, shift = place + 1, shift + 7
         if byte < 128:
             return value & (1 << 64) - 1, place
-    raise Unread
+    raise UnreadMessage
 
 
 def varints(data: memoryview) -> list[int]:
@@ -106,7 +106,7 @@ def varints(data: memoryview) -> list[int]:
         value, place = varint_at(data, place)
         found.append(value)
         if len(found) > MOST_FIELDS:
-            raise Unread
+            raise UnreadMessage
     return found
 
 

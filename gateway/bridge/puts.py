@@ -8,7 +8,7 @@ from bridge.cutting import pieces_of, widths_of
 from bridge.flatbuffers import Unreadable
 from bridge.protobuf import Message, chunk, chunk_head, command_in
 from bridge.records import LONGEST_MESSAGE
-from bridge.refusals import Unread, not_supported, too_long
+from bridge.refusals import UnreadMessage, not_supported, too_long
 
 DESCRIPTOR, HEADER, BODY = 1, 2, 1000  # the fields of a FlightData
 NO_PARAMETERS = "parameters of prepared statements are not supported"
@@ -24,7 +24,7 @@ class PutMessages:
         """Refuses parameters, by the command in the first message. The server refuses the rest."""
         try:
             name, _ = command_in(Message(first).message(DESCRIPTOR).content(2))
-        except Unread:
+        except UnreadMessage:
             return
         if name in ("CommandPreparedStatementQuery", "CommandPreparedStatementUpdate"):
             raise not_supported(NO_PARAMETERS)
@@ -51,7 +51,7 @@ class PutMessages:
                 if len(piece) > LONGEST_MESSAGE:
                     raise Unreadable("a row is longer than a message may be")
                 yield piece
-        except (Unread, Unreadable) as why:
+        except (UnreadMessage, Unreadable) as why:
             raise too_long(len(message), LONGEST_MESSAGE, f", and it cannot be cut: {why}") from None
 
 
@@ -59,5 +59,5 @@ def header_of(message: bytes) -> bytes:
     """The header of Arrow's metadata in a message; none where it does not read, which the server refuses."""
     try:
         return Message(message).content(HEADER)
-    except Unread:
+    except UnreadMessage:
         return b""

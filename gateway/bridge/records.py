@@ -11,7 +11,7 @@ from dataclasses import dataclass
 
 import grpc
 
-from bridge.refusals import Answered, Refused, ServerGone, other_server
+from bridge.refusals import ServerRefusal, Refused, ServerGone, other_server
 
 HOST = "127.0.0.1"
 SERVICE = "/arrow.flight.protocol.FlightService/"
@@ -151,7 +151,7 @@ class Connection:
         while isinstance(said := await self.record(), bytes):
             yield said
         if said.code != 0:
-            raise said.refusal(Answered)
+            raise said.refusal(ServerRefusal)
 
     async def ask(self, method: str, message: bytes) -> list[bytes]:
         """The whole answer to a call of one message, which the gateway makes by itself."""

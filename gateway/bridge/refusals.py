@@ -13,11 +13,11 @@ class Refused(Exception):
         self.code, self.text = code, text
 
 
-class Answered(Refused):
+class ServerRefusal(Refused):
     """The Status at the end of a whole answer. The connection goes on."""
 
 
-class Unread(Refused):
+class UnreadMessage(Refused):
     """A message that does not read, as the server refuses it."""
 
     def __init__(self):

@@ -10,7 +10,7 @@ from dataclasses import dataclass
 import grpc
 
 from bridge.records import Connection
-from bridge.refusals import Answered, Refused
+from bridge.refusals import ServerRefusal, Refused
 
 MOST_WAITING = 1_000  # calls that wait for a seat; a further one is refused at once
 
@@ -51,7 +51,7 @@ class Seats:
         seat = Seat(self)
         try:
             yield seat
-        except Answered:
+        except ServerRefusal:
             self.keep(seat.taken)
             raise
         except BaseException:

@@ -124,11 +124,12 @@ class Batch:
 
     def values(self, field: Field, rows: int) -> list:
         if field.kind == STRUCT:
-            return [*zip(*(self.column(child) for child in field.below))] if rows else [self.column(child) for child in field.below][:0]
+            return [*zip(*[self.column(child) for child in field.below])]
         data = self.take()
         if field.kind == INT:
             width = field.bits // 8
-            return [int.from_bytes(data[width * row : width * row + width], "little", signed=field.is_signed) for row in range(rows)]
+            parts = [data[width * row : width * row + width] for row in range(rows)]
+            return [int.from_bytes(part, "little", signed=field.is_signed) for part in parts]
         if field.kind == BOOL:
             return [bit(data, row) == 1 for row in range(rows)]
         ends = struct.unpack_from(f"<{rows + 1}i", data)

@@ -6,7 +6,6 @@ import re
 import resource
 import sys
 import threading
-import time
 import types
 import unittest.mock
 from concurrent.futures import ThreadPoolExecutor
@@ -24,7 +23,7 @@ from served.cases import A, A_AND_S, MEGABYTE, appended, expiry_of, fetch_of, in
 from trees import batch, field, integer, schema
 
 from tested.cases import ask, call_of, case, look_at_status, put_messages, rows_in
-from tested.client import LONG, Client, TableOptions, descriptor, flight, ingest, packed, query, sql, stock
+from tested.client import LONG, Client, TableOptions, descriptor, flight, ingest, query, sql
 from tested.running import TOP, Run, StubServer
 
 METHODS = ("Handshake", "ListFlights", "GetFlightInfo", "PollFlightInfo", "GetSchema", "DoGet", "DoPut", "DoAction",

@@ -3,7 +3,6 @@
 from __future__ import annotations
 
 import json
-import pathlib
 import struct
 from collections.abc import Iterator
 

@@ -1,26 +1,24 @@
 """Cases of stock drivers: what those of ADBC, JDBC and ODBC send while they connect, look around, query, put and close.
 
-The drivers were not at hand. What they send is written from their sources, as messages of protoc. What is wanted is written from
-the comments of Arrow's Flight.proto and FlightSql.proto.
+The drivers were not at hand. What they send is written from what we know of their sources, as messages of protoc. What is wanted
+is what the comments of Arrow's Flight.proto and FlightSql.proto say.
 """
 
 from __future__ import annotations
 
-import base64
 import subprocess
 from collections.abc import Iterator
 
 import grpc
 from google.protobuf.any_pb2 import Any
 
-import wire
 from random_calls.answers import PutCount, same
 from random_calls.plain_model import Column
 from served.cases import A, put_of
 
 from tested.any_columns import framed_fields, rows_of, shown
 from tested.cases import ask, case, look_at_status, put_messages, rows_in
-from tested.client import LONG, SECONDS, SERVICE, Client, TableOptions, descriptor, flight, ingest, packed, query, sql, stock
+from tested.client import SECONDS, SERVICE, Client, TableOptions, descriptor, flight, ingest, packed, query, sql, stock
 from tested.running import TOP, Run
 
 TRIPS = (Column("id", "Int64", False), Column("town", "dictionary", True), Column("note", "Utf8", True))
@@ -31,7 +29,8 @@ WITH_SCHEMA = TABLES + ", table_schema: bytes not null"
 REFERENCES = (
     "pk_catalog_name: utf8, pk_db_schema_name: utf8, pk_table_name: utf8 not null, pk_column_name: utf8 not null, "
     "fk_catalog_name: utf8, fk_db_schema_name: utf8, fk_table_name: utf8 not null, fk_column_name: utf8 not null, "
-    "key_sequence: int32 not null, fk_key_name: utf8, pk_key_name: utf8, update_rule: uint8 not null, delete_rule: uint8 not null")
+    "key_sequence: int32 not null, fk_key_name: utf8, pk_key_name: utf8, "
+    "update_rule: uint8 not null, delete_rule: uint8 not null")
 INFOS = ("info_name: uint32 not null, value: dense_union<string_value: utf8, bool_value: bool, bigint_value: int64, "
          "int32_bitmask: int32, string_list: list<string_data: utf8>, "
          "int32_to_int32_list_map: map<key: int32, value: list<$data$: int32>>>")

@@ -221,7 +221,8 @@ def refused_in_the_middle(run: Run) -> None:
 
 @case("serve.sh: both are there, one command ends both, and neither is left where the other ends")
 def one_command(run: Run) -> None:
-    words = ["bash", str(TOP / "serve.sh"), "--port", "0", "--grpc-port", "0", "--program", run.path]
+    words = ["bash", str(TOP / "serve.sh"), "--port", "0", "--grpc-port", "0", "--program", run.path, "--stall", "60",
+             "--longest-put", "20", "--listen", "127.0.0.1"]
     how = {"stdout": subprocess.PIPE, "stderr": subprocess.DEVNULL, "start_new_session": True,
            "env": {**os.environ, "PYTHON": sys.executable}}
     for turn in range(2):

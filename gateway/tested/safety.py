@@ -89,6 +89,9 @@ def tokens(run: Run) -> None:
                 if shown[0] == "authorization":  # as Go's, Java's and C++'s clients do
                     head, messages = handshake(client.channel, [], shown)
                     same("what a handshake gives", ("Bearer " + TOKEN, []), (head["authorization"], messages))
+            long = [client.call("Handshake", [bytes(20_000_000)]) for _ in range(50)]
+            same("no long handshake passes", {UNAUTHENTICATED, 3}, {one.code().value[0] for one in long} | {UNAUTHENTICATED})
+            same("less than 150 MB held", True, gateway.most_held() < 150_000_000)
             request = flight.HandshakeRequest(payload=flight.BasicAuth(username="u", password=TOKEN).SerializeToString())
             _, (answer,) = handshake(client.channel, [request.SerializeToString()])
             same("a handshake by a message", TOKEN.encode(), flight.HandshakeResponse.FromString(answer).payload)
