@@ -20,7 +20,8 @@ import time
 
 sys.dont_write_bytecode = True
 ROOT = pathlib.Path(__file__).resolve().parent.parent
-sys.path += [str(ROOT / "gateway"), str(ROOT / "scripts"), *(str(ROOT / "vectors" / folder) for folder in ("arrow", "flight", "queries", "streams"))]
+sys.path += [str(ROOT / "gateway"), str(ROOT / "scripts")]
+sys.path += [str(ROOT / "vectors" / folder) for folder in ("arrow", "flight", "queries", "streams")]
 
 import grpc  # noqa: E402
 

@@ -3,6 +3,7 @@
 from __future__ import annotations
 
 import asyncio
+import traceback
 from collections.abc import Awaitable
 
 import grpc
@@ -85,8 +86,11 @@ class Gateway(grpc.GenericRpcHandler):
             call = Call(context, self.seats.patience.stall)
             try:
                 await self.answer(details.method, dict(details.invocation_metadata), call)
+                return
             except Refused as refused:
-                await context.abort(refused.code, refused.text)
+                how = refused.code, refused.text
+                traceback.clear_frames(refused.__traceback__)  # which else keep messages until Python looks for cycles
+            await context.abort(*how)
 
         return grpc.stream_stream_rpc_method_handler(answer)
 

@@ -13,10 +13,13 @@ import contextlib
 import select
 import socket
 import ssl
+from asyncio import sslproto
 
 import grpc.aio
 
 from bridge.frames import PREFACE, Budget, Flood, Heads, Streams
+
+sslproto.SSLProtocol.max_size = 16_384  # the buffer of a connection of TLS; else it has 262,144 bytes
 
 MOST_CONNECTIONS = 1_000
 MOST_CALLS = 1_100  # open at once on all connections
@@ -41,8 +44,7 @@ class Front:
 
     async def listen(self, address: str, port: int, context: ssl.SSLContext | None) -> int:
         """Listens, and tells the port."""
-        more = {"ssl": context, "ssl_handshake_timeout": PREFACE_SECONDS} if context else {}
-        server = await self.loop.create_server(lambda: Client(self), address, port, backlog=256, **more)
+        server = await self.loop.create_server(lambda: Door(self, context), address, port, backlog=256)
         return server.sockets[0].getsockname()[1]
 
     def admit(self, client: Client) -> None:
@@ -79,6 +81,37 @@ class Front:
         client.given_up += 1
         if not self.given_up.take() and client.given_up > FREE_TO_GIVE_UP:
             raise Flood("calls that all clients give up")
+
+
+class Door(asyncio.Protocol):
+    """What a new connection meets: it is counted, and becomes one of TLS where there is a certificate."""
+
+    def __init__(self, front: Front, context: ssl.SSLContext | None):
+        self.front, self.context = front, context
+
+    def connection_made(self, transport: asyncio.Transport) -> None:
+        if self.front.connections >= MOST_CONNECTIONS:
+            transport.abort()
+            return
+        self.front.connections += 1
+        client = Client(self.front)
+        if self.context is None:
+            transport.set_protocol(client)
+            client.connection_made(transport)
+        else:
+            self.front.loop.create_task(self.begin_tls(transport, client))
+
+    async def begin_tls(self, transport: asyncio.Transport, client: Client) -> None:
+        try:
+            inside = await self.front.loop.start_tls(transport, client, self.context, server_side=True,
+                                                     ssl_handshake_timeout=PREFACE_SECONDS)
+        except (OSError, ssl.SSLError):
+            inside = None
+        if inside is None or inside.is_closing():
+            transport.abort()
+            self.front.connections -= 1
+        else:
+            client.connection_made(inside)
 
 
 class End(asyncio.BufferedProtocol):
@@ -136,17 +169,12 @@ class Client(End):
 
     def __init__(self, front: Front):
         super().__init__(front)
-        self.streams, self.held, self.is_counted, self.is_http = Streams(), bytearray(), False, False
+        self.streams, self.early, self.held, self.is_http = Streams(), bytearray(), bytearray(), False
         self.given_up = 0
         self.late: asyncio.TimerHandle | None = None
 
     def connection_made(self, transport: asyncio.Transport) -> None:
         self.transport = transport
-        if self.front.connections >= MOST_CONNECTIONS:
-            transport.abort()
-            return
-        self.front.connections += 1
-        self.is_counted = True
         self.front.admit(self)
 
     def is_gone(self) -> bool:
@@ -161,9 +189,18 @@ class Client(End):
         """Reads what the client sends, from now on."""
         self.late = self.front.loop.call_later(PREFACE_SECONDS, self.transport.abort)
         self.transport.resume_reading()
+        if self.early:
+            self.take(bytes(self.early))
+            self.early.clear()
 
     def buffer_updated(self, count: int) -> None:
         data = bytes(self.front.room[:count])
+        if self.late is None:  # TLS gives what came with its own last message before it says that it has begun
+            self.early += data
+        else:
+            self.take(data)
+
+    def take(self, data: bytes) -> None:
         try:
             self.look_at(memoryview(data))
         except Flood:
@@ -211,7 +248,7 @@ class Client(End):
     def connection_lost(self, why: Exception | None) -> None:
         if self.late is not None:
             self.late.cancel()
-        if self.is_counted:
+        if self.transport is not None:  # else TLS did not begin
             self.front.connections -= 1
             self.front.given_up.take(len(self.streams.open))
             self.streams.open.clear()

@@ -161,7 +161,8 @@ REFUSED = [
     (info_of("SELECT * FROM u"), "F9"), (info_of("SELECT b FROM t"), "F14"), (info_of("SELECT a FROM t WHERE a = 'x'"), "F15"),
     (info_of("SELECT a FROM t ORDER BY a"), "F16"), (fetch_of(1, 0, 3, "SELECT * FROM t"), "F17"),
     (fetch_of(9, 0, 2, "SELECT * FROM t"), "F18"),
-    *((wire.call(call.method, call.messages), call.fault) for call in WITH_INFOS if call.method.decode() in OF_SERVER and not is_of_gateway(call.fault, call.messages)),
+    *((wire.call(call.method, call.messages), call.fault) for call in WITH_INFOS
+      if call.method.decode() in OF_SERVER and not is_of_gateway(call.fault, call.messages)),
 ]
 
 

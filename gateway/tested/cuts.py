@@ -112,27 +112,28 @@ def packed(flags: list[bool]) -> bytes:
 
 
 def long_columns() -> tuple[dict, list[tuple]]:
-    """A schema and the columns of one batch of 700,000 rows, 35 MB: numbers, decimals, days, truths, texts and words."""
+    """A schema and the columns of one batch of 700,000 rows, 30 MB: numbers, decimals, days, truths, texts and words."""
     tree = schema(field("n", integer(64, True), False), field("m", DECIMAL), field("d", DATE), field("b", BOOL),
                   field("s", UTF8), field("w", UTF8, dictionary=encoding(7, integer(32, True))))
     rows = range(LONG_ROWS)
     every_third = packed([row % 3 > 0 for row in rows])
+    nulls = LONG_ROWS // 3 + 1
     return tree, [(0, b"", struct.pack(f"<{LONG_ROWS}q", *rows)),
-                  (LONG_ROWS // 3 + 1, every_third, b"".join(row.to_bytes(16, "little") for row in rows)),
-                  (0, b"", struct.pack(f"<{LONG_ROWS}i", *rows)), (LONG_ROWS // 3 + 1, every_third, packed([row % 5 == 0 for row in rows])),
+                  (nulls, every_third, b"".join(row.to_bytes(16, "little") for row in rows)),
+                  (0, b"", struct.pack(f"<{LONG_ROWS}i", *rows)), (nulls, every_third, packed([row % 5 == 0 for row in rows])),
                   (0, b"", *texts([b"%d" % row for row in rows])),
                   (0, b"", struct.pack(f"<{LONG_ROWS}i", *(row % WORDS for row in rows)))]
 
 
 def long_put() -> Iterator[flight.FlightData]:
-    """A put of a dictionary of 21 MB and of one batch of 35 MB."""
+    """A put of a dictionary of 21 MB and of one batch of 30 MB."""
     tree, columns = long_columns()
     yield data_of(tree, b"", flight_descriptor=ingest("t"))
     yield data_of(*dictionary(7, batch(WORDS, (0, b"", *texts([b"%064d" % word for word in range(WORDS)])))))
     yield data_of(*batch(LONG_ROWS, *columns))
 
 
-@case("a put of a batch of 35 MB and a dictionary of 21 MB: all rows are there, in batches of 65,536 rows at most")
+@case("a put of a batch of 30 MB and a dictionary of 21 MB: all rows are there, in batches of 65,536 rows at most")
 def long_batches(run: Run) -> str:
     put = [*long_put()]
     longest = max(len(data.SerializeToString()) for data in put)
@@ -164,7 +165,7 @@ def too_long(tree: dict, body: bytes) -> list[bytes]:
     return [front.SerializeToString(), data_of(tree, body + bytes(17 * MEGABYTE)).SerializeToString()]
 
 
-@case("long messages that cannot be cut: RESOURCE_EXHAUSTED, the reason, and nothing is put; one above --longest-put is refused by gRPC")
+@case("long messages that cannot be cut: RESOURCE_EXHAUSTED, the reason, and nothing is put; also one above --longest-put")
 def not_cut(run: Run) -> None:
     compressed, body = batch(1, (0, b"", bytes(8)), compression={"codec": "ZSTD", "method": 0})
     cases = {"it is compressed": (compressed, body),

@@ -179,8 +179,8 @@ def types(run: Run) -> None:
 @case("GetTables by names, schemas, catalogs and types: % is any text, _ any character, a backslash takes that away")
 def tables_by_names(run: Run) -> None:
     names = ["a_b", "a%b", "axb", "ab", 'q"q', "\u00e9"]
-    wanted = {"%": sorted(names), "a_b": ["a%b", "a_b", "axb"], "a\\_b": ["a_b"], "a\\%b": ["a%b"], "a%": ["a%b", "a_b", "ab", "axb"],
-              "_": ["\u00e9"], "": [], "A_B": [], 'q"q': ['q"q'], "a.b": []}
+    wanted = {"%": sorted(names), "a_b": ["a%b", "a_b", "axb"], "a\\_b": ["a_b"], "a\\%b": ["a%b"], "_": ["\u00e9"], "": [],
+              "a%": ["a%b", "a_b", "ab", "axb"], "A_B": [], 'q"q': ['q"q'], "a.b": []}
     with run.serving() as (_, gateway), Client(gateway.port) as client:
         for name in names:
             same("the number of rows put", 1, client.put(put_messages(ingest(name), A, [(1,)])))
@@ -190,7 +190,8 @@ def tables_by_names(run: Run) -> None:
         for none in ({"catalog": "x"}, {"db_schema_filter_pattern": "x%"}, {"table_types": ["VIEW"]}):
             same(f"the tables of {none}", [], asked(client, sql.CommandGetTables(**none), TABLES))
         for all_of in ({"catalog": ""}, {"db_schema_filter_pattern": ""}, {"table_types": ["TABLE"]}):
-            same(f"the tables of {all_of}", sorted(names), [row[2] for row in asked(client, sql.CommandGetTables(**all_of), TABLES)])
+            rows = asked(client, sql.CommandGetTables(**all_of), TABLES)
+            same(f"the tables of {all_of}", sorted(names), [row[2] for row in rows])
 
 
 @case("ListFlights, a table by its path, ListActions, PollFlightInfo: what pyarrow and ADBC ask")
@@ -260,8 +261,8 @@ WANTED_INFOS = {
     563: ("bool_value", False), 564: ("int32_bitmask", 1), 567: ("int32_bitmask", 2), 569: ("int32_bitmask", 2)}
 WANTED_KINDS = {
     "string_value": [0, 1, 2, 6, 7, 504, 513, 514, 529, 530, 531],
-    "bool_value": [3, 4, 5, 9, 10, 11, 500, 501, 502, 506, 515, 516, *range(518, 522), 523, 524, 527, 532, 536, 537, 539, 556, 563,
-                   565, 566, *range(572, 577)],
+    "bool_value": [3, 4, 5, 9, 10, 11, 500, 501, 502, 506, 515, 516, *range(518, 522), 523, 524, 527, 532, 536, 537, 539, 556,
+                   563, 565, 566, *range(572, 577)],
     "bigint_value": [*range(541, 556), *range(557, 562)],
     "int32_bitmask": [8, 100, 101, 503, 505, 507, 522, 525, 526, 528, 533, 534, 535, 538, 540, 562, 564, *range(567, 572)],
     "string_list": [*range(508, 513)], "int32_to_int32_list_map": [517]}

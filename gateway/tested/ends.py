@@ -26,7 +26,7 @@ from tested.streams import WIDE, WIDE_ROWS, large_put, wide_fetch, wide_rows
 
 UNAVAILABLE, EXHAUSTED, INTERNAL = 14, 8, 13
 GONE = "the server ended the connection in the middle of a call"
-PUTS_CUT = 150
+PUTS_CUT, DONE = 150, b"\x04\0\0\0"
 
 
 # ---- clients that cancel or go away
@@ -68,6 +68,27 @@ def cancelled_puts(run: Run) -> str:
         ask(client, put_of("u", A, [(1,)]), PutCount(1))
         ask(client, fetch_of(1, 0, 1, "SELECT * FROM u"), rows_of(A, (1,)))
     return f"{PUTS_CUT} puts"
+
+
+@case("puts that are cancelled or refused in the middle of long messages: the gateway keeps none of these")
+def long_puts_cut(run: Run) -> str:
+    whole, go = bytes(16_000_000), threading.Event()
+
+    def messages() -> Iterator[bytes]:
+        yield from [whole] * 3
+        go.wait()
+
+    with StubServer(lambda path, messages: DONE) as stub, run.behind(stub.port) as gateway, Client(gateway.port) as client:
+        for _ in range(20):
+            call = client.call("DoPut", messages())
+            time.sleep(0.2)
+            call.cancel()
+        go.set()
+        for _ in range(20):
+            same("the code of a message too long", EXHAUSTED, client.answer("DoPut", [whole, bytes(17_000_000)]).code)
+        held = gateway.most_held() / 1_000_000
+        same(f"it held {held:.0f} MB, less than 200", True, held < 200)
+    return f"{held:.0f} MB held"
 
 
 KILLED = """

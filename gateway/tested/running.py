@@ -102,7 +102,7 @@ class StubServer:
             threading.Thread(target=self.serve, args=(stream,), daemon=True).start()
 
     def serve(self, stream: socket.socket) -> None:
-        with stream, stream.makefile("rb") as source:
+        with suppress(ConnectionResetError), stream, stream.makefile("rb") as source:
             while (call := read_call(source)) is not None:
                 said = NO_METHOD if call[0] == SEATED else self.answer(*call)
                 if said is None:
