@@ -62,7 +62,7 @@ class Call:
             raise asyncio.CancelledError from None
 
     async def begin_answer(self) -> None:
-        """Sends the head of the answer, which fails where the client is gone.
+        """Sends the head of the answer, which fails where the client is gone. What changes something waits for it.
 
         gRPC tells the end of the messages also where the client cancelled or is gone, and at times before it tells that. A put
         that was cut there must not be ended as if it were whole. To a client that left nothing can be sent.
@@ -139,7 +139,8 @@ async def ask(method: str, seat: Seat, call: Call) -> None:
         connection.open_call(SERVICE + method)
         for message in messages:
             await connection.send_message(message)
-        await call.begin_answer()
+        if method == "DoAction":
+            await call.begin_answer()
         await connection.end_call()
     except OSError:
         raise await connection.last_word() from None

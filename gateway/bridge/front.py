@@ -88,6 +88,7 @@ class Door(asyncio.Protocol):
 
     def __init__(self, front: Front, context: ssl.SSLContext | None):
         self.front, self.context = front, context
+        self.beginning: asyncio.Task | None = None
 
     def connection_made(self, transport: asyncio.Transport) -> None:
         if self.front.connections >= MOST_CONNECTIONS:
@@ -99,13 +100,13 @@ class Door(asyncio.Protocol):
             transport.set_protocol(client)
             client.connection_made(transport)
         else:
-            self.front.loop.create_task(self.begin_tls(transport, client))
+            self.beginning = self.front.loop.create_task(self.begin_tls(transport, client))
 
     async def begin_tls(self, transport: asyncio.Transport, client: Client) -> None:
         try:
             inside = await self.front.loop.start_tls(transport, client, self.context, server_side=True,
                                                      ssl_handshake_timeout=PREFACE_SECONDS)
-        except (OSError, ssl.SSLError):
+        except Exception:  # whatever a client can make of TLS
             inside = None
         if inside is None or inside.is_closing():
             transport.abort()
@@ -161,7 +162,8 @@ class Grpc(End):
 
     def connection_lost(self, why: Exception | None) -> None:
         super().connection_lost(why)
-        self.front.loop.call_later(CLOSE_SECONDS, self.other.transport.abort)  # where it does not take what is left
+        if self.other.transport.get_write_buffer_size() > 0:  # of what is left
+            self.front.loop.call_later(CLOSE_SECONDS, self.other.transport.abort)
 
 
 class Client(End):
@@ -171,6 +173,7 @@ class Client(End):
         super().__init__(front)
         self.streams, self.early, self.held, self.is_http = Streams(), bytearray(), bytearray(), False
         self.given_up = 0
+        self.reaching: asyncio.Task | None = None
         self.late: asyncio.TimerHandle | None = None
 
     def connection_made(self, transport: asyncio.Transport) -> None:
@@ -222,7 +225,7 @@ class Client(End):
             self.is_http, data = True, data[len(PREFACE) - len(self.held) :]
             self.late.cancel()
             self.transport.pause_reading()
-            self.front.loop.create_task(self.reach_grpc())
+            self.reaching = self.front.loop.create_task(self.reach_grpc())
         for frame in self.heads.of(data):
             if self.streams.is_given_up_by(frame):
                 self.front.gave_up(self)

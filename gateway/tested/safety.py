@@ -5,6 +5,10 @@ from __future__ import annotations
 import base64
 import contextlib
 import pathlib
+import resource
+import socket
+import ssl
+import struct
 import subprocess
 import sys
 import tempfile
@@ -21,7 +25,7 @@ from served.cases import A, MEGABYTE, fetch_of, put_of
 
 from tested.cases import ask, call_of, case, look_at_status, put_messages
 from tested.client import LIMITS, SECONDS, SERVICE, Client, flight, ingest
-from tested.floods import echo
+from tested.floods import CONNECTIONS, DATA, PREFACE, begun, echo, frame
 from tested.running import TOP, Gateway, Run, StubServer
 from tested.streams import WIDE_ROWS, wide_fetch, wide_rows
 
@@ -133,6 +137,33 @@ def over_tls(run: Run) -> None:
                 with Client(gateway.port) as plain:
                     same("without TLS", UNAVAILABLE, plain.answer("DoGet", [b"x"]).code)
                 same("what the gateway printed as faults", b"", gateway.said())
+
+
+@case("1,000 connections of TLS, each with a call that waits, and 100 that say nothing: less than 200 MB held, then given back")
+def many_over_tls(run: Run) -> str:
+    resource.setrlimit(resource.RLIMIT_NOFILE, (resource.getrlimit(resource.RLIMIT_NOFILE)[1],) * 2)
+    with folder() as made, StubServer(echo) as stub:
+        words = ["--tls-certificate", str(made / "certificate"), "--tls-key", str(made / "key"), "--wait", "600"]
+        context = ssl.create_default_context(cafile=made / "certificate")
+        context.set_alpn_protocols(["h2"])
+        with Gateway(stub.port, *words) as gateway:
+            before = gateway.open_files()
+            with contextlib.ExitStack() as stack:
+                for _ in range(CONNECTIONS):
+                    plain = stack.enter_context(socket.create_connection(("127.0.0.1", gateway.port), 60))
+                    client = stack.enter_context(context.wrap_socket(plain, server_hostname="localhost"))
+                    client.sendall(PREFACE + begun(1) + frame(DATA, 0, 1, b"\0" + struct.pack(">I", 16_000) + bytes(15_000)))
+                for _ in range(100):
+                    stack.enter_context(socket.create_connection(("127.0.0.1", gateway.port), 60))
+                time.sleep(2)
+                held = gateway.held() / MEGABYTE
+            same(f"it held {held:.0f} MB, less than 200", True, held < 200)
+            end = time.monotonic() + 60
+            while gateway.open_files() > before + 8 and time.monotonic() < end:
+                time.sleep(0.2)
+            same("files that are left open", True, gateway.open_files() <= before + 8)
+            same("what the gateway printed as faults", b"", gateway.said())
+    return f"{held:.0f} MB held"
 
 
 @case("what is not safe is refused, with the reason and status 2: other addresses, open files, short tokens, half a pair")
