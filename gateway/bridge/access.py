@@ -3,7 +3,6 @@
 from __future__ import annotations
 
 import base64
-import binascii
 import hmac
 import pathlib
 import ssl
@@ -85,6 +84,6 @@ def shown_token(metadata: dict[str, str | bytes]) -> bytes | None:
     if shown.startswith(BASIC):
         try:
             return base64.b64decode(shown.removeprefix(BASIC).rstrip("=") + "===").partition(b":")[2]
-        except binascii.Error:
+        except ValueError:  # it is not base64
             return b""
     return metadata.get("auth-token-bin")

@@ -8,10 +8,12 @@ from __future__ import annotations
 
 import subprocess
 from collections.abc import Iterator
+from random import Random
 
 import grpc
 from google.protobuf.any_pb2 import Any
 
+from bridge.metadata import Pattern
 from random_calls.answers import PutCount, same
 from random_calls.plain_model import Column
 from served.cases import A, put_of
@@ -192,6 +194,29 @@ def tables_by_names(run: Run) -> None:
         for all_of in ({"catalog": ""}, {"db_schema_filter_pattern": ""}, {"table_types": ["TABLE"]}):
             rows = asked(client, sql.CommandGetTables(**all_of), TABLES)
             same(f"the tables of {all_of}", sorted(names), [row[2] for row in rows])
+
+
+def fits(pattern: str, name: str) -> bool:
+    """Whether a name fits a pattern, by trying each text that a % may be."""
+    if not pattern:
+        return not name
+    if pattern[0] == "%":
+        return any(fits(pattern[1:], name[place:]) for place in range(len(name) + 1))
+    if pattern[0] == "\\" and pattern[1:2] in ("\\", "%", "_") and len(pattern) > 1:
+        return name[:1] == pattern[1] and fits(pattern[2:], name[1:])
+    return bool(name) and pattern[0] in ("_", name[0]) and fits(pattern[1:], name[1:])
+
+
+@case("patterns and names at random, as a plain matcher has them; and long patterns that would take others years")
+def patterns(run: Run) -> str:
+    random, count = Random(1), 20_000
+    for _ in range(count):
+        pattern = "".join(random.choice("ab%_\\") for _ in range(random.randrange(7)))
+        name = "".join(random.choice("ab%_\\") for _ in range(random.randrange(6)))
+        same(f"whether {name!r} fits {pattern!r}", fits(pattern, name), Pattern(pattern).fits(name))
+    same("a long pattern", False, Pattern("%a" * 32).fits("ab" * 31))
+    same("a longer one", False, Pattern("%a" * 30_000).fits("a" * 64))
+    return f"{count:,} of each"
 
 
 @case("ListFlights, a table by its path, ListActions, PollFlightInfo: what pyarrow and ADBC ask")

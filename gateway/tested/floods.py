@@ -10,8 +10,10 @@ import struct
 import threading
 import time
 from collections.abc import Callable, Iterator
+from random import Random
 
 import wire
+from bridge.frames import Heads
 from random_calls.answers import same
 from served.cases import MEGABYTE
 
@@ -146,6 +148,25 @@ FLOODS: dict[str, Callable[[], Iterator[bytes]]] = {
                                      itertools.repeat(frame(WINDOW_UPDATE, 0, 1, struct.pack(">I", 1)), 100_000)),
     "20 MB that are not HTTP/2": lambda: itertools.repeat(bytes(65_536), 320),
 }
+
+
+@case("frames at random, in pieces at random: the heads of all but data in the middle of a call and what is not looked at")
+def heads(run: Run) -> str:
+    count = 0
+    for seed in range(300):
+        random, heads, found, place = Random(seed), Heads(), [], 0
+        made = [(random.choice([0, 1, 2, 3, 50, 300]), random.choice([DATA, HEADERS, 2, RST_STREAM, SETTINGS, PING, WINDOW_UPDATE,
+                                                                      CONTINUATION, 11]),
+                 random.choice([0, 1, 4, 5]), random.randrange(1 << 31)) for _ in range(random.randrange(1, 12))]
+        data = b"".join(frame(kind, flags, stream, bytes(length)) for length, kind, flags, stream in made)
+        while place < len(data):
+            size = random.choice([1, 2, 5, 9, 10, 40, 1_000])
+            found += [tuple(one) for one in heads.of(memoryview(data)[place : place + size])]
+            place += size
+        wanted = [one for one in made if one[1] not in (2, WINDOW_UPDATE) and not (one[1] == DATA and one[0] and not one[2] & 1)]
+        same(f"the heads of seed {seed}", wanted, found)
+        count += len(made)
+    return f"{count:,} frames"
 
 
 @case("clients that flood one after the other: each is cut off, and another client, also a new one, waits two seconds at most")
