@@ -2,6 +2,7 @@
 # Starts a server and a gateway to it, and ends both by Ctrl-C.
 #
 #   gateway/serve.sh --port 4711 --grpc-port 4712 [--seats 32] [--parts 1] [--workers 1] [--keep 0] [--wait 10] [--idle 2]
+#       [--stall 300] [--longest-put 64] [--listen 127.0.0.1] [--tls-certificate FILE --tls-key FILE] [--token-file FILE]
 #       [--program PATH]
 #
 # The server listens on 127.0.0.1:4711 for our own clients, and the gateway on 127.0.0.1:4712 for those of gRPC. Of port 0
@@ -11,7 +12,8 @@
 here=$(cd "$(dirname "$0")" && pwd)
 program=$here/../crates/flightscan/out/flightscan
 python=${PYTHON:-/usr/bin/python3}
-declare -A given=([port]='' [grpc-port]='' [seats]=32 [parts]=1 [workers]=1 [keep]=0 [wait]=10 [idle]=2 [program]=$program)
+declare -A given=([port]='' [grpc-port]='' [seats]=32 [parts]=1 [workers]=1 [keep]=0 [wait]=10 [idle]=2 [stall]=300
+    [longest-put]=64 [listen]=127.0.0.1 [tls-certificate]='' [tls-key]='' [token-file]='' [program]=$program)
 
 usage() {
     sed -n '2,/^$/s/^# \{0,1\}//p' "$0" >&2
@@ -47,8 +49,13 @@ if ! read -r line <&3; then
 fi
 echo "$line"
 
+safe=()
+for name in tls-certificate tls-key token-file; do
+    [[ -z ${given[$name]} ]] || safe+=("--$name" "${given[$name]}")
+done
 "$python" "$here/flightscan_gateway.py" --port "${line##*:}" --grpc-port "${given[grpc-port]}" --seats "${given[seats]}" \
-    --wait "${given[wait]}" --idle "${given[idle]}" &
+    --wait "${given[wait]}" --idle "${given[idle]}" --stall "${given[stall]}" --longest-put "${given[longest-put]}" \
+    --listen "${given[listen]}" "${safe[@]}" &
 running+=($!)
 wait -n "${running[@]}"
 exit $?

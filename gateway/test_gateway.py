@@ -20,12 +20,17 @@ import time
 
 sys.dont_write_bytecode = True
 ROOT = pathlib.Path(__file__).resolve().parent.parent
-sys.path += [str(ROOT / "scripts"), *(str(ROOT / "vectors" / folder) for folder in ("arrow", "flight", "queries", "streams"))]
+sys.path += [str(ROOT / "gateway"), str(ROOT / "scripts")]
+sys.path += [str(ROOT / "vectors" / folder) for folder in ("arrow", "flight", "queries", "streams")]
 
 import grpc  # noqa: E402
 
 import tested.calls  # noqa: E402, F401  (its cases)
+import tested.cuts  # noqa: E402, F401
+import tested.drivers  # noqa: E402, F401
 import tested.ends  # noqa: E402, F401
+import tested.floods  # noqa: E402, F401
+import tested.safety  # noqa: E402, F401
 import tested.streams  # noqa: E402, F401
 import wire  # noqa: E402
 from built import program  # noqa: E402

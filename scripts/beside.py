@@ -106,7 +106,7 @@ class Gateway:
     def run(self, path):
         python = python_with("google.protobuf, grpc.aio")
         lacking = [] if python else ["a Python with grpcio and protobuf"]
-        lacking += [] if shutil.which("protoc") else ["protoc"]
+        lacking += [tool for tool in ("protoc", "openssl") if not shutil.which(tool)]
         if lacking:
             return f"passed over: gateway/test_gateway.py wants {' and '.join(lacking)}"
         said = done("gateway/test_gateway.py", "--program", path, "--seconds", "10", python=python)

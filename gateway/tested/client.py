@@ -96,6 +96,11 @@ class Client:
         call = self.channel.unary_stream(SERVICE + "DoAction", type(action).SerializeToString, flight.Result.FromString)
         return call(action, timeout=SECONDS)
 
+    def listed(self, method: str, message, kind: type) -> list:
+        """The messages of this kind that answer one message."""
+        call = self.channel.unary_stream(SERVICE + method, type(message).SerializeToString, kind.FromString)
+        return [*call(message, timeout=SECONDS)]
+
     def put(self, messages: Iterable[flight.FlightData]) -> int:
         """The number of rows that were put."""
         serialize = flight.FlightData.SerializeToString

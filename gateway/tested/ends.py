@@ -2,6 +2,7 @@
 
 from __future__ import annotations
 
+import contextlib
 import os
 import signal
 import socket
@@ -25,7 +26,7 @@ from tested.streams import WIDE, WIDE_ROWS, large_put, wide_fetch, wide_rows
 
 UNAVAILABLE, EXHAUSTED, INTERNAL = 14, 8, 13
 GONE = "the server ended the connection in the middle of a call"
-PUTS_CUT = 150
+PUTS_CUT, DONE = 150, b"\x04\0\0\0"
 
 
 # ---- clients that cancel or go away
@@ -67,6 +68,27 @@ def cancelled_puts(run: Run) -> str:
         ask(client, put_of("u", A, [(1,)]), PutCount(1))
         ask(client, fetch_of(1, 0, 1, "SELECT * FROM u"), rows_of(A, (1,)))
     return f"{PUTS_CUT} puts"
+
+
+@case("puts that are cancelled or refused in the middle of long messages: the gateway keeps none of these")
+def long_puts_cut(run: Run) -> str:
+    whole, go = bytes(16_000_000), threading.Event()
+
+    def messages() -> Iterator[bytes]:
+        yield from [whole] * 3
+        go.wait()
+
+    with StubServer(lambda path, messages: DONE) as stub, run.behind(stub.port) as gateway, Client(gateway.port) as client:
+        for _ in range(20):
+            call = client.call("DoPut", messages())
+            time.sleep(0.2)
+            call.cancel()
+        go.set()
+        for _ in range(20):
+            same("the code of a message too long", EXHAUSTED, client.answer("DoPut", [whole, bytes(17_000_000)]).code)
+        held = gateway.most_held() / 1_000_000
+        same(f"it held {held:.0f} MB, less than 200", True, held < 200)
+    return f"{held:.0f} MB held"
 
 
 KILLED = """
@@ -123,8 +145,9 @@ def many_that_wait(run: Run) -> None:
         return b"\x04\0\0\0"
 
     with StubServer(answer) as stub, run.behind(stub.port, "--seats", "1", "--wait", "300") as gateway:
-        with Client(gateway.port) as client:
-            calls = [client.call("DoGet", [b"x"], 300) for _ in range(1_040)]
+        with contextlib.ExitStack() as stack:  # of clients, each of which has 80 calls at once
+            clients = [stack.enter_context(Client(gateway.port)) for _ in range(13)]
+            calls = [client.call("DoGet", [b"x"], 300) for client in clients for _ in range(80)]
             for _ in range(300):
                 if sum(call.done() for call in calls) < 39:
                     time.sleep(0.1)
@@ -219,7 +242,8 @@ def refused_in_the_middle(run: Run) -> None:
 
 @case("serve.sh: both are there, one command ends both, and neither is left where the other ends")
 def one_command(run: Run) -> None:
-    words = ["bash", str(TOP / "serve.sh"), "--port", "0", "--grpc-port", "0", "--program", run.path]
+    words = ["bash", str(TOP / "serve.sh"), "--port", "0", "--grpc-port", "0", "--program", run.path, "--stall", "60",
+             "--longest-put", "20", "--listen", "127.0.0.1"]
     how = {"stdout": subprocess.PIPE, "stderr": subprocess.DEVNULL, "start_new_session": True,
            "env": {**os.environ, "PYTHON": sys.executable}}
     for turn in range(2):

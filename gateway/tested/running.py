@@ -17,7 +17,6 @@ from loopback import Server
 from random_calls.answers import same
 
 TOP = pathlib.Path(__file__).resolve().parent.parent
-LINE = b"listening grpc://127.0.0.1:"
 SEATED = b"/seat"  # the path of the call by which the gateway learns that a connection has a seat
 NO_METHOD = b"\x04\x0c\x00\x10F3 UnknownMethod"
 
@@ -25,15 +24,22 @@ NO_METHOD = b"\x04\x0c\x00\x10F3 UnknownMethod"
 class Gateway(Server):
     """A gateway that runs as long as the block. It is looked at as a server is."""
 
-    def __init__(self, port: int, *options: str):
+    def __init__(self, port: int, *options: str, host: str = "127.0.0.1"):
         self.faults = tempfile.TemporaryFile()
         command = [sys.executable, str(TOP / "flightscan_gateway.py"), "--port", str(port), "--grpc-port", "0", *options]
         self.process = subprocess.Popen(command, stdout=subprocess.PIPE, stderr=self.faults)
         self.line = self.process.stdout.readline()
-        if not self.line.startswith(LINE):
+        before = b"listening grpc%s://%s:" % (b"+tls" if "--tls-key" in options else b"", host.encode())
+        if not self.line.startswith(before):
             self.process.wait()
             raise SystemExit(f"no gateway: it printed {self.line!r}, and {self.said()!r} as faults")
-        self.port = int(self.line[len(LINE) :])
+        self.port = int(self.line[len(before) :])
+
+    def __exit__(self, *_: object) -> None:
+        """Ends it by a signal that it sees, so that it leaves no folder."""
+        self.process.terminate()
+        self.process.wait()
+        super().__exit__()
 
 
 @dataclass
@@ -96,7 +102,7 @@ class StubServer:
             threading.Thread(target=self.serve, args=(stream,), daemon=True).start()
 
     def serve(self, stream: socket.socket) -> None:
-        with stream, stream.makefile("rb") as source:
+        with suppress(ConnectionResetError), stream, stream.makefile("rb") as source:
             while (call := read_call(source)) is not None:
                 said = NO_METHOD if call[0] == SEATED else self.answer(*call)
                 if said is None:

@@ -180,11 +180,10 @@ def longest_messages(run: Run) -> None:
     whole = bytes(LONGEST_MESSAGE)
     with StubServer(lambda path, messages: b"".join(map(wire.record_message, messages)) + b"\x04\0\0\0") as stub:
         with run.behind(stub.port) as gateway, Client(gateway.port) as client:
-            for method in ("DoGet", "DoPut"):
+            said = "Received message larger than max (16777217 vs. 16777216)"
+            for method, more in (("DoGet", ""), ("DoPut", ", and it cannot be cut: F4 BadProto")):
                 same("the answer", wire.Answer([whole], 0, ""), client.answer(method, [whole]))
-                refused = client.answer(method, [whole + b"x"])
-                said = "Received message larger than max (16777217 vs. 16777216)"
-                look_at_status("a longer one", 8, said, refused)
+                look_at_status("a longer one", 8, said + more, client.answer(method, [whole + b"x"]))
     with run.serving() as (_, gateway), Client(gateway.port) as client:
         look_at_status("a long ticket", 3, "F4 BadProto", client.answer("DoGet", [whole]))
         ask(client, appended("t", A, [(1,)]), Refusal("F9"))
