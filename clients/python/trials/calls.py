@@ -270,10 +270,14 @@ def servers_that_break_off(run: Run) -> None:
 
 
 def answer_once(listener: socket.socket, said: bytes) -> None:
-    """Takes one call of a connection, says these bytes, and ends it."""
+    """Takes one call of a connection, says these bytes, and ends it once the client has left. Bytes that nobody read would
+    break the connection."""
     with listener.accept()[0] as stream:
         stream.recv(65_536)
         stream.sendall(said)
+        stream.shutdown(socket.SHUT_WR)
+        while stream.recv(65_536):
+            pass
 
 
 @case("a client that puts while others read: each info is of one version, and all its endpoints too")
