@@ -132,6 +132,11 @@ impl<C: CellName, R: Wait + Drop> Publisher<C, R> {
         unreachable!()
     }
 
+    // One handle more of the versions that are shown, unless it is refused.
+    pub(crate) fn versions(&self) -> Option<Arc<VersionIndex>> {
+        Arc::try_clone(&self.store().index).ok()
+    }
+
     // The log so far. It takes no memory.
     pub(crate) fn history(&self) -> History
         ensures log { result.seen.log ≡ self.now }
