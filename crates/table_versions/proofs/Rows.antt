@@ -161,19 +161,29 @@ text-65536 = refl
 text-65537 : after [] 0 (long 65537) ≡ Err LimitReached
 text-65537 = refl
 
--- the last commit and the one after it
-commit-65536 : after [] 65535 (put absent.Create Fail int64 []) ≡ Ok ((codes "t", table int64 []) ∷ [])
-commit-65536 = refl
+-- the last version above the floor, and the one after it
+version-65536 : after [] 65535 (put absent.Create Fail int64 []) ≡ Ok ((codes "t", table int64 []) ∷ [])
+version-65536 = refl
 
-commit-65537 : after [] 65536 created ≡ Err LimitReached
-commit-65537 = refl
+version-65537 : after [] 65536 created ≡ Err LimitReached
+version-65537 = refl
+
+-- any other fault comes before that one
+version-65537-present : after (database_after (created ∷ [])) 65536 created ≡ Err TableExists
+version-65537-present = refl
 
 -- a refused put is not logged, and an accepted one is
-not_logged : logged (created ∷ []) created ≡ created ∷ []
+not_logged : logged 1 (created ∷ []) created ≡ created ∷ []
 not_logged = refl
 
-is_logged : logged (created ∷ []) replaced ≡ created ∷ replaced ∷ []
+is_logged : logged 1 (created ∷ []) replaced ≡ created ∷ replaced ∷ []
 is_logged = refl
+
+logged-65536 : logged 65535 (created ∷ []) replaced ≡ created ∷ replaced ∷ []
+logged-65536 = refl
+
+not_logged-65537 : logged 65536 (created ∷ []) replaced ≡ created ∷ []
+not_logged-65537 = refl
 
 refused_in_log : AreAccepted (created ∷ created ∷ []) → ⊥
 refused_in_log is = let no : Err TableExists ≡ Ok (version_after (created ∷ created ∷ []) 2) = is 1 created refl in cc

@@ -1,8 +1,7 @@
 -- Entries one by one, and logs of accepted puts.
 use Rattle.std.proofs.Common.{◌≡◌, ◌+◌, ◌≤◌, false, true, List, [], ◌∷◌, ◌++◌, length, Option, Some, None, IsSome, IfSome, ap, ◌∙◌, arith, length-append}
-use Rattle.version_log.specs.Log.{Entry, Log, added, expired, puts_of, puts_in, IsLog}
+use Rattle.version_log.specs.Log.{Entry, Log, added, expired, puts_of, puts_in, after_log, IsLog}
 use Rattle.version_log.proofs.Logs.{puts_of-append, is_log-added, is_log-expired}
-use Rattle.version_cell.specs.Puts.{after_log}
 use Rattle.version_cell.specs.Rules.{read_or, Accepts}
 use Rattle.version_cell.specs.SignedEntries.{SignedEntry, log_of}
 use Rattle.version_cell.proofs.Accepting.{accepted_is}
