@@ -1,0 +1,102 @@
+-- What a client says of a fault on the lines after the fault's own, from what it has itself.
+use Rattle.std.specs.Prelude.{ℕ, ◌==◌, ◌||◌, Bool, true, false, nat_lt, List, [], ◌++◌, length}
+use Rattle.std.specs.Prelude.{codes, if◌then◌else◌}
+use Rattle.std.specs.Fmt.{decimal}
+use Rattle.scan_base.specs.Limits.{most_name_bytes, most_query_bytes}
+use Rattle.scan_base.specs.declared.fault.Fault.{Fault}
+use Rattle.scan_base.specs.declared.fault.Fault.TheVariants.{BadFrame, MessageTooLarge, BadBatch}
+use Rattle.scan_base.specs.declared.fault.Fault.TheVariants.{UnsupportedArrow, TableMissing}
+use Rattle.scan_base.specs.declared.fault.Fault.TheVariants.{TableExists, SchemaMismatch}
+use Rattle.scan_base.specs.declared.fault.Fault.TheVariants.{LimitReached, BadSql, UnknownName}
+use Rattle.scan_base.specs.declared.fault.Fault.TheVariants.{TypeClash, NotInSubset, BadTicket}
+use Rattle.scan_base.specs.declared.fault.Fault.TheVariants.{VersionUnknown, VersionExpired}
+use Rattle.scan_base.specs.declared.fault.Fault.TheVariants.{ResultTooLarge, Transport}
+use Rattle.scan_base.specs.declared.put_options.PutMode.{PutMode}
+use Rattle.scan_base.specs.declared.put_options.PutMode.TheVariants.{Append}
+use Rattle.fault_hints.specs.declared.asked.Asked.{Asked}
+use Rattle.fault_hints.specs.declared.asked.Asked.TheVariants.{Rows, Put, Names, Expiry}
+use Rattle.fault_hints.specs.LeftOut.{left_out_lines}
+use Rattle.fault_hints.specs.MarkedLines.{marked}
+
+-- of any call: who answered, and how the connection ended
+abbrev pub call_line : Fault → List ℕ
+call_line BadFrame = codes "what listens at this port is no flightscan server\n"
+call_line Transport = codes "the connection ended before the answer did\n"
+call_line _ = []
+
+-- ---- queries
+
+-- which limit a text passes
+abbrev pub query_limit : List ℕ → List ℕ
+query_limit sql =
+    if nat_lt most_query_bytes (length sql) then
+      codes "the query has " ++ (decimal (length sql)
+        ++ codes " bytes, and at most 16384 are taken\n")
+    else codes "a query has at most 4 tables, 64 items and names of 64 bytes, an IN 256 values\n"
+
+-- what is said of a query's fault whatever the query is
+abbrev pub query_line : Fault → List ℕ
+query_line TableMissing = codes "`flightscan tables` prints the names; their case counts\n"
+query_line UnknownName = codes "a name stands for no column, or for several; its case counts\n"
+query_line TypeClash =
+    codes "compare numbers with numbers, 'texts' with texts, DATE '2026-11-28' with dates\n"
+query_line BadTicket = codes "the tables are no longer those of the query: ask again\n"
+query_line VersionExpired = codes "the tables of the query have expired: ask again\n"
+query_line ResultTooLarge = codes "67108864 rows are the most: select fewer, or serve with more --parts\n"
+query_line fault = call_line fault
+
+-- of a query: the place in it, or what it has that is left out
+abbrev pub query_hint : List ℕ → Fault → List ℕ
+query_hint sql (BadSql place) = marked sql place
+query_hint sql NotInSubset = left_out_lines sql
+query_hint sql LimitReached = query_limit sql
+query_hint sql fault = query_line fault
+
+-- ---- puts
+
+-- which limit a put passes
+abbrev pub put_limit : List ℕ → List ℕ
+put_limit table =
+    if (length table == 0) || nat_lt most_name_bytes (length table) then
+      codes "a table's name has 1 to 64 bytes\n"
+    else codes "64 columns, 64 bytes of a name, 65536 of a text, 16777216 rows, 256 tables are the most\n"
+
+-- which schemas differ
+abbrev pub schema_line : PutMode → List ℕ
+schema_line Append =
+    codes "the table has other columns: names, types and nulls must agree, in their order\n"
+schema_line mode = codes "two columns have one name\n"
+
+-- what is wrong with what is put
+abbrev pub batch_line : Bool → List ℕ
+batch_line true = codes "the input is empty\n"
+batch_line false = codes "a column without nulls has one, or a batch is not as Arrow's layout says\n"
+
+-- what is said of a put's fault whatever is put
+abbrev pub put_line : Fault → List ℕ
+put_line MessageTooLarge = codes "a batch has more than 16777216 bytes: write batches of 65536 rows\n"
+put_line UnsupportedArrow = codes "a column has a type that is not taken, or is compressed\n"
+put_line TableMissing = codes "no table has this name: --mode create makes it\n"
+put_line TableExists = codes "--mode append adds to the table, and --mode replace replaces it\n"
+put_line fault = call_line fault
+
+-- of a put into a table by a mode, of a stream that may be empty
+abbrev pub put_hint : List ℕ → PutMode → Bool → Fault → List ℕ
+put_hint table mode empty BadBatch = batch_line empty
+put_hint table mode empty SchemaMismatch = schema_line mode
+put_hint table mode empty LimitReached = put_limit table
+put_hint table mode empty fault = put_line fault
+
+-- ---- all
+
+-- of an expiry
+abbrev pub expiry_hint : Fault → List ℕ
+expiry_hint VersionUnknown = codes "no put has made this version yet\n"
+expiry_hint fault = call_line fault
+
+-- what is said of a fault of what was asked
+abbrev pub hint_of : Asked → Fault → List ℕ
+hint_of (Rows sql) fault = query_hint sql.now fault
+hint_of (Put table mode empty) fault = put_hint table.now mode empty fault
+hint_of Names fault = call_line fault
+hint_of Expiry fault = expiry_hint fault

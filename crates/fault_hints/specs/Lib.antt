@@ -1,0 +1,4 @@
+pub mod MarkedLines
+pub mod LeftOut
+pub mod InputKinds
+pub mod Hints

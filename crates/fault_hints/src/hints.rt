@@ -1,0 +1,163 @@
+//! What a client says of a fault on the lines after the fault's own.
+
+ghost use Rattle.std.specs.Prelude.{◌≡◌, IfOk, string_bytes};
+ghost use Rattle.fault_hints.specs.Hints.{batch_line, call_line, expiry_hint, hint_of, put_hint};
+ghost use Rattle.fault_hints.specs.Hints.{put_limit, put_line, query_hint, query_limit, query_line};
+ghost use Rattle.fault_hints.specs.Hints.{schema_line};
+
+use crate::asked::Asked;
+use crate::left_out::left_out_lines;
+use crate::marked_lines::marked;
+use scan_base::{Fault, PutMode};
+use sql_text::MOST_BYTES;
+use std::alloc::{AllocError, Global};
+
+const MOST_NAME_BYTES: usize = 64;
+
+// Of any call: who answered, and how the connection ended.
+fn call_line(fault: Fault) -> &'static [u8]
+    ensures { result.now ≡ call_line fault }
+{
+    match fault {
+        Fault::BadFrame => b"what listens at this port is no flightscan server\n",
+        Fault::Transport => b"the connection ended before the answer did\n",
+        _ => b"",
+    }
+}
+
+// Which limit a query passes.
+fn query_limit(alloc: Global, sql: &str) -> Result<Vec<u8>, AllocError>
+    ensures { IfOk result (λ lines. lines.items ≡ query_limit sql.now) }
+{
+    let len = sql.len();
+    if len > MOST_BYTES {
+        let line = format!(in alloc; "the query has {len} bytes, and at most 16384 are taken\n")?;
+        return Vec::from_slice(alloc, line.as_bytes());
+    }
+    Vec::from_slice(
+        alloc,
+        b"a query has at most 4 tables, 64 items and names of 64 bytes, an IN 256 values\n",
+    )
+}
+
+// What is said of a query's fault whatever the query is.
+fn query_line(fault: Fault) -> &'static [u8]
+    ensures { result.now ≡ query_line fault }
+{
+    match fault {
+        Fault::TableMissing => b"`flightscan tables` prints the names; their case counts\n",
+        Fault::UnknownName => {
+            b"a name stands for no column, or for several; its case counts\n"
+        }
+        Fault::TypeClash => {
+            b"compare numbers with numbers, 'texts' with texts, DATE '2026-11-28' with dates\n"
+        }
+        Fault::BadTicket => b"the tables are no longer those of the query: ask again\n",
+        Fault::VersionExpired => b"the tables of the query have expired: ask again\n",
+        Fault::ResultTooLarge => {
+            b"67108864 rows are the most: select fewer, or serve with more --parts\n"
+        }
+        _ => call_line(fault),
+    }
+}
+
+// Of a query: the place in it, or what it has that is left out.
+fn query_hint(alloc: Global, sql: &str, fault: Fault) -> Result<Vec<u8>, AllocError>
+    ensures { IfOk result (λ lines. lines.items ≡ query_hint sql.now fault) }
+{
+    match fault {
+        Fault::BadSql { position } => marked(alloc, sql, position),
+        Fault::NotInSubset => left_out_lines(alloc, sql),
+        Fault::LimitReached => query_limit(alloc, sql),
+        _ => Vec::from_slice(alloc, query_line(fault)),
+    }
+}
+
+// Which limit a put passes.
+fn put_limit(table: &str) -> &'static [u8]
+    ensures { result.now ≡ put_limit table.now }
+{
+    if table.is_empty() || table.len() > MOST_NAME_BYTES {
+        return b"a table's name has 1 to 64 bytes\n";
+    }
+    b"64 columns, 64 bytes of a name, 65536 of a text, 16777216 rows, 256 tables are the most\n"
+}
+
+// Which schemas differ.
+fn schema_line(mode: PutMode) -> &'static [u8]
+    ensures { result.now ≡ schema_line mode }
+{
+    match mode {
+        PutMode::Append => {
+            b"the table has other columns: names, types and nulls must agree, in their order\n"
+        }
+        PutMode::Create | PutMode::Replace => b"two columns have one name\n",
+    }
+}
+
+// What is wrong with what is put.
+fn batch_line(empty: bool) -> &'static [u8]
+    ensures { result.now ≡ batch_line empty }
+{
+    if empty {
+        return b"the input is empty\n";
+    }
+    b"a column without nulls has one, or a batch is not as Arrow's layout says\n"
+}
+
+// What is said of a put's fault whatever is put.
+fn put_line(fault: Fault) -> &'static [u8]
+    ensures { result.now ≡ put_line fault }
+{
+    match fault {
+        Fault::MessageTooLarge => {
+            b"a batch has more than 16777216 bytes: write batches of 65536 rows\n"
+        }
+        Fault::UnsupportedArrow => b"a column has a type that is not taken, or is compressed\n",
+        Fault::TableMissing => b"no table has this name: --mode create makes it\n",
+        Fault::TableExists => {
+            b"--mode append adds to the table, and --mode replace replaces it\n"
+        }
+        _ => call_line(fault),
+    }
+}
+
+// Of a put into a table by a mode, of a stream that may be empty.
+fn put_hint(table: &str, mode: PutMode, empty: bool, fault: Fault) -> &'static [u8]
+    ensures { result.now ≡ put_hint table.now mode empty fault }
+{
+    match fault {
+        Fault::BadBatch => batch_line(empty),
+        Fault::SchemaMismatch => schema_line(mode),
+        Fault::LimitReached => put_limit(table),
+        _ => put_line(fault),
+    }
+}
+
+// Of an expiry.
+fn expiry_hint(fault: Fault) -> &'static [u8]
+    ensures { result.now ≡ expiry_hint fault }
+{
+    match fault {
+        Fault::VersionUnknown => b"no put has made this version yet\n",
+        _ => call_line(fault),
+    }
+}
+
+/// What a client says of a fault of what was asked, in lines.
+///
+/// # Errors
+///
+/// `AllocError` where memory is refused.
+pub fn hint(alloc: Global, asked: Asked<'_>, fault: Fault) -> Result<Vec<u8>, AllocError>
+    ensures { IfOk result (λ lines. lines.items ≡ hint_of asked.entry fault) }
+{
+    match asked {
+        Asked::Rows(sql) => query_hint(alloc, sql, fault),
+        Asked::Put(table, mode, empty) => {
+            Vec::from_slice(alloc, put_hint(table, mode, empty, fault))
+        }
+        Asked::Names => Vec::from_slice(alloc, call_line(fault)),
+        Asked::Expiry => Vec::from_slice(alloc, expiry_hint(fault)),
+    }
+}

@@ -1,0 +1,16 @@
+//! What a client says of a fault on the lines after the fault's own.
+//!
+//! `specs/Hints.antt` says which lines a fault has, by what was asked. `specs/MarkedLines.antt` has
+//! the line of a query with a mark under a byte, `specs/LeftOut.antt` what a query has that is left
+//! out, and `specs/InputKinds.antt` what an input is by its first bytes.
+#![tactic(auto)]
+
+pub mod asked;
+pub mod hints;
+mod input_kinds;
+mod left_out;
+mod marked_lines;
+
+pub use crate::asked::Asked;
+pub use crate::hints::hint;
+pub use crate::input_kinds::input_line;
