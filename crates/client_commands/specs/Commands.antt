@@ -1,12 +1,15 @@
 -- What each command of a client does.
-use Rattle.std.specs.Prelude.{◌≡◌, ◌≢◌, ◌⊎◌, ℕ, List, [], ◌∷◌, Option, Some, None, Result, Ok, Err}
-use Rattle.std.specs.Prelude.{codes}
+use Rattle.std.specs.Prelude.{◌≡◌, ◌≢◌, ◌⊎◌, ℕ, ◌==◌, false, List, [], ◌∷◌, ◌++◌, length, Option}
+use Rattle.std.specs.Prelude.{Some, None, Result, Ok, Err, codes}
 use Rattle.std.specs.List.{flat_map}
 use Rattle.scan_base.specs.declared.fault.Fault.{Fault}
-use Rattle.scan_base.specs.declared.fault.Fault.TheVariants.{OutOfMemory, Transport}
+use Rattle.scan_base.specs.declared.fault.Fault.TheVariants.{BadFlatbuffer, OutOfMemory, Transport}
 use Rattle.flight_proto.specs.Expiry.{expiry_bytes}
 use Rattle.flight_proto.specs.InfoCommand.{tables}
+use Rattle.fault_hints.specs.Hints.{call_line, expiry_hint, put_hint}
+use Rattle.fault_hints.specs.InputKinds.{input_line}
 use Rattle.ipc_stream.specs.declared.message.IpcMessage.{IpcMessage}
+use Rattle.ipc_stream.specs.Stream.{Framed, IsStream}
 use Rattle.table_versions.specs.Table.{Table}
 use Rattle.row_text.specs.Lines.{name_line}
 use Rattle.client_calls.specs.declared.call.Method.TheVariants.{DoPut, DoAction}
@@ -19,7 +22,7 @@ use Rattle.client_calls.specs.Outcome.{Calls, Line}
 use Rattle.command_ends.specs.Network.{Ends}
 use Rattle.command_ends.specs.Printing.{Said, Prints, cause_lines, count_line, fault_line}
 use Rattle.command_ends.specs.Printing.{floor_line}
-use Rattle.command_ends.specs.WholeInput.{Source, ReadsMessages}
+use Rattle.command_ends.specs.WholeInput.{Source, ReadsWhole}
 use Rattle.command_ends.specs.declared.exit_status.ExitStatus.{ExitStatus}
 use Rattle.command_ends.specs.declared.exit_status.ExitStatus.TheVariants.{FaultAtThisEnd}
 use Rattle.csv_input.specs.Input.{Form, ReadsCsv, TextAt}
@@ -83,7 +86,7 @@ FetchesNames view (Err failure) old new =
 -- a line for each name
 abbrev pub ListsTables : (Option Ends → Type 0) → ExitStatus → Desk → Desk → Type 0
 ListsTables Gives status old new = Connects Gives (FetchesNames (λ (names : List (List ℕ)). names))
-    (Tells (flat_map name_line)) status old new
+    (Tells call_line (flat_map name_line)) status old new
 
 -- ---- expire
 
@@ -91,7 +94,7 @@ ListsTables Gives status old new = Connects Gives (FetchesNames (λ (names : Lis
 abbrev pub Expires : (Option Ends → Type 0) → ℕ → ExitStatus → Desk → Desk → Type 0
 Expires Gives version status old new =
     Connects Gives (Calls DoAction (expiry_bytes version ∷ []) (AnswersOne ReadsFloor))
-    (Tells floor_line) status old new
+    (Tells expiry_hint floor_line) status old new
 
 -- ---- put
 
@@ -100,27 +103,42 @@ abbrev pub reading_lines : Fault → List ℕ
 reading_lines Transport = cause_lines (codes "cannot read the input")
 reading_lines fault = fault_line fault
 
--- the input was not read, or is no stream: no connection is made
+-- the input was not read: no connection is made
 pub record IsUnread (old new : Source) (untouched : Type 0) (status : ExitStatus)
     (desk desk' : Desk) : Type 0 where
   pub fault : Fault
-  pub reads : ReadsMessages (λ (messages : List IpcMessage). messages) (Err fault) old new
+  pub reads : ReadsWhole (Err fault) old new
   pub alone : untouched
   pub ends : EndsBy (reading_lines fault) status desk desk'
 
--- the whole input is the stream of these messages, which are put, and the line of their count is
--- printed
-pub record IsPut (old new : Source) (Gives : Option Ends → Type 0) (target : Target)
+-- bytes are no stream, and what they are is said; or memory for its messages is refused
+abbrev pub IsUnput : List ℕ → ExitStatus → Desk → Desk → Type 0
+IsUnput bytes status desk desk' =
+    ((¬ IsStream bytes) × EndsBy (fault_line BadFlatbuffer ++ input_line bytes) status desk desk')
+    ⊎ EndsBy (fault_line OutOfMemory) status desk desk'
+
+-- bytes are the stream of these messages, which are put, and the line of their count is printed
+pub record IsPut (bytes : List ℕ) (Gives : Option Ends → Type 0) (target : Target)
     (status : ExitStatus) (desk desk' : Desk) : Type 0 where
   pub messages : List IpcMessage
-  pub reads : ReadsMessages (λ (messages : List IpcMessage). messages) (Ok messages) old new
+  pub rest : List ℕ
+  pub framed : Framed bytes messages rest
   pub puts : Connects Gives (Calls DoPut (put_payloads target messages) (AnswersOne ReadsCount))
-      (Tells count_line) status desk desk'
+      (Tells (put_hint target.table.now target.mode (length messages == 0)) count_line)
+      status desk desk'
+
+-- bytes are put, or no connection is made
+abbrev pub PutsBytes : List ℕ → Type 0 → (Option Ends → Type 0) → Target → ExitStatus → Desk →
+    Desk → Type 0
+PutsBytes bytes untouched Gives target status desk desk' =
+    (untouched × IsUnput bytes status desk desk') ⊎ IsPut bytes Gives target status desk desk'
 
 abbrev pub Puts : Source → Source → Type 0 → (Option Ends → Type 0) → Target → ExitStatus → Desk →
     Desk → Type 0
 Puts old new untouched Gives target status desk desk' =
-    IsUnread old new untouched status desk desk' ⊎ IsPut old new Gives target status desk desk'
+    IsUnread old new untouched status desk desk'
+    ⊎ ((bytes : List ℕ) × ReadsWhole (Ok bytes) old new
+    × PutsBytes bytes untouched Gives target status desk desk')
 
 -- ---- put of CSV
 
@@ -139,7 +157,8 @@ pub record IsPutCsv (form : Form) (old new : Source) (Gives : Option Ends → Ty
   pub text : TextAt
   pub middle : Said
   pub reads : ReadsCsv form (λ (text : TextAt). text) (Ok text) old new desk.faults middle
-  pub puts : Connects Gives (PutsRows target text) (Tells count_line) status
+  pub puts : Connects Gives (PutsRows target text)
+      (Tells (put_hint target.table.now target.mode false) count_line) status
       (desk_of desk.out middle) desk'
 
 abbrev pub PutsCsv : Form → Source → Source → Type 0 → (Option Ends → Type 0) → Target →

@@ -1,27 +1,30 @@
 //! `flightscan put`: an Arrow IPC stream, or CSV, into a table.
 
-ghost use Rattle.std.specs.Prelude.{◌≡◌};
+ghost use Rattle.std.specs.Prelude.{◌≡◌, ◌==◌, false, length};
 ghost use Rattle.grpc_frame.specs.Ends.{CanFail};
 ghost use Rattle.client_calls.specs.declared.call.Method.TheVariants.{DoPut};
 ghost use Rattle.client_calls.specs.Answers.{AnswersOne};
 ghost use Rattle.client_calls.specs.Commands.{ReadsCount, put_payloads};
 ghost use Rattle.client_calls.specs.Outcome.{Calls};
 ghost use Rattle.command_ends.specs.Printing.{count_line, said_of};
+ghost use Rattle.fault_hints.specs.Hints.{hint_of, put_hint};
 ghost use Rattle.command_ends.specs.WholeInput.{source_of};
 ghost use Rattle.client_commands.specs.CallOutcome.{Tells};
-ghost use Rattle.client_commands.specs.Commands.{Connects, Puts, PutsCsv, desk_of};
+ghost use Rattle.client_commands.specs.Commands.{Connects, Puts, PutsBytes, PutsCsv, desk_of};
 ghost use Rattle.client_commands.specs.RowsPut.{PutsRows};
 ghost use Rattle.csv_input.specs.Input.{form_of};
 
-use crate::call_outcome::{end_by_failure, end_by_printing};
+use crate::call_outcome::{end_by_failure, end_by_printing, print_explained};
 use crate::connecting::{end_unconnected, open};
 use crate::rows_put::put_rows;
+use bytes::Bytes;
 use client_calls::{Failure, Target};
-use command_ends::{Connect, ExitStatus, end_by_cause, end_by_fault, print_count, read_messages};
+use command_ends::{Connect, ExitStatus, end_by_cause, end_by_fault, print_count, read_whole};
 use command_line::CsvForm;
 use csv_input::{CsvText, read_csv};
+use fault_hints::{Asked, input_line};
 use grpc_frame::{Input, Output};
-use ipc_stream::IpcMessage;
+use ipc_stream::{IpcMessage, ipc_messages};
 use scan_base::Fault;
 use std::alloc::Global;
 
@@ -36,7 +39,7 @@ pub struct PutCommand<'a> {
 
 /// Puts the Arrow IPC stream that the whole input is into a table, and prints how many rows were
 /// put. The input is read and cut before a connection is made. A fault is printed on `faults` in a
-/// line, as far as that takes it; where the input or the network failed, a second line says so.
+/// line, as far as that takes it, and lines after it say more.
 pub fn put<C: Connect, I: Input, W: Output, E: Output>(
     alloc: Global,
     network: &mut C,
@@ -59,9 +62,36 @@ pub fn put<C: Connect, I: Input, W: Output, E: Output>(
         (desk_of (said_of W.Output output.old) (said_of E.Output faults.old))
         (desk_of (said_of W.Output output.new) (said_of E.Output faults.new)) }
 {
-    match read_messages(alloc, input) {
-        Ok(messages) => put_messages(alloc, network, output, faults, putting, &messages),
+    match read_whole(alloc, input) {
+        Ok(stream) => put_bytes(alloc, network, output, faults, putting, &stream),
         Err(Fault::Transport) => end_by_cause(faults, "cannot read the input"),
+        Err(fault) => end_by_fault(faults, fault),
+    }
+}
+
+// Puts the Arrow IPC stream that bytes are.
+fn put_bytes<C: Connect, W: Output, E: Output>(
+    alloc: Global,
+    network: &mut C,
+    output: &mut W,
+    faults: &mut E,
+    putting: PutCommand<'_>,
+    stream: &Bytes,
+) -> ExitStatus
+    requires writes { CanFail (W.failures output.old) }
+    requires prints { CanFail (E.failures faults.old) }
+    ensures { PutsBytes stream.now (network.new ≡ network.old)
+        (λ ends. C.connects network.old putting.entry.port ends network.new)
+        putting.entry.target result
+        (desk_of (said_of W.Output output.old) (said_of E.Output faults.old))
+        (desk_of (said_of W.Output output.new) (said_of E.Output faults.new)) }
+{
+    match ipc_messages(alloc, stream) {
+        Ok(messages) => put_messages(alloc, network, output, faults, putting, &messages),
+        Err(Fault::BadFlatbuffer) => {
+            print_explained(faults, Fault::BadFlatbuffer, input_line(stream.as_slice()));
+            ExitStatus::FaultAtThisEnd
+        }
         Err(fault) => end_by_fault(faults, fault),
     }
 }
@@ -118,7 +148,8 @@ fn put_text<C: Connect, W: Output, E: Output>(
     requires writes { CanFail (W.failures output.old) }
     requires prints { CanFail (E.failures faults.old) }
     ensures { Connects (λ ends. C.connects network.old putting.entry.port ends network.new)
-        (PutsRows putting.entry.target text.now) (Tells count_line) result
+        (PutsRows putting.entry.target text.now) (Tells (put_hint putting.entry.target.table.now
+        putting.entry.target.mode false) count_line) result
         (desk_of (said_of W.Output output.old) (said_of E.Output faults.old))
         (desk_of (said_of W.Output output.new) (said_of E.Output faults.new)) }
 {
@@ -127,7 +158,8 @@ fn put_text<C: Connect, W: Output, E: Output>(
         Err(error) => return end_unconnected(alloc, faults, putting.port, &error),
     };
     let counted = put_rows(alloc, connection, putting.target, text);
-    tell_count(alloc, output, faults, counted)
+    let asked = Asked::Put(putting.target.table, putting.target.mode, false);
+    tell_count(alloc, output, faults, counted, asked)
 }
 
 // Puts these messages over a connection.
@@ -143,7 +175,8 @@ fn put_messages<C: Connect, W: Output, E: Output>(
     requires prints { CanFail (E.failures faults.old) }
     ensures { Connects (λ ends. C.connects network.old putting.entry.port ends network.new)
         (Calls DoPut (put_payloads putting.entry.target messages.now) (AnswersOne ReadsCount))
-        (Tells count_line) result
+        (Tells (put_hint putting.entry.target.table.now putting.entry.target.mode
+        (length messages.now == 0)) count_line) result
         (desk_of (said_of W.Output output.old) (said_of E.Output faults.old))
         (desk_of (said_of W.Output output.new) (said_of E.Output faults.new)) }
 {
@@ -152,7 +185,12 @@ fn put_messages<C: Connect, W: Output, E: Output>(
         Err(error) => return end_unconnected(alloc, faults, putting.port, &error),
     };
     let counted = client_calls::put(alloc, &mut connection, putting.target, messages);
-    tell_count(alloc, output, faults, counted)
+    let asked = Asked::Put(
+        putting.target.table,
+        putting.target.mode,
+        messages.is_empty(),
+    );
+    tell_count(alloc, output, faults, counted, asked)
 }
 
 // Tells how many rows were put, or why none were.
@@ -161,10 +199,11 @@ fn tell_count<W: Output, E: Output>(
     output: &mut W,
     faults: &mut E,
     counted: Result<u64, Failure>,
+    asked: Asked<'_>,
 ) -> ExitStatus
     requires writes { CanFail (W.failures output.old) }
     requires prints { CanFail (E.failures faults.old) }
-    ensures { Tells count_line counted result
+    ensures { Tells (hint_of asked.entry) count_line counted result
         (said_of W.Output output.old) (said_of W.Output output.new)
         (said_of E.Output faults.old) (said_of E.Output faults.new) }
 {
@@ -173,6 +212,6 @@ fn tell_count<W: Output, E: Output>(
             let printed = print_count(alloc, output, rows);
             end_by_printing(faults, printed)
         }
-        Err(failure) => end_by_failure(faults, failure),
+        Err(failure) => end_by_failure(alloc, faults, failure, asked),
     }
 }

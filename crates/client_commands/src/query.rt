@@ -2,6 +2,7 @@
 
 ghost use Rattle.grpc_frame.specs.Ends.{CanFail};
 ghost use Rattle.command_ends.specs.Printing.{said_of};
+ghost use Rattle.fault_hints.specs.Hints.{query_hint};
 ghost use Rattle.client_commands.specs.Commands.{desk_of};
 ghost use Rattle.client_commands.specs.Queries.{Queries};
 ghost use Rattle.client_commands.specs.inside.Turns.{TellsStreamed};
@@ -15,6 +16,7 @@ use crate::table_rows::TableWriter;
 use crate::text_rows::{LineText, RecordText, TextWriter};
 use command_ends::{Connect, ExitStatus};
 use command_line::Format;
+use fault_hints::Asked;
 use grpc_frame::Output;
 use row_stream::StreamWriter;
 use scan_base::HashSeed;
@@ -45,8 +47,8 @@ pub struct QueryCommand<'a> {
 /// of one is printed, the next one is made and its first stream is begun, in a thread of its own.
 /// Where the network gives none, it is asked once more after the endpoints before.
 ///
-/// A fault is printed on `faults` in a line, as far as that takes it; where no connection was made,
-/// a second line says so. What was printed before it stays.
+/// A fault is printed on `faults` in a line, as far as that takes it, and lines after it say more.
+/// What was printed before it stays.
 pub fn query<T: Threads, C: Connect + Drop + Send, W: Output, E: Output>(
     rt: &T,
     alloc: Global,
@@ -109,23 +111,27 @@ where
         Err(error) => return end_unconnected(alloc, faults, query.port, &error),
     };
     let streamed = stream_rows::<_, _, _, F>(rt, alloc, network, connection, output, query);
-    end_by_streaming(alloc, faults, query.port, streamed)
+    end_by_streaming(alloc, faults, query, streamed)
 }
 
 // Tells why rows were not written whole, if so.
 fn end_by_streaming<E: Output>(
     alloc: Global,
     faults: &mut E,
-    port: u16,
+    query: QueryCommand<'_>,
     streamed: Result<(), FetchFailure>,
 ) -> ExitStatus
     requires { CanFail (E.failures faults.old) }
-    ensures { TellsStreamed streamed result (said_of E.Output faults.old)
-        (said_of E.Output faults.new) }
+    ensures { TellsStreamed (query_hint query.entry.sql.now) streamed result
+        (said_of E.Output faults.old) (said_of E.Output faults.new) }
 {
     match streamed {
         Ok(()) => ExitStatus::Done,
-        Err(FetchFailure::Failed(failure)) => end_by_failure(faults, failure),
-        Err(FetchFailure::Unconnected(error)) => end_unconnected(alloc, faults, port, &error),
+        Err(FetchFailure::Failed(failure)) => {
+            end_by_failure(alloc, faults, failure, Asked::Rows(query.sql))
+        }
+        Err(FetchFailure::Unconnected(error)) => {
+            end_unconnected(alloc, faults, query.port, &error)
+        }
     }
 }

@@ -30,8 +30,8 @@ call_line _ = []
 abbrev pub query_limit : List ℕ → List ℕ
 query_limit sql =
     if nat_lt most_query_bytes (length sql) then
-      codes "the query has " ++ (decimal (length sql)
-        ++ codes " bytes, and at most 16384 are taken\n")
+    codes "the query has " ++ (decimal (length sql)
+    ++ codes " bytes, and at most 16384 are taken\n")
     else codes "a query has at most 4 tables, 64 items and names of 64 bytes, an IN 256 values\n"
 
 -- what is said of a query's fault whatever the query is
@@ -42,7 +42,10 @@ query_line TypeClash =
     codes "compare numbers with numbers, 'texts' with texts, DATE '2026-11-28' with dates\n"
 query_line BadTicket = codes "the tables are no longer those of the query: ask again\n"
 query_line VersionExpired = codes "the tables of the query have expired: ask again\n"
-query_line ResultTooLarge = codes "67108864 rows are the most: select fewer, or serve with more --parts\n"
+query_line ResultTooLarge =
+    codes "67108864 rows are the most: select fewer, or serve with more --parts\n"
+query_line Transport =
+    codes "the connection or the output failed; `head` ends the output early\n"
 query_line fault = call_line fault
 
 -- of a query: the place in it, or what it has that is left out
@@ -58,8 +61,8 @@ query_hint sql fault = query_line fault
 abbrev pub put_limit : List ℕ → List ℕ
 put_limit table =
     if (length table == 0) || nat_lt most_name_bytes (length table) then
-      codes "a table's name has 1 to 64 bytes\n"
-    else codes "64 columns, 64 bytes of a name, 65536 of a text, 16777216 rows, 256 tables are the most\n"
+    codes "a table's name has 1 to 64 bytes\n"
+    else codes "the most: 64 columns, 64 bytes a name, 65536 a text, 16777216 rows, 256 tables\n"
 
 -- which schemas differ
 abbrev pub schema_line : PutMode → List ℕ
@@ -70,11 +73,13 @@ schema_line mode = codes "two columns have one name\n"
 -- what is wrong with what is put
 abbrev pub batch_line : Bool → List ℕ
 batch_line true = codes "the input is empty\n"
-batch_line false = codes "a column without nulls has one, or a batch is not as Arrow's layout says\n"
+batch_line false =
+    codes "a column without nulls has one, or a batch is not as Arrow's layout says\n"
 
 -- what is said of a put's fault whatever is put
 abbrev pub put_line : Fault → List ℕ
-put_line MessageTooLarge = codes "a batch has more than 16777216 bytes: write batches of 65536 rows\n"
+put_line MessageTooLarge =
+    codes "a batch has more than 16777216 bytes: write batches of 65536 rows\n"
 put_line UnsupportedArrow = codes "a column has a type that is not taken, or is compressed\n"
 put_line TableMissing = codes "no table has this name: --mode create makes it\n"
 put_line TableExists = codes "--mode append adds to the table, and --mode replace replaces it\n"

@@ -21,19 +21,19 @@ is_text (b ∷ bytes) = begins_text b
 unfoldable pub input_line : List ℕ → List ℕ
 input_line input =
     if begins_with input (codes "PAR1") then
-      codes "the input is a Parquet file: write it as an Arrow IPC stream\n" else
+    codes "the input is a Parquet file: write it as an Arrow IPC stream\n" else
     if begins_with input (codes "ARROW1") then
-      codes "the input is an Arrow file, as Feather has it: write it as an Arrow IPC stream\n" else
+    codes "the input is an Arrow file, as Feather has it: write it as an Arrow IPC stream\n" else
     if begins_with input (codes "FEA1") then
-      codes "the input is an old Feather file: write it as an Arrow IPC stream\n" else
+    codes "the input is an old Feather file: write it as an Arrow IPC stream\n" else
     if begins_with input (31 ∷ 139 ∷ []) then
-      codes "the input is compressed by gzip: pipe it through gunzip\n" else
+    codes "the input is compressed by gzip: pipe it through gunzip\n" else
     if begins_with input (40 ∷ 181 ∷ 47 ∷ 253 ∷ []) then
-      codes "the input is compressed by zstd: pipe it through unzstd\n" else
+    codes "the input is compressed by zstd: pipe it through unzstd\n" else
     if begins_with input (codes "PK") then
-      codes "the input is a zip archive, as a spreadsheet is: write it as CSV\n" else
+    codes "the input is a zip archive, as a spreadsheet is: write it as CSV\n" else
     if begins_with input (codes "{") || begins_with input (codes "[") then
-      codes "the input is JSON: write it as CSV or as an Arrow IPC stream\n" else
+    codes "the input is JSON: write it as CSV or as an Arrow IPC stream\n" else
     if is_text input then
-      codes "the input is text: CSV is put with --format csv\n"
+    codes "the input is text: CSV is put with --format csv\n"
     else codes "the input is no Arrow IPC stream, or is cut short\n"

@@ -81,7 +81,8 @@ joins _ = false
 -- the rule that a whole query breaks
 abbrev pub broken_rule : Bool → Bool → List ℕ
 broken_rule true true = codes "a query with JOIN has no GROUP BY, COUNT or SUM\n"
-broken_rule true false = codes "with groups or aggregates, select only columns of GROUP BY, and no *\n"
+broken_rule true false =
+    codes "with groups or aggregates, select only columns of GROUP BY, and no *\n"
 broken_rule false other = codes "ON compares a column of its table with one of an earlier table\n"
 
 -- ---- the lines
@@ -95,7 +96,8 @@ is_word _ = false
 -- what is said of a token that is left out
 abbrev pub token_line : TokenKind → List ℕ → List ℕ
 token_line kind text =
-    if is_word kind then codes "left out: " ++ text ++ codes "; as a name: \"" ++ text ++ codes "\"\n"
+    if is_word kind then
+    codes "left out: " ++ text ++ codes "; as a name: \"" ++ text ++ codes "\"\n"
     else codes "left out: " ++ text ++ codes "\n"
 
 -- the token that is left out, or the rule that is broken
@@ -107,7 +109,8 @@ lines_for sql tokens None =
 
 -- the lines for tokens
 abbrev pub lines_of : List ℕ → Result (List Lexeme) Fault → List ℕ
-lines_of sql (Ok tokens) = lines_for sql tokens (first_left_out (kind.Symbol symbol.Semicolon) tokens)
+lines_of sql (Ok tokens) =
+    lines_for sql tokens (first_left_out (kind.Symbol symbol.Semicolon) tokens)
 lines_of sql (Err fault) = []
 
 -- what is said of a query that this server leaves out

@@ -46,9 +46,7 @@ fn query_line(fault: Fault) -> &'static [u8]
 {
     match fault {
         Fault::TableMissing => b"`flightscan tables` prints the names; their case counts\n",
-        Fault::UnknownName => {
-            b"a name stands for no column, or for several; its case counts\n"
-        }
+        Fault::UnknownName => { b"a name stands for no column, or for several; its case counts\n" }
         Fault::TypeClash => {
             b"compare numbers with numbers, 'texts' with texts, DATE '2026-11-28' with dates\n"
         }
@@ -56,6 +54,9 @@ fn query_line(fault: Fault) -> &'static [u8]
         Fault::VersionExpired => b"the tables of the query have expired: ask again\n",
         Fault::ResultTooLarge => {
             b"67108864 rows are the most: select fewer, or serve with more --parts\n"
+        }
+        Fault::Transport => {
+            b"the connection or the output failed; `head` ends the output early\n"
         }
         _ => call_line(fault),
     }
@@ -80,7 +81,7 @@ fn put_limit(table: &str) -> &'static [u8]
     if table.is_empty() || table.len() > MOST_NAME_BYTES {
         return b"a table's name has 1 to 64 bytes\n";
     }
-    b"64 columns, 64 bytes of a name, 65536 of a text, 16777216 rows, 256 tables are the most\n"
+    b"the most: 64 columns, 64 bytes a name, 65536 a text, 16777216 rows, 256 tables\n"
 }
 
 // Which schemas differ.

@@ -136,7 +136,8 @@ fn rule(groups: bool, joined: bool) -> &'static [u8]
 
 // What is said of a token that is left out.
 fn token_line(alloc: Global, token: Token<'_>) -> Result<String, AllocError>
-    ensures { IfOk result (λ line. string_bytes line ≡ token_line token.entry.kind token.entry.text.now) }
+    ensures { IfOk result
+        (λ line. string_bytes line ≡ token_line token.entry.kind token.entry.text.now) }
 {
     let text = token.text;
     if is_word(token.kind) {
