@@ -8,4 +8,5 @@ pub mod Spread
 pub mod InTurn
 pub mod Listing
 pub mod Listed
+pub mod Quoting
 pub mod RowsSent

@@ -10,7 +10,8 @@ ghost use Rattle.command_ends.specs.Printing.{count_line, said_of};
 ghost use Rattle.fault_hints.specs.Hints.{hint_of, put_hint};
 ghost use Rattle.command_ends.specs.WholeInput.{source_of};
 ghost use Rattle.client_commands.specs.CallOutcome.{Tells};
-ghost use Rattle.client_commands.specs.Commands.{Connects, Puts, PutsBytes, PutsCsv, desk_of};
+ghost use Rattle.client_commands.specs.Commands.{Connects, desk_of};
+ghost use Rattle.client_commands.specs.Puts.{Puts, PutsBytes, PutsCsv};
 ghost use Rattle.client_commands.specs.RowsPut.{PutsRows};
 ghost use Rattle.csv_input.specs.Input.{form_of};
 

@@ -13,6 +13,7 @@ ghost use Rattle.flightscan.specs.ServerRequests.{ServesClients, ServesWith, pip
 ghost use Rattle.flightscan.specs.Running.{standard_of};
 
 use client_calls::Target;
+use client_commands::describe::describe;
 use client_commands::expire::expire;
 use client_commands::put::{CsvPutting, PutCommand, put, put_csv};
 use client_commands::query::{QueryCommand, query};
@@ -283,6 +284,10 @@ where
         Request::Tables { port } => {
             let (output, faults) = (&mut streams.output, &mut streams.faults);
             tables(machine.alloc, connector, output, faults, port)
+        }
+        Request::Describe { port, table } => {
+            let (output, faults) = (&mut streams.output, &mut streams.faults);
+            describe(machine.alloc, connector, output, faults, port, table)
         }
         Request::Expire { port, version } => {
             let (output, faults) = (&mut streams.output, &mut streams.faults);
