@@ -15,12 +15,14 @@ ghost use Rattle.client_commands.specs.Puts.{Puts, PutsBytes, PutsCsv};
 ghost use Rattle.client_commands.specs.RowsPut.{PutsRows};
 ghost use Rattle.csv_input.specs.Input.{form_of};
 
-use crate::call_outcome::{end_by_failure, end_by_printing, print_explained};
+use crate::call_outcome::{end_by_failure, end_by_printing};
 use crate::connecting::{end_unconnected, open};
 use crate::rows_put::put_rows;
 use bytes::Bytes;
 use client_calls::{Failure, Target};
-use command_ends::{Connect, ExitStatus, end_by_cause, end_by_fault, print_count, read_whole};
+use command_ends::{
+    Connect, ExitStatus, end_by_cause, end_by_fault, print_count, print_fault, read_whole,
+};
 use command_line::CsvForm;
 use csv_input::{CsvText, read_csv};
 use fault_hints::{Asked, input_line};
@@ -90,7 +92,7 @@ fn put_bytes<C: Connect, W: Output, E: Output>(
     match ipc_messages(alloc, stream) {
         Ok(messages) => put_messages(alloc, network, output, faults, putting, &messages),
         Err(Fault::BadFlatbuffer) => {
-            print_explained(faults, Fault::BadFlatbuffer, input_line(stream.as_slice()));
+            print_fault(faults, Fault::BadFlatbuffer, input_line(stream.as_slice()));
             ExitStatus::FaultAtThisEnd
         }
         Err(fault) => end_by_fault(faults, fault),

@@ -1,5 +1,0 @@
-use Rattle.command_ends.proofs.Saying.{printed}
-use Rattle.client_commands.proofs.call_outcome.print_explained.Goals as goal
-
-pub returns : goal.returns
-returns g c = printed _ _ _ _ c.write_explained.ensures.bytes c.write_explained.ensures.counted
