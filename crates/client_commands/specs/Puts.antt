@@ -1,5 +1,5 @@
 -- What `put` does.
-use Rattle.std.specs.Prelude.{◌≡◌, ◌⊎◌, ℕ, ◌==◌, false, List, ◌++◌, length, Option, Result, Ok, Err}
+use Rattle.std.specs.Prelude.{◌≡◌, ◌⊎◌, ℕ, List, [], ◌∷◌, ◌++◌, Option, Some, None, Result, Ok, Err}
 use Rattle.std.specs.Prelude.{codes}
 use Rattle.scan_base.specs.declared.fault.Fault.{Fault}
 use Rattle.scan_base.specs.declared.fault.Fault.TheVariants.{BadFlatbuffer, OutOfMemory, Transport}
@@ -42,6 +42,11 @@ IsUnput bytes status desk desk' =
     ((¬ IsStream bytes) × EndsBy (fault_line BadFlatbuffer ++ input_line bytes) status desk desk')
     ⊎ EndsBy (fault_line OutOfMemory) status desk desk'
 
+-- the header of the first message
+abbrev pub first_header : List IpcMessage → Option (List ℕ)
+first_header [] = None
+first_header (message ∷ messages) = Some message.header
+
 -- bytes are the stream of these messages, which are put, and the line of their count is printed
 pub record IsPut (bytes : List ℕ) (Gives : Option Ends → Type 0) (target : Target)
     (status : ExitStatus) (desk desk' : Desk) : Type 0 where
@@ -49,7 +54,7 @@ pub record IsPut (bytes : List ℕ) (Gives : Option Ends → Type 0) (target : T
   pub rest : List ℕ
   pub framed : Framed bytes messages rest
   pub puts : Connects Gives (Calls DoPut (put_payloads target messages) (AnswersOne ReadsCount))
-      (Tells (put_hint target.table.now target.mode (length messages == 0)) count_line)
+      (Tells (put_hint target.table.now target.mode (first_header messages)) count_line)
       status desk desk'
 
 -- bytes are put, or no connection is made
@@ -83,7 +88,7 @@ pub record IsPutCsv (form : Form) (old new : Source) (Gives : Option Ends → Ty
   pub middle : Said
   pub reads : ReadsCsv form (λ (text : TextAt). text) (Ok text) old new desk.faults middle
   pub puts : Connects Gives (PutsRows target text)
-      (Tells (put_hint target.table.now target.mode false) count_line) status
+      (Tells (put_hint target.table.now target.mode (Some [])) count_line) status
       (desk_of desk.out middle) desk'
 
 abbrev pub PutsCsv : Form → Source → Source → Type 0 → (Option Ends → Type 0) → Target →

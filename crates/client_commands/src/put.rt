@@ -1,6 +1,7 @@
 //! `flightscan put`: an Arrow IPC stream, or CSV, into a table.
 
-ghost use Rattle.std.specs.Prelude.{◌≡◌, ◌==◌, false, length};
+ghost use Rattle.std.specs.Prelude.{◌≡◌, ℕ, List, [], Some, option_map};
+ghost use Rattle.std.specs.Borrow.{Bor};
 ghost use Rattle.grpc_frame.specs.Ends.{CanFail};
 ghost use Rattle.client_calls.specs.declared.call.Method.TheVariants.{DoPut};
 ghost use Rattle.client_calls.specs.Answers.{AnswersOne};
@@ -11,7 +12,7 @@ ghost use Rattle.fault_hints.specs.Hints.{hint_of, put_hint};
 ghost use Rattle.command_ends.specs.WholeInput.{source_of};
 ghost use Rattle.client_commands.specs.CallOutcome.{Tells};
 ghost use Rattle.client_commands.specs.Commands.{Connects, desk_of};
-ghost use Rattle.client_commands.specs.Puts.{Puts, PutsBytes, PutsCsv};
+ghost use Rattle.client_commands.specs.Puts.{Puts, PutsBytes, PutsCsv, first_header};
 ghost use Rattle.client_commands.specs.RowsPut.{PutsRows};
 ghost use Rattle.csv_input.specs.Input.{form_of};
 
@@ -152,7 +153,7 @@ fn put_text<C: Connect, W: Output, E: Output>(
     requires prints { CanFail (E.failures faults.old) }
     ensures { Connects (λ ends. C.connects network.old putting.entry.port ends network.new)
         (PutsRows putting.entry.target text.now) (Tells (put_hint putting.entry.target.table.now
-        putting.entry.target.mode false) count_line) result
+        putting.entry.target.mode (Some [])) count_line) result
         (desk_of (said_of W.Output output.old) (said_of E.Output faults.old))
         (desk_of (said_of W.Output output.new) (said_of E.Output faults.new)) }
 {
@@ -161,7 +162,7 @@ fn put_text<C: Connect, W: Output, E: Output>(
         Err(error) => return end_unconnected(alloc, faults, putting.port, &error),
     };
     let counted = put_rows(alloc, connection, putting.target, text);
-    let asked = Asked::Put(putting.target.table, putting.target.mode, false);
+    let asked = Asked::Put(putting.target.table, putting.target.mode, Some(&[]));
     tell_count(alloc, output, faults, counted, asked)
 }
 
@@ -179,7 +180,7 @@ fn put_messages<C: Connect, W: Output, E: Output>(
     ensures { Connects (λ ends. C.connects network.old putting.entry.port ends network.new)
         (Calls DoPut (put_payloads putting.entry.target messages.now) (AnswersOne ReadsCount))
         (Tells (put_hint putting.entry.target.table.now putting.entry.target.mode
-        (length messages.now == 0)) count_line) result
+        (first_header messages.now)) count_line) result
         (desk_of (said_of W.Output output.old) (said_of E.Output faults.old))
         (desk_of (said_of W.Output output.new) (said_of E.Output faults.new)) }
 {
@@ -191,9 +192,20 @@ fn put_messages<C: Connect, W: Output, E: Output>(
     let asked = Asked::Put(
         putting.target.table,
         putting.target.mode,
-        messages.is_empty(),
+        first_header(messages),
     );
     tell_count(alloc, output, faults, counted, asked)
+}
+
+// The header of the first message.
+fn first_header(messages: &[IpcMessage]) -> Option<&[u8]>
+    ensures { option_map (λ (bytes : Bor (List ℕ)). bytes.now) result
+        ≡ first_header messages.now }
+{
+    match messages {
+        [] => None,
+        [first, ..] => Some(first.header.as_slice()),
+    }
 }
 
 // Tells how many rows were put, or why none were.

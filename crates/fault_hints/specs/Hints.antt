@@ -1,6 +1,7 @@
 -- What a client says of a fault on the lines after the fault's own, from what it has itself.
-use Rattle.std.specs.Prelude.{ℕ, ◌==◌, ◌||◌, Bool, true, false, nat_lt, List, [], ◌++◌, length}
-use Rattle.std.specs.Prelude.{codes, if◌then◌else◌}
+use Rattle.std.specs.Prelude.{ℕ, ◌==◌, ◌||◌, nat_lt, List, [], ◌++◌, length, Option, Some, None}
+use Rattle.std.specs.Prelude.{codes, option_map, if◌then◌else◌}
+use Rattle.std.specs.Borrow.{Bor}
 use Rattle.std.specs.Fmt.{decimal}
 use Rattle.scan_base.specs.Limits.{most_name_bytes, most_query_bytes}
 use Rattle.scan_base.specs.declared.fault.Fault.{Fault}
@@ -71,9 +72,9 @@ schema_line Append =
 schema_line mode = codes "two columns have one name\n"
 
 -- what is wrong with what is put
-abbrev pub batch_line : Bool → List ℕ
-batch_line true = codes "the input is empty\n"
-batch_line false =
+abbrev pub batch_line : Option (List ℕ) → List ℕ
+batch_line None = codes "the input is empty\n"
+batch_line (Some header) =
     codes "a column without nulls has one, or a batch is not as Arrow's layout says\n"
 
 -- what is said of a put's fault whatever is put
@@ -85,12 +86,12 @@ put_line TableMissing = codes "no table has this name: --mode create makes it\n"
 put_line TableExists = codes "--mode append adds to the table, and --mode replace replaces it\n"
 put_line fault = call_line fault
 
--- of a put into a table by a mode, of a stream that may be empty
-abbrev pub put_hint : List ℕ → PutMode → Bool → Fault → List ℕ
-put_hint table mode empty BadBatch = batch_line empty
-put_hint table mode empty SchemaMismatch = schema_line mode
-put_hint table mode empty LimitReached = put_limit table
-put_hint table mode empty fault = put_line fault
+-- of a put into a table by a mode, of a stream whose first message has this header
+abbrev pub put_hint : List ℕ → PutMode → Option (List ℕ) → Fault → List ℕ
+put_hint table mode header BadBatch = batch_line header
+put_hint table mode header SchemaMismatch = schema_line mode
+put_hint table mode header LimitReached = put_limit table
+put_hint table mode header fault = put_line fault
 
 -- ---- all
 
@@ -102,6 +103,7 @@ expiry_hint fault = call_line fault
 -- what is said of a fault of what was asked
 abbrev pub hint_of : Asked → Fault → List ℕ
 hint_of (Rows sql) fault = query_hint sql.now fault
-hint_of (Put table mode empty) fault = put_hint table.now mode empty fault
+hint_of (Put table mode header) fault =
+    put_hint table.now mode (option_map (λ (bytes : Bor (List ℕ)). bytes.now) header) fault
 hint_of Names fault = call_line fault
 hint_of Expiry fault = expiry_hint fault

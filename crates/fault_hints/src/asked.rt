@@ -7,8 +7,9 @@ use scan_base::PutMode;
 pub enum Asked<'a> {
     /// The rows of a query.
     Rows(&'a str),
-    /// A put into the table of this name, by a mode, of a stream that may be empty.
-    Put(&'a str, PutMode, bool),
+    /// A put into the table of this name, by a mode, of a stream whose first message has this
+    /// header; none, where the stream is empty.
+    Put(&'a str, PutMode, Option<&'a [u8]>),
     /// The names of the tables.
     Names,
     /// An expiry.

@@ -1,6 +1,7 @@
 //! What a client says of a fault on the lines after the fault's own.
 
-ghost use Rattle.std.specs.Prelude.{◌≡◌, IfOk, string_bytes};
+ghost use Rattle.std.specs.Prelude.{◌≡◌, ℕ, List, IfOk, option_map};
+ghost use Rattle.std.specs.Borrow.{Bor};
 ghost use Rattle.fault_hints.specs.Hints.{batch_line, call_line, expiry_hint, hint_of, put_hint};
 ghost use Rattle.fault_hints.specs.Hints.{put_limit, put_line, query_hint, query_limit, query_line};
 ghost use Rattle.fault_hints.specs.Hints.{schema_line};
@@ -97,13 +98,13 @@ fn schema_line(mode: PutMode) -> &'static [u8]
 }
 
 // What is wrong with what is put.
-fn batch_line(empty: bool) -> &'static [u8]
-    ensures { result.now ≡ batch_line empty }
+fn batch_line(header: Option<&[u8]>) -> &'static [u8]
+    ensures { result.now ≡ batch_line (option_map (λ (bytes : Bor (List ℕ)). bytes.now) header.entry) }
 {
-    if empty {
-        return b"the input is empty\n";
+    match header {
+        None => b"the input is empty\n",
+        Some(_) => b"a column without nulls has one, or a batch is not as Arrow's layout says\n",
     }
-    b"a column without nulls has one, or a batch is not as Arrow's layout says\n"
 }
 
 // What is said of a put's fault whatever is put.
@@ -123,12 +124,13 @@ fn put_line(fault: Fault) -> &'static [u8]
     }
 }
 
-// Of a put into a table by a mode, of a stream that may be empty.
-fn put_hint(table: &str, mode: PutMode, empty: bool, fault: Fault) -> &'static [u8]
-    ensures { result.now ≡ put_hint table.now mode empty fault }
+// Of a put into a table by a mode, of a stream whose first message has this header.
+fn put_hint(table: &str, mode: PutMode, header: Option<&[u8]>, fault: Fault) -> &'static [u8]
+    ensures { result.now ≡ put_hint table.now mode
+        (option_map (λ (bytes : Bor (List ℕ)). bytes.now) header.entry) fault }
 {
     match fault {
-        Fault::BadBatch => batch_line(empty),
+        Fault::BadBatch => batch_line(header),
         Fault::SchemaMismatch => schema_line(mode),
         Fault::LimitReached => put_limit(table),
         _ => put_line(fault),
@@ -155,8 +157,8 @@ pub fn hint(alloc: Global, asked: Asked<'_>, fault: Fault) -> Result<Vec<u8>, Al
 {
     match asked {
         Asked::Rows(sql) => query_hint(alloc, sql, fault),
-        Asked::Put(table, mode, empty) => {
-            Vec::from_slice(alloc, put_hint(table, mode, empty, fault))
+        Asked::Put(table, mode, header) => {
+            Vec::from_slice(alloc, put_hint(table, mode, header, fault))
         }
         Asked::Names => Vec::from_slice(alloc, call_line(fault)),
         Asked::Expiry => Vec::from_slice(alloc, expiry_hint(fault)),
