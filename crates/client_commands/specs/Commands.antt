@@ -102,7 +102,8 @@ columns_query table =
 abbrev pub FetchesColumns : {A : Type 0} → (A → List ℕ) → InfoCommand → Result A Failure → Line →
     Line → Type 0
 FetchesColumns view wanted (Ok text) old new =
-    (rows : Table) × Fetches wanted (Ok rows) old new × (view text ≡ columns_line rows.schema.fields)
+    (rows : Table) × Fetches wanted (Ok rows) old new
+    × (view text ≡ columns_line rows.schema.fields)
 FetchesColumns view wanted (Err failure) old new =
     Fetches wanted (Err failure) old new
     ⊎ ((rows : Table) × Fetches wanted (Ok rows) old new × (failure ≡ Found OutOfMemory))

@@ -7,7 +7,7 @@ ghost use Rattle.client_commands.specs.CallOutcome.{Explains, TellsFailure, Tell
 
 use client_calls::Failure;
 use command_ends::{ExitStatus, end_by_cause, print_fault};
-use fault_hints::{Asked, hint};
+use fault_hints::{Question, hint};
 use grpc_frame::Output;
 use scan_base::Fault;
 use std::alloc::{AllocError, Global};
@@ -17,19 +17,19 @@ pub(crate) fn end_by_failure<E: Output>(
     alloc: Global,
     faults: &mut E,
     failure: Failure,
-    asked: Asked<'_>,
+    question: Question<'_>,
 ) -> ExitStatus
     requires { CanFail (E.failures faults.old) }
-    ensures { TellsFailure (hint_of asked.entry) failure result
+    ensures { TellsFailure (hint_of question.entry) failure result
         (said_of E.Output faults.old) (said_of E.Output faults.new) }
 {
     match failure {
         Failure::Answered(fault) => {
-            explain(alloc, faults, fault, asked);
+            explain(alloc, faults, fault, question);
             ExitStatus::FaultAnswered
         }
         Failure::Found(fault) => {
-            explain(alloc, faults, fault, asked);
+            explain(alloc, faults, fault, question);
             ExitStatus::FaultAtThisEnd
         }
     }
@@ -48,12 +48,12 @@ pub(crate) fn end_by_printing<E: Output>(faults: &mut E, printed: Result<(), Fau
 }
 
 // Prints a fault in a line, and what there is to say of it after that.
-fn explain<E: Output>(alloc: Global, faults: &mut E, fault: Fault, asked: Asked<'_>)
+fn explain<E: Output>(alloc: Global, faults: &mut E, fault: Fault, question: Question<'_>)
     requires { CanFail (E.failures faults.old) }
-    ensures { Explains (hint_of asked.entry) fault
+    ensures { Explains (hint_of question.entry) fault
         (said_of E.Output faults.old) (said_of E.Output faults.new) }
 {
-    match hint(alloc, asked, fault) {
+    match hint(alloc, question, fault) {
         Ok(more) => print_fault(faults, fault, &more),
         Err(AllocError) => print_fault(faults, fault, &[]),
     }

@@ -15,7 +15,7 @@ use crate::quoted_name::quoted_name;
 use client_calls::{Connection, Failure};
 use command_ends::{Connect, ExitStatus, end_by_fault};
 use csv_columns::columns_text;
-use fault_hints::Asked;
+use fault_hints::Question;
 use flight_proto::InfoCommand;
 use grpc_frame::{Input, Output};
 use scan_base::Fault;
@@ -96,6 +96,6 @@ fn tell_columns<W: Output, E: Output>(
             let printed = output.write(text.as_slice());
             end_by_printing(faults, printed)
         }
-        Err(failure) => end_by_failure(alloc, faults, failure, Asked::Rows(sql)),
+        Err(failure) => end_by_failure(alloc, faults, failure, Question::Rows(sql)),
     }
 }

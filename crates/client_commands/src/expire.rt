@@ -10,7 +10,7 @@ use crate::call_outcome::{end_by_failure, end_by_printing};
 use crate::connecting::{end_unconnected, open};
 use client_calls::Failure;
 use command_ends::{Connect, ExitStatus, print_floor};
-use fault_hints::Asked;
+use fault_hints::Question;
 use grpc_frame::Output;
 use std::alloc::Global;
 
@@ -59,6 +59,6 @@ fn tell_floor<W: Output, E: Output>(
             let printed = print_floor(alloc, output, floor);
             end_by_printing(faults, printed)
         }
-        Err(failure) => end_by_failure(alloc, faults, failure, Asked::Expiry),
+        Err(failure) => end_by_failure(alloc, faults, failure, Question::Expiry),
     }
 }

@@ -1,14 +1,13 @@
 //! `flightscan put`: an Arrow IPC stream, or CSV, into a table.
 
-ghost use Rattle.std.specs.Prelude.{◌≡◌, ℕ, List, [], Some, option_map};
-ghost use Rattle.std.specs.Borrow.{Bor};
+ghost use Rattle.std.specs.Prelude.{◌≡◌, [], Some};
 ghost use Rattle.grpc_frame.specs.Ends.{CanFail};
 ghost use Rattle.client_calls.specs.declared.call.Method.TheVariants.{DoPut};
 ghost use Rattle.client_calls.specs.Answers.{AnswersOne};
 ghost use Rattle.client_calls.specs.Commands.{ReadsCount, put_payloads};
 ghost use Rattle.client_calls.specs.Outcome.{Calls};
 ghost use Rattle.command_ends.specs.Printing.{count_line, said_of};
-ghost use Rattle.fault_hints.specs.Hints.{hint_of, put_hint};
+ghost use Rattle.fault_hints.specs.Hints.{hint_of, lent, put_hint};
 ghost use Rattle.command_ends.specs.WholeInput.{source_of};
 ghost use Rattle.client_commands.specs.CallOutcome.{Tells};
 ghost use Rattle.client_commands.specs.Commands.{Connects, desk_of};
@@ -26,7 +25,7 @@ use command_ends::{
 };
 use command_line::CsvForm;
 use csv_input::{CsvText, read_csv};
-use fault_hints::{Asked, input_line};
+use fault_hints::{Question, input_line};
 use grpc_frame::{Input, Output};
 use ipc_stream::{IpcMessage, ipc_messages};
 use scan_base::Fault;
@@ -162,8 +161,8 @@ fn put_text<C: Connect, W: Output, E: Output>(
         Err(error) => return end_unconnected(alloc, faults, putting.port, &error),
     };
     let counted = put_rows(alloc, connection, putting.target, text);
-    let asked = Asked::Put(putting.target.table, putting.target.mode, Some(&[]));
-    tell_count(alloc, output, faults, counted, asked)
+    let question = Question::Put(putting.target.table, putting.target.mode, Some(&[]));
+    tell_count(alloc, output, faults, counted, question)
 }
 
 // Puts these messages over a connection.
@@ -189,18 +188,17 @@ fn put_messages<C: Connect, W: Output, E: Output>(
         Err(error) => return end_unconnected(alloc, faults, putting.port, &error),
     };
     let counted = client_calls::put(alloc, &mut connection, putting.target, messages);
-    let asked = Asked::Put(
+    let question = Question::Put(
         putting.target.table,
         putting.target.mode,
         first_header(messages),
     );
-    tell_count(alloc, output, faults, counted, asked)
+    tell_count(alloc, output, faults, counted, question)
 }
 
 // The header of the first message.
 fn first_header(messages: &[IpcMessage]) -> Option<&[u8]>
-    ensures { option_map (λ (bytes : Bor (List ℕ)). bytes.now) result
-        ≡ first_header messages.now }
+    ensures { lent result ≡ first_header messages.now }
 {
     match messages {
         [] => None,
@@ -214,11 +212,11 @@ fn tell_count<W: Output, E: Output>(
     output: &mut W,
     faults: &mut E,
     counted: Result<u64, Failure>,
-    asked: Asked<'_>,
+    question: Question<'_>,
 ) -> ExitStatus
     requires writes { CanFail (W.failures output.old) }
     requires prints { CanFail (E.failures faults.old) }
-    ensures { Tells (hint_of asked.entry) count_line counted result
+    ensures { Tells (hint_of question.entry) count_line counted result
         (said_of W.Output output.old) (said_of W.Output output.new)
         (said_of E.Output faults.old) (said_of E.Output faults.new) }
 {
@@ -227,6 +225,6 @@ fn tell_count<W: Output, E: Output>(
             let printed = print_count(alloc, output, rows);
             end_by_printing(faults, printed)
         }
-        Err(failure) => end_by_failure(alloc, faults, failure, asked),
+        Err(failure) => end_by_failure(alloc, faults, failure, question),
     }
 }

@@ -16,7 +16,7 @@ use crate::table_rows::TableWriter;
 use crate::text_rows::{LineText, RecordText, TextWriter};
 use command_ends::{Connect, ExitStatus};
 use command_line::Format;
-use fault_hints::Asked;
+use fault_hints::Question;
 use grpc_frame::Output;
 use row_stream::StreamWriter;
 use scan_base::HashSeed;
@@ -128,7 +128,7 @@ fn end_by_streaming<E: Output>(
     match streamed {
         Ok(()) => ExitStatus::Done,
         Err(FetchFailure::Failed(failure)) => {
-            end_by_failure(alloc, faults, failure, Asked::Rows(query.sql))
+            end_by_failure(alloc, faults, failure, Question::Rows(query.sql))
         }
         Err(FetchFailure::Unconnected(error)) => {
             end_unconnected(alloc, faults, query.port, &error)

@@ -14,7 +14,7 @@ use crate::fetching::fetch_rows;
 use crate::names::names_of;
 use client_calls::{Connection, Failure};
 use command_ends::{Connect, ExitStatus};
-use fault_hints::Asked;
+use fault_hints::Question;
 use flight_proto::InfoCommand;
 use grpc_frame::{Input, Output};
 use row_text::write_names;
@@ -66,7 +66,7 @@ fn tell_names<W: Output, E: Output>(
             let printed = write_names(alloc, &names, output);
             end_by_printing(faults, printed)
         }
-        Err(failure) => end_by_failure(alloc, faults, failure, Asked::Names),
+        Err(failure) => end_by_failure(alloc, faults, failure, Question::Names),
     }
 }
 

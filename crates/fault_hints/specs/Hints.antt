@@ -14,8 +14,8 @@ use Rattle.scan_base.specs.declared.fault.Fault.TheVariants.{VersionUnknown, Ver
 use Rattle.scan_base.specs.declared.fault.Fault.TheVariants.{ResultTooLarge, Transport}
 use Rattle.scan_base.specs.declared.put_options.PutMode.{PutMode}
 use Rattle.scan_base.specs.declared.put_options.PutMode.TheVariants.{Append}
-use Rattle.fault_hints.specs.declared.asked.Asked.{Asked}
-use Rattle.fault_hints.specs.declared.asked.Asked.TheVariants.{Rows, Put, Names, Expiry}
+use Rattle.fault_hints.specs.declared.question.Question.{Question}
+use Rattle.fault_hints.specs.declared.question.Question.TheVariants.{Rows, Put, Names, Expiry}
 use Rattle.fault_hints.specs.LeftOut.{left_out_lines}
 use Rattle.fault_hints.specs.MarkedLines.{marked}
 
@@ -100,10 +100,14 @@ abbrev pub expiry_hint : Fault → List ℕ
 expiry_hint VersionUnknown = codes "no put has made this version yet\n"
 expiry_hint fault = call_line fault
 
+-- a header that was lent
+abbrev pub lent : Option (Bor (List ℕ)) → Option (List ℕ)
+lent header = option_map (λ (bytes : Bor (List ℕ)). bytes.now) header
+
 -- what is said of a fault of what was asked
-abbrev pub hint_of : Asked → Fault → List ℕ
+abbrev pub hint_of : Question → Fault → List ℕ
 hint_of (Rows sql) fault = query_hint sql.now fault
 hint_of (Put table mode header) fault =
-    put_hint table.now mode (option_map (λ (bytes : Bor (List ℕ)). bytes.now) header) fault
+    put_hint table.now mode (lent header) fault
 hint_of Names fault = call_line fault
 hint_of Expiry fault = expiry_hint fault

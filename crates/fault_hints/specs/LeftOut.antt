@@ -108,11 +108,11 @@ lines_for sql tokens None =
     (list_any (λ (token : Lexeme). joins token.kind) tokens)
 
 -- the lines for tokens
-abbrev pub lines_of : List ℕ → Result (List Lexeme) Fault → List ℕ
-lines_of sql (Ok tokens) =
+abbrev pub left_out_in : List ℕ → Result (List Lexeme) Fault → List ℕ
+left_out_in sql (Ok tokens) =
     lines_for sql tokens (first_left_out (kind.Symbol symbol.Semicolon) tokens)
-lines_of sql (Err fault) = []
+left_out_in sql (Err fault) = []
 
 -- what is said of a query that this server leaves out
 abbrev pub left_out_lines : List ℕ → List ℕ
-left_out_lines sql = lines_of sql (tokens_in sql)
+left_out_lines sql = left_out_in sql (tokens_in sql)

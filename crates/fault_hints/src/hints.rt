@@ -1,14 +1,13 @@
 //! What a client says of a fault on the lines after the fault's own.
 
-ghost use Rattle.std.specs.Prelude.{◌≡◌, ℕ, List, IfOk, option_map};
-ghost use Rattle.std.specs.Borrow.{Bor};
-ghost use Rattle.fault_hints.specs.Hints.{batch_line, call_line, expiry_hint, hint_of, put_hint};
-ghost use Rattle.fault_hints.specs.Hints.{put_limit, put_line, query_hint, query_limit, query_line};
-ghost use Rattle.fault_hints.specs.Hints.{schema_line};
+ghost use Rattle.std.specs.Prelude.{◌≡◌, IfOk};
+ghost use Rattle.fault_hints.specs.Hints.{batch_line, call_line, expiry_hint, hint_of, lent};
+ghost use Rattle.fault_hints.specs.Hints.{put_hint, put_limit, put_line, query_hint, query_limit};
+ghost use Rattle.fault_hints.specs.Hints.{query_line, schema_line};
 
-use crate::asked::Asked;
 use crate::left_out::left_out_lines;
 use crate::marked_lines::marked;
+use crate::question::Question;
 use scan_base::{Fault, PutMode};
 use sql_text::MOST_BYTES;
 use std::alloc::{AllocError, Global};
@@ -99,7 +98,7 @@ fn schema_line(mode: PutMode) -> &'static [u8]
 
 // What is wrong with what is put.
 fn batch_line(header: Option<&[u8]>) -> &'static [u8]
-    ensures { result.now ≡ batch_line (option_map (λ (bytes : Bor (List ℕ)). bytes.now) header.entry) }
+    ensures { result.now ≡ batch_line (lent header.entry) }
 {
     match header {
         None => b"the input is empty\n",
@@ -126,8 +125,7 @@ fn put_line(fault: Fault) -> &'static [u8]
 
 // Of a put into a table by a mode, of a stream whose first message has this header.
 fn put_hint(table: &str, mode: PutMode, header: Option<&[u8]>, fault: Fault) -> &'static [u8]
-    ensures { result.now ≡ put_hint table.now mode
-        (option_map (λ (bytes : Bor (List ℕ)). bytes.now) header.entry) fault }
+    ensures { result.now ≡ put_hint table.now mode (lent header.entry) fault }
 {
     match fault {
         Fault::BadBatch => batch_line(header),
@@ -152,15 +150,15 @@ fn expiry_hint(fault: Fault) -> &'static [u8]
 /// # Errors
 ///
 /// `AllocError` where memory is refused.
-pub fn hint(alloc: Global, asked: Asked<'_>, fault: Fault) -> Result<Vec<u8>, AllocError>
-    ensures { IfOk result (λ lines. lines.items ≡ hint_of asked.entry fault) }
+pub fn hint(alloc: Global, question: Question<'_>, fault: Fault) -> Result<Vec<u8>, AllocError>
+    ensures { IfOk result (λ lines. lines.items ≡ hint_of question.entry fault) }
 {
-    match asked {
-        Asked::Rows(sql) => query_hint(alloc, sql, fault),
-        Asked::Put(table, mode, header) => {
+    match question {
+        Question::Rows(sql) => query_hint(alloc, sql, fault),
+        Question::Put(table, mode, header) => {
             Vec::from_slice(alloc, put_hint(table, mode, header, fault))
         }
-        Asked::Names => Vec::from_slice(alloc, call_line(fault)),
-        Asked::Expiry => Vec::from_slice(alloc, expiry_hint(fault)),
+        Question::Names => Vec::from_slice(alloc, call_line(fault)),
+        Question::Expiry => Vec::from_slice(alloc, expiry_hint(fault)),
     }
 }

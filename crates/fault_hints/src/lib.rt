@@ -5,12 +5,12 @@
 //! out, and `specs/InputKinds.antt` what an input is by its first bytes.
 #![tactic(auto)]
 
-pub mod asked;
 pub mod hints;
 mod input_kinds;
 mod left_out;
 mod marked_lines;
+pub mod question;
 
-pub use crate::asked::Asked;
 pub use crate::hints::hint;
 pub use crate::input_kinds::input_line;
+pub use crate::question::Question;

@@ -1,10 +1,10 @@
-//! What was asked of a server.
+//! A question to a server.
 
 use scan_base::PutMode;
 
-/// What was asked of a server.
+/// A question to a server.
 #[derive(Clone, Copy, Debug, PartialEq, Eq)]
-pub enum Asked<'a> {
+pub enum Question<'a> {
     /// The rows of a query.
     Rows(&'a str),
     /// A put into the table of this name, by a mode, of a stream whose first message has this
