@@ -18,6 +18,7 @@ use Rattle.fault_hints.specs.declared.question.Question.{Question}
 use Rattle.fault_hints.specs.declared.question.Question.TheVariants.{Rows, Put, Names, Expiry}
 use Rattle.fault_hints.specs.LeftOut.{left_out_lines}
 use Rattle.fault_hints.specs.MarkedLines.{marked}
+use Rattle.fault_hints.specs.RefusedTypes.{column_line, refused_type_line}
 
 -- of any call: who answered, and how the connection ended
 abbrev pub call_line : Fault → List ℕ
@@ -81,16 +82,21 @@ batch_line (Some header) =
 abbrev pub put_line : Fault → List ℕ
 put_line MessageTooLarge =
     codes "a batch has more than 16777216 bytes: write batches of 65536 rows\n"
-put_line UnsupportedArrow = codes "a column has a type that is not taken, or is compressed\n"
 put_line TableMissing = codes "no table has this name: --mode create makes it\n"
 put_line TableExists = codes "--mode append adds to the table, and --mode replace replaces it\n"
 put_line fault = call_line fault
+
+-- which type is not taken
+abbrev pub type_line : Option (List ℕ) → List ℕ
+type_line (Some header) = refused_type_line header
+type_line None = column_line None
 
 -- of a put into a table by a mode, of a stream whose first message has this header
 abbrev pub put_hint : List ℕ → PutMode → Option (List ℕ) → Fault → List ℕ
 put_hint table mode header BadBatch = batch_line header
 put_hint table mode header SchemaMismatch = schema_line mode
 put_hint table mode header LimitReached = put_limit table
+put_hint table mode header UnsupportedArrow = type_line header
 put_hint table mode header fault = put_line fault
 
 -- ---- all

@@ -3,11 +3,12 @@
 ghost use Rattle.std.specs.Prelude.{◌≡◌, IfOk};
 ghost use Rattle.fault_hints.specs.Hints.{batch_line, call_line, expiry_hint, hint_of, lent};
 ghost use Rattle.fault_hints.specs.Hints.{put_hint, put_limit, put_line, query_hint, query_limit};
-ghost use Rattle.fault_hints.specs.Hints.{query_line, schema_line};
+ghost use Rattle.fault_hints.specs.Hints.{query_line, schema_line, type_line};
 
 use crate::left_out::left_out_lines;
 use crate::marked_lines::marked;
 use crate::question::Question;
+use crate::refused_types::{column_line, refused_type_line};
 use scan_base::{Fault, PutMode};
 use sql_text::MOST_BYTES;
 use std::alloc::{AllocError, Global};
@@ -114,7 +115,6 @@ fn put_line(fault: Fault) -> &'static [u8]
         Fault::MessageTooLarge => {
             b"a batch has more than 16777216 bytes: write batches of 65536 rows\n"
         }
-        Fault::UnsupportedArrow => b"a column has a type that is not taken, or is compressed\n",
         Fault::TableMissing => b"no table has this name: --mode create makes it\n",
         Fault::TableExists => {
             b"--mode append adds to the table, and --mode replace replaces it\n"
@@ -123,15 +123,34 @@ fn put_line(fault: Fault) -> &'static [u8]
     }
 }
 
+// Which type is not taken.
+fn type_line(alloc: Global, header: Option<&[u8]>) -> Result<Vec<u8>, AllocError>
+    ensures { IfOk result (λ lines. lines.items ≡ type_line (lent header.entry)) }
+{
+    let line = match header {
+        Some(header) => refused_type_line(alloc, header)?,
+        None => column_line(alloc, None)?,
+    };
+    Vec::from_slice(alloc, line.as_bytes())
+}
+
 // Of a put into a table by a mode, of a stream whose first message has this header.
-fn put_hint(table: &str, mode: PutMode, header: Option<&[u8]>, fault: Fault) -> &'static [u8]
-    ensures { result.now ≡ put_hint table.now mode (lent header.entry) fault }
+fn put_hint(
+    alloc: Global,
+    table: &str,
+    mode: PutMode,
+    header: Option<&[u8]>,
+    fault: Fault,
+) -> Result<Vec<u8>, AllocError>
+    ensures { IfOk result
+        (λ lines. lines.items ≡ put_hint table.now mode (lent header.entry) fault) }
 {
     match fault {
-        Fault::BadBatch => batch_line(header),
-        Fault::SchemaMismatch => schema_line(mode),
-        Fault::LimitReached => put_limit(table),
-        _ => put_line(fault),
+        Fault::UnsupportedArrow => type_line(alloc, header),
+        Fault::BadBatch => Vec::from_slice(alloc, batch_line(header)),
+        Fault::SchemaMismatch => Vec::from_slice(alloc, schema_line(mode)),
+        Fault::LimitReached => Vec::from_slice(alloc, put_limit(table)),
+        _ => Vec::from_slice(alloc, put_line(fault)),
     }
 }
 
@@ -155,9 +174,7 @@ pub fn hint(alloc: Global, question: Question<'_>, fault: Fault) -> Result<Vec<u
 {
     match question {
         Question::Rows(sql) => query_hint(alloc, sql, fault),
-        Question::Put(table, mode, header) => {
-            Vec::from_slice(alloc, put_hint(table, mode, header, fault))
-        }
+        Question::Put(table, mode, header) => put_hint(alloc, table, mode, header, fault),
         Question::Names => Vec::from_slice(alloc, call_line(fault)),
         Question::Expiry => Vec::from_slice(alloc, expiry_hint(fault)),
     }

@@ -10,6 +10,7 @@ mod input_kinds;
 mod left_out;
 mod marked_lines;
 pub mod question;
+mod refused_types;
 
 pub use crate::hints::hint;
 pub use crate::input_kinds::input_line;

@@ -146,8 +146,15 @@ fn columns_in(header: &[u8]) -> Result<Vector<'_>, Fault>
     schema.vector(1)?.ok_or(Fault::BadFlatbuffer)
 }
 
-// The line for a column.
-fn column_line(alloc: Global, refused: Option<ColumnRead<'_>>) -> Result<String, AllocError>
+/// The line for a column.
+///
+/// # Errors
+///
+/// `AllocError` where memory is refused.
+pub(crate) fn column_line(
+    alloc: Global,
+    refused: Option<ColumnRead<'_>>,
+) -> Result<String, AllocError>
     ensures { IfOk result
         (λ line. string_bytes line ≡ column_line (option_map column_at refused.entry)) }
 {
