@@ -483,6 +483,16 @@ def answered_faults(run: Run) -> None:
             same(text, answered(fault, *more), query(run, server, text))
 
 
+@case("columns of CSV that are spelled wrong: F8, how they are spelled, and nothing is read")
+def misspelled_columns(run: Run) -> None:
+    words = ("put", "--port", free_port(), "--table", "t", "--mode", "create", "--format", "csv", "--columns")
+    spelled = "'a:int8, b:utf8?': int8 to int64, uint8 to uint64, decimal, date, bool or utf8"
+    for columns in ("a:float64", "a int8", "", "a:int8\nb:int8"):
+        same(columns, found("F8 BadBatch", spelled), typed(run, *words, columns, data=b"1\n"))
+    many = ",".join(f"c{number}:int8" for number in range(65))
+    same("65 columns", found("F12 LimitReached", "64 columns, and 64 bytes of a name, are the most"), typed(run, *words, many))
+
+
 @case("describe: the columns of a table, in the line that --columns takes")
 def described(run: Run) -> None:
     with run.serving("--parts", "3") as server:

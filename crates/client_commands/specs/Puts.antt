@@ -3,7 +3,7 @@ use Rattle.std.specs.Prelude.{◌≡◌, ◌⊎◌, ℕ, List, [], ◌∷◌, �
 use Rattle.std.specs.Prelude.{codes}
 use Rattle.scan_base.specs.declared.fault.Fault.{Fault}
 use Rattle.scan_base.specs.declared.fault.Fault.TheVariants.{BadFlatbuffer, OutOfMemory, Transport}
-use Rattle.fault_hints.specs.Hints.{put_hint}
+use Rattle.fault_hints.specs.Hints.{put_hint, spelling_lines}
 use Rattle.fault_hints.specs.InputKinds.{input_line}
 use Rattle.ipc_stream.specs.declared.message.IpcMessage.{IpcMessage}
 use Rattle.ipc_stream.specs.Stream.{Framed, IsStream}
@@ -16,6 +16,8 @@ use Rattle.command_ends.specs.Network.{Ends}
 use Rattle.command_ends.specs.Printing.{Said, cause_lines, count_line, fault_line}
 use Rattle.command_ends.specs.WholeInput.{Source, ReadsWhole}
 use Rattle.command_ends.specs.declared.exit_status.ExitStatus.{ExitStatus}
+use Rattle.csv_columns.specs.Refusals.{WhyNoColumns}
+use Rattle.csv_columns.specs.TextRecords.{records_in}
 use Rattle.csv_input.specs.Input.{Form, ReadsCsv, TextAt}
 use Rattle.client_commands.specs.Commands.{Connects, Desk, EndsBy, desk_of}
 use Rattle.client_commands.specs.RowsPut.{PutsRows}
@@ -72,6 +74,16 @@ Puts old new untouched Gives target status desk desk' =
 
 -- ---- CSV
 
+-- the text that spells the columns spells none: how they are spelled is said, and nothing is read
+pub record IsMisspelled (form : Form) (unread : Type 0) (status : ExitStatus)
+    (desk desk' : Desk) : Type 0 where
+  pub text : List ℕ
+  pub given : form.columns ≡ Some text
+  pub fault : Fault
+  pub why : WhyNoColumns (records_in text) fault
+  pub alone : unread
+  pub ends : EndsBy (fault_line fault ++ spelling_lines fault) status desk desk'
+
 -- the input was not read, or says no rows, and why is printed: no connection is made
 pub record IsNoCsv (form : Form) (old new : Source) (untouched : Type 0) (status : ExitStatus)
     (desk desk' : Desk) : Type 0 where
@@ -94,5 +106,6 @@ pub record IsPutCsv (form : Form) (old new : Source) (Gives : Option Ends → Ty
 abbrev pub PutsCsv : Form → Source → Source → Type 0 → (Option Ends → Type 0) → Target →
     ExitStatus → Desk → Desk → Type 0
 PutsCsv form old new untouched Gives target status desk desk' =
-    IsNoCsv form old new untouched status desk desk'
+    IsMisspelled form ((new ≡ old) × untouched) status desk desk'
+    ⊎ IsNoCsv form old new untouched status desk desk'
     ⊎ IsPutCsv form old new Gives target status desk desk'

@@ -1,6 +1,6 @@
 //! `flightscan put`: an Arrow IPC stream, or CSV, into a table.
 
-ghost use Rattle.std.specs.Prelude.{◌≡◌, [], Some};
+ghost use Rattle.std.specs.Prelude.{◌≡◌, [], ℕ, List, Some, IfSome};
 ghost use Rattle.grpc_frame.specs.Ends.{CanFail};
 ghost use Rattle.client_calls.specs.declared.call.Method.TheVariants.{DoPut};
 ghost use Rattle.client_calls.specs.Answers.{AnswersOne};
@@ -13,6 +13,8 @@ ghost use Rattle.client_commands.specs.CallOutcome.{Tells};
 ghost use Rattle.client_commands.specs.Commands.{Connects, desk_of};
 ghost use Rattle.client_commands.specs.Puts.{Puts, PutsBytes, PutsCsv, first_header};
 ghost use Rattle.client_commands.specs.RowsPut.{PutsRows};
+ghost use Rattle.csv_columns.specs.Refusals.{WhyNoColumns};
+ghost use Rattle.csv_columns.specs.TextRecords.{records_in};
 ghost use Rattle.csv_input.specs.Input.{form_of};
 
 use crate::call_outcome::{end_by_failure, end_by_printing};
@@ -24,8 +26,9 @@ use command_ends::{
     Connect, ExitStatus, end_by_cause, end_by_fault, print_count, print_fault, read_whole,
 };
 use command_line::CsvForm;
+use csv_columns::columns_in;
 use csv_input::{CsvText, read_csv};
-use fault_hints::{Question, input_line};
+use fault_hints::{Question, input_line, spelling_lines};
 use grpc_frame::{Input, Output};
 use ipc_stream::{IpcMessage, ipc_messages};
 use scan_base::Fault;
@@ -107,10 +110,10 @@ pub struct CsvPutting<'a> {
 }
 
 /// Puts the rows that the whole input says as CSV into a table, and prints how many rows were put.
-/// The input is read, and each record is looked at, before a connection is made. Then its rows are
-/// made and sent, batch by batch, so that memory holds the text and one batch. Columns that are
-/// found are printed on `faults` in a line. A fault is printed there in a line, as far as that
-/// takes it.
+/// The text that spells the columns is read first; then the input is read, and each record is
+/// looked at, before a connection is made. Then its rows are made and sent, batch by batch, so that
+/// memory holds the text and one batch. Columns that are found are printed on `faults` in a line. A
+/// fault is printed there in a line, as far as that takes it, and lines after it say more.
 pub fn put_csv<C: Connect, I: Input, W: Output, E: Output>(
     alloc: Global,
     network: &mut C,
@@ -124,8 +127,8 @@ pub fn put_csv<C: Connect, I: Input, W: Output, E: Output>(
     requires writes { CanFail (W.failures output.old) }
     requires prints { CanFail (E.failures faults.old) }
 
-    // The input says no rows or was not read, and why is printed; or its rows were put, and what
-    // came of it is.
+    // No columns are spelled, or the input says no rows or was not read, and why is printed; or its
+    // rows were put, and what came of it is.
     ensures { PutsCsv (form_of putting.entry.form) (source_of I.Input input.old)
         (source_of I.Input input.new) (network.new ≡ network.old)
         (λ ends. C.connects network.old putting.entry.putting.port ends network.new)
@@ -133,9 +136,25 @@ pub fn put_csv<C: Connect, I: Input, W: Output, E: Output>(
         (desk_of (said_of W.Output output.old) (said_of E.Output faults.old))
         (desk_of (said_of W.Output output.new) (said_of E.Output faults.new)) }
 {
+    if let Some(fault) = misspelled(alloc, putting.form) {
+        print_fault(faults, fault, spelling_lines(fault));
+        return ExitStatus::FaultAtThisEnd;
+    }
     match read_csv(alloc, input, faults, putting.form) {
         Ok(text) => put_text(alloc, network, output, faults, putting.putting, &text),
         Err(status) => status,
+    }
+}
+
+// Why the text that spells the columns spells none, where there is one.
+fn misspelled(alloc: Global, form: CsvForm<'_>) -> Option<Fault>
+    ensures { IfSome result (λ fault. (text : List ℕ) × ((form_of form.entry).columns ≡ Some text)
+        × WhyNoColumns (records_in text) fault) }
+{
+    let text = form.columns?;
+    match columns_in(alloc, text.as_bytes()) {
+        Ok(_) => None,
+        Err(fault) => Some(fault),
     }
 }
 

@@ -99,6 +99,15 @@ put_hint table mode header LimitReached = put_limit table
 put_hint table mode header UnsupportedArrow = type_line header
 put_hint table mode header fault = put_line fault
 
+-- ---- columns of CSV
+
+-- how columns are spelled, where a text spells none
+abbrev pub spelling_lines : Fault → List ℕ
+spelling_lines BadBatch =
+    codes "'a:int8, b:utf8?': int8 to int64, uint8 to uint64, decimal, date, bool or utf8\n"
+spelling_lines LimitReached = codes "64 columns, and 64 bytes of a name, are the most\n"
+spelling_lines _ = []
+
 -- ---- all
 
 -- of an expiry

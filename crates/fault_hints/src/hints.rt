@@ -3,7 +3,7 @@
 ghost use Rattle.std.specs.Prelude.{◌≡◌, IfOk};
 ghost use Rattle.fault_hints.specs.Hints.{batch_line, call_line, expiry_hint, hint_of, lent};
 ghost use Rattle.fault_hints.specs.Hints.{put_hint, put_limit, put_line, query_hint, query_limit};
-ghost use Rattle.fault_hints.specs.Hints.{query_line, schema_line, type_line};
+ghost use Rattle.fault_hints.specs.Hints.{query_line, schema_line, spelling_lines, type_line};
 
 use crate::left_out::left_out_lines;
 use crate::marked_lines::marked;
@@ -151,6 +151,19 @@ fn put_hint(
         Fault::SchemaMismatch => Vec::from_slice(alloc, schema_line(mode)),
         Fault::LimitReached => Vec::from_slice(alloc, put_limit(table)),
         _ => Vec::from_slice(alloc, put_line(fault)),
+    }
+}
+
+/// How columns of CSV are spelled, where a text spells none.
+pub fn spelling_lines(fault: Fault) -> &'static [u8]
+    ensures { result.now ≡ spelling_lines fault }
+{
+    match fault {
+        Fault::BadBatch => {
+            b"'a:int8, b:utf8?': int8 to int64, uint8 to uint64, decimal, date, bool or utf8\n"
+        }
+        Fault::LimitReached => b"64 columns, and 64 bytes of a name, are the most\n",
+        _ => b"",
     }
 }
 

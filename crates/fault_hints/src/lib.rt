@@ -12,6 +12,6 @@ mod marked_lines;
 pub mod question;
 mod refused_types;
 
-pub use crate::hints::hint;
+pub use crate::hints::{hint, spelling_lines};
 pub use crate::input_kinds::input_line;
 pub use crate::question::Question;
