@@ -12,8 +12,8 @@ use Rattle.arrow_schema.specs.Header.{header_of, message_of}
 use Rattle.fault_hints.specs.declared.refused_types.ColumnType.{ColumnType}
 use Rattle.fault_hints.specs.declared.refused_types.ColumnRead.{ColumnRead}
 
--- ---- a type: the number of its kind, and two numbers that say more: the precision and the scale of
--- a decimal, the unit of a date
+-- ---- a type: the number of its kind, and two numbers that say more: of a decimal the precision and
+-- the scale, of a date the unit
 
 -- whether a type is taken: integers, strings, booleans, decimals of 38 digits without a scale, and
 -- dates in days
@@ -108,7 +108,8 @@ columns_in header = do
 -- the line for a column
 abbrev pub column_line : Option ColumnAt → List ℕ
 column_line (Some column) =
-    codes "column " ++ column.name ++ codes ": " ++ type_words column.type ++ codes " is not taken\n"
+    codes "column " ++ column.name ++ codes ": " ++ type_words column.type
+    ++ codes " is not taken\n"
 column_line None = codes "a type is not taken, or a body is compressed\n"
 
 abbrev pub columns_line : Result VectorAt Fault → List ℕ
