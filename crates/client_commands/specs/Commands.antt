@@ -4,7 +4,7 @@ use Rattle.std.specs.Prelude.{Err, codes}
 use Rattle.std.specs.List.{flat_map}
 use Rattle.std.specs.Str.{byte}
 use Rattle.scan_base.specs.declared.fault.Fault.{Fault}
-use Rattle.scan_base.specs.declared.fault.Fault.TheVariants.{OutOfMemory}
+use Rattle.scan_base.specs.declared.fault.Fault.TheVariants.{OutOfMemory, Transport}
 use Rattle.sql_text.specs.Values.{quoted}
 use Rattle.flight_proto.specs.Expiry.{expiry_bytes}
 use Rattle.flight_proto.specs.InfoCommand.{InfoCommand, rows_of, tables}
@@ -41,6 +41,11 @@ pub record EndsBy (lines : List ℕ) (status : ExitStatus) (old new : Desk) : Ty
   pub nothing : new.out ≡ old.out
   pub status_is : status ≡ FaultAtThisEnd
   pub says : Prints lines old.faults new.faults
+
+-- the lines that say why the input was not read
+abbrev pub reading_lines : Fault → List ℕ
+reading_lines Transport = cause_lines (codes "cannot read the input")
+reading_lines fault = fault_line fault
 
 -- how a result is told, on an output and on the faults
 abbrev pub Telling : Type 0 → Type 1

@@ -1,8 +1,7 @@
 -- What `put` does.
 use Rattle.std.specs.Prelude.{◌≡◌, ◌⊎◌, ℕ, List, [], ◌∷◌, ◌++◌, Option, Some, None, Result, Ok, Err}
-use Rattle.std.specs.Prelude.{codes}
 use Rattle.scan_base.specs.declared.fault.Fault.{Fault}
-use Rattle.scan_base.specs.declared.fault.Fault.TheVariants.{BadFlatbuffer, OutOfMemory, Transport}
+use Rattle.scan_base.specs.declared.fault.Fault.TheVariants.{BadFlatbuffer, OutOfMemory}
 use Rattle.fault_hints.specs.Hints.{put_hint, spelling_lines}
 use Rattle.fault_hints.specs.InputKinds.{input_line}
 use Rattle.ipc_stream.specs.declared.message.IpcMessage.{IpcMessage}
@@ -13,22 +12,17 @@ use Rattle.client_calls.specs.Answers.{AnswersOne}
 use Rattle.client_calls.specs.Commands.{put_payloads, ReadsCount}
 use Rattle.client_calls.specs.Outcome.{Calls}
 use Rattle.command_ends.specs.Network.{Ends}
-use Rattle.command_ends.specs.Printing.{Said, cause_lines, count_line, fault_line}
+use Rattle.command_ends.specs.Printing.{Said, count_line, fault_line}
 use Rattle.command_ends.specs.WholeInput.{Source, ReadsWhole}
 use Rattle.command_ends.specs.declared.exit_status.ExitStatus.{ExitStatus}
 use Rattle.csv_columns.specs.Refusals.{WhyNoColumns}
 use Rattle.csv_columns.specs.TextRecords.{records_in}
 use Rattle.csv_input.specs.Input.{Form, ReadsCsv, TextAt}
-use Rattle.client_commands.specs.Commands.{Connects, Desk, EndsBy, desk_of}
+use Rattle.client_commands.specs.Commands.{Connects, Desk, EndsBy, desk_of, reading_lines}
 use Rattle.client_commands.specs.RowsPut.{PutsRows}
 use Rattle.client_commands.specs.CallOutcome.{Tells}
 
 -- ---- a stream
-
--- the lines that say why the input was not read
-abbrev pub reading_lines : Fault → List ℕ
-reading_lines Transport = cause_lines (codes "cannot read the input")
-reading_lines fault = fault_line fault
 
 -- the input was not read: no connection is made
 pub record IsUnread (old new : Source) (untouched : Type 0) (status : ExitStatus)

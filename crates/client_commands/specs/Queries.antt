@@ -1,5 +1,7 @@
 -- What a query does.
-use Rattle.std.specs.Prelude.{◌≡◌, ◌⊎◌, ℕ, List, Some, None, Result, Ok, Err}
+use Rattle.std.specs.Prelude.{◌≡◌, ◌⊎◌, ℕ, false, List, Some, None, Result, Ok, Err}
+use Rattle.std.specs.Str.{is_utf8}
+use Rattle.scan_base.specs.declared.fault.Fault.TheVariants.{BadSql}
 use Rattle.scan_base.specs.declared.fault.Fault.{Fault}
 use Rattle.fault_hints.specs.Hints.{query_hint}
 use Rattle.flight_proto.specs.InfoCommand.{InfoCommand, rows_of}
@@ -7,10 +9,11 @@ use Rattle.client_calls.specs.declared.failure.Failure.{Failure}
 use Rattle.client_calls.specs.Outcome.{Line}
 use Rattle.command_line.specs.declared.request.Format.{Format}
 use Rattle.command_ends.specs.Network.{Ends}
-use Rattle.command_ends.specs.Printing.{Said, Prints, cause_lines}
+use Rattle.command_ends.specs.Printing.{Said, Prints, cause_lines, fault_line}
+use Rattle.command_ends.specs.WholeInput.{Source, ReadsWhole}
 use Rattle.command_ends.specs.declared.exit_status.ExitStatus.{ExitStatus}
 use Rattle.command_ends.specs.declared.exit_status.ExitStatus.TheVariants.{Done, FaultAtThisEnd}
-use Rattle.client_commands.specs.Commands.{Desk, EndsBy}
+use Rattle.client_commands.specs.Commands.{Desk, EndsBy, reading_lines}
 use Rattle.client_commands.specs.Handles.{Giving}
 use Rattle.client_commands.specs.InTurn.{Streams, StreamsUnconnected}
 use Rattle.client_commands.specs.Lines.{opened_line}
@@ -65,3 +68,14 @@ abbrev pub Queries : {N : Type 0} → Giving N → (N → N → N → Type 0) �
 Queries Gives Shares streams sql format before behind status old new =
     PrintsRows (query_hint sql) Gives Shares format streams (rows_of sql) before behind status old
     new
+
+-- the rows that the query answers which the whole input is; or that was not read, or is no text, and
+-- no connection is made
+abbrev pub QueriesInput : {N : Type 0} → Giving N → (N → N → N → Type 0) → ℕ → Source → Source →
+    Format → N → N → ExitStatus → Desk → Desk → Type 0
+QueriesInput Gives Shares streams old new format before behind status desk desk' =
+    ((fault : Fault) × ReadsWhole (Err fault) old new × (behind ≡ before)
+    × EndsBy (reading_lines fault) status desk desk')
+    ⊎ ((sql : List ℕ) × ReadsWhole (Ok sql) old new
+    × (((is_utf8 sql ≡ false) × (behind ≡ before) × EndsBy (fault_line (BadSql 0)) status desk desk')
+    ⊎ Queries Gives Shares streams sql format before behind status desk desk'))

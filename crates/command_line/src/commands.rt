@@ -147,7 +147,7 @@ fn sql<'a>(alloc: Global) -> Arg<'a>
     Arg::new(alloc, "sql")
         .action(ArgAction::Set)
         .value_name("SQL")
-        .help("The query")
+        .help("The query; - reads it from standard input")
         .required(true)
 }
 
