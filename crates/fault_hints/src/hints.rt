@@ -9,11 +9,10 @@ use crate::left_out::left_out_lines;
 use crate::marked_lines::marked;
 use crate::question::Question;
 use crate::refused_types::{column_line, refused_type_line};
+use arrow_schema::MAX_NAME_BYTES;
 use scan_base::{Fault, PutMode};
 use sql_text::MOST_BYTES;
 use std::alloc::{AllocError, Global};
-
-const MOST_NAME_BYTES: usize = 64;
 
 // Of any call: who answered, and how the connection ended.
 fn call_line(fault: Fault) -> &'static [u8]
@@ -79,7 +78,7 @@ fn query_hint(alloc: Global, sql: &str, fault: Fault) -> Result<Vec<u8>, AllocEr
 fn put_limit(table: &str) -> &'static [u8]
     ensures { result.now ≡ put_limit table.now }
 {
-    if table.is_empty() || table.len() > MOST_NAME_BYTES {
+    if table.is_empty() || table.len() > MAX_NAME_BYTES {
         return b"a table's name has 1 to 64 bytes\n";
     }
     b"the most: 64 columns, 64 bytes a name, 65536 a text, 16777216 rows, 256 tables\n"

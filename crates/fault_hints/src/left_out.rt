@@ -4,6 +4,7 @@ ghost use Rattle.std.specs.Prelude.{◌≡◌, IfOk, map, option_map, string_byt
 ghost use Rattle.std.specs.List.{list_any};
 ghost use Rattle.sql_text.specs.Calls.{lexeme_of};
 ghost use Rattle.sql_text.specs.Standard.{Lexeme};
+ghost use Rattle.sql_text.specs.declared.token.TokenKind.{TokenKind};
 ghost use Rattle.sql_text.specs.declared.token.TokenKind.TheVariants as kind;
 ghost use Rattle.sql_text.specs.declared.symbol.Symbol.TheVariants as symbol;
 ghost use Rattle.fault_hints.specs.LeftOut.{broken_rule, ends_value, first_left_out};
@@ -19,29 +20,30 @@ use std::alloc::{AllocError, Global};
 fn ends_value(kind: TokenKind) -> bool
     ensures { result ≡ ends_value kind }
 {
-    matches!(
-        kind,
-        TokenKind::Name
-            | TokenKind::DelimitedName
-            | TokenKind::String
-            | TokenKind::Digits
-            | TokenKind::Symbol(Symbol::RightParenthesis)
-    )
+    match kind {
+        TokenKind::Name | TokenKind::DelimitedName | TokenKind::String | TokenKind::Digits => true,
+        TokenKind::Symbol(mark) => matches!(mark, Symbol::RightParenthesis),
+        _ => false,
+    }
 }
 
 fn opens_all(kind: TokenKind) -> bool
     ensures { result ≡ opens_all kind }
 {
-    matches!(
-        kind,
-        TokenKind::Keyword(Keyword::Select) | TokenKind::Symbol(Symbol::LeftParenthesis)
-    )
+    match kind {
+        TokenKind::Keyword(word) => matches!(word, Keyword::Select),
+        TokenKind::Symbol(mark) => matches!(mark, Symbol::LeftParenthesis),
+        _ => false,
+    }
 }
 
 fn opens_null(kind: TokenKind) -> bool
     ensures { result ≡ opens_null kind }
 {
-    matches!(kind, TokenKind::Keyword(Keyword::Is | Keyword::Not))
+    match kind {
+        TokenKind::Keyword(word) => matches!(word, Keyword::Is | Keyword::Not),
+        _ => false,
+    }
 }
 
 fn is_string(kind: TokenKind) -> bool
@@ -53,16 +55,21 @@ fn is_string(kind: TokenKind) -> bool
 fn makes_groups(kind: TokenKind) -> bool
     ensures { result ≡ makes_groups kind }
 {
-    matches!(
-        kind,
-        TokenKind::Keyword(Keyword::Group | Keyword::Count | Keyword::Sum)
-    )
+    match kind {
+        TokenKind::Keyword(word) => {
+            matches!(word, Keyword::Group | Keyword::Count | Keyword::Sum)
+        }
+        _ => false,
+    }
 }
 
 fn joins(kind: TokenKind) -> bool
     ensures { result ≡ joins kind }
 {
-    matches!(kind, TokenKind::Keyword(Keyword::Join))
+    match kind {
+        TokenKind::Keyword(word) => matches!(word, Keyword::Join),
+        _ => false,
+    }
 }
 
 fn is_word(kind: TokenKind) -> bool
@@ -77,11 +84,21 @@ fn is_left_out_between(before: TokenKind, kind: TokenKind, after: TokenKind) -> 
 {
     match kind {
         TokenKind::LeftOut => true,
-        TokenKind::Symbol(Symbol::Solidus | Symbol::Percent | Symbol::Concatenation) => true,
-        TokenKind::Symbol(Symbol::Plus | Symbol::Minus) => ends_value(before),
-        TokenKind::Symbol(Symbol::Asterisk) => !opens_all(before),
+        TokenKind::Symbol(mark) => is_mark_left_out(before, mark),
         TokenKind::Keyword(Keyword::Null) => !opens_null(before),
         TokenKind::Keyword(Keyword::Date) => !is_string(after),
+        _ => false,
+    }
+}
+
+fn is_mark_left_out(before: TokenKind, mark: Symbol) -> bool
+    ensures { (after : TokenKind) →
+        result ≡ is_left_out_between before (kind.Symbol mark) after }
+{
+    match mark {
+        Symbol::Solidus | Symbol::Percent | Symbol::Concatenation => true,
+        Symbol::Plus | Symbol::Minus => ends_value(before),
+        Symbol::Asterisk => !opens_all(before),
         _ => false,
     }
 }

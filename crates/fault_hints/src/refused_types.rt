@@ -1,11 +1,11 @@
 //! The first column of a schema whose type is not taken.
 
-ghost use Rattle.std.specs.Prelude.{◌≡◌, ◌<◌, IfOk, option_map, string_bytes};
+ghost use Rattle.std.specs.Prelude.{◌≡◌, ◌<◌, IfOk, Ok, option_map, string_bytes};
 ghost use Rattle.scan_base.specs.Reading.{Gives};
 ghost use Rattle.fault_hints.specs.RefusedTypes.{column_at, column_line, column_said, columns_in};
 ghost use Rattle.fault_hints.specs.RefusedTypes.{first_refused, is_taken, kind_names, name_among};
-ghost use Rattle.fault_hints.specs.RefusedTypes.{refused_at, refused_type_line, type_said};
-ghost use Rattle.fault_hints.specs.RefusedTypes.{type_words};
+ghost use Rattle.fault_hints.specs.RefusedTypes.{refused_at, refused_of, refused_type_line};
+ghost use Rattle.fault_hints.specs.RefusedTypes.{type_said, type_words, typed};
 
 use arrow_schema::read_message;
 use flatbuf::{Table, Vector, Width};
@@ -78,24 +78,31 @@ fn type_words(alloc: Global, data_type: ColumnType) -> Result<String, AllocError
     String::from_str(alloc, kind_name(data_type.kind))
 }
 
+// A type of a kind, with these numbers.
+fn typed(kind: u64, first: u64, second: u64) -> ColumnType
+    ensures { result ≡ typed kind first second }
+{
+    ColumnType {
+        kind,
+        first,
+        second,
+    }
+}
+
 // The type of a kind that a table says.
 #[tactic(auto, unfolding(crate::specs::RefusedTypes::type_said))]
 fn type_said(kind: u64, table: &Table<'_>) -> Result<ColumnType, Fault>
     ensures { Gives (λ data_type. data_type) result (type_said kind table.now) }
 {
-    let (first, second) = match kind {
-        7 => (
-            table.scalar(0, Width::Four, 0)?,
-            table.scalar(1, Width::Four, 0)?,
-        ),
-        8 => (table.scalar(0, Width::Two, 1)?, 0),
-        _ => (0, 0),
-    };
-    Ok(ColumnType {
-        kind,
-        first,
-        second,
-    })
+    match kind {
+        7 => {
+            let first = table.scalar(0, Width::Four, 0)?;
+            let second = table.scalar(1, Width::Four, 0)?;
+            Ok(typed(kind, first, second))
+        }
+        8 => Ok(typed(kind, table.scalar(0, Width::Two, 1)?, 0)),
+        _ => Ok(typed(kind, 0, 0)),
+    }
 }
 
 // The column that a Field table says.
@@ -110,6 +117,16 @@ fn column_said<'a>(field: &Table<'a>) -> Result<ColumnRead<'a>, Fault>
     Ok(ColumnRead { name, data_type })
 }
 
+// The column, where its type is not taken.
+fn unless_taken<'a>(column: ColumnRead<'a>) -> Option<ColumnRead<'a>>
+    ensures { option_map column_at result ≡ refused_of (Ok (column_at column.entry)) }
+{
+    if is_taken(column.data_type) {
+        return None;
+    }
+    Some(column)
+}
+
 // The column at a place, where its type is not taken.
 fn refused_at<'a>(vector: &Vector<'a>, place: usize) -> Option<ColumnRead<'a>>
     requires { place < (vector.now).count }
@@ -119,7 +136,7 @@ fn refused_at<'a>(vector: &Vector<'a>, place: usize) -> Option<ColumnRead<'a>>
         return None;
     };
     match column_said(&field) {
-        Ok(column) => (!is_taken(column.data_type)).then_some(column),
+        Ok(column) => unless_taken(column),
         Err(_) => None,
     }
 }
