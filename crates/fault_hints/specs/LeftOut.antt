@@ -97,8 +97,8 @@ is_word _ = false
 abbrev pub token_line : TokenKind → List ℕ → List ℕ
 token_line kind text =
     if is_word kind then
-    codes "left out: " ++ text ++ codes "; as a name: \"" ++ text ++ codes "\"\n"
-    else codes "left out: " ++ text ++ codes "\n"
+    codes "left out: " ++ (text ++ (codes "; as a name: \"" ++ (text ++ codes "\"\n")))
+    else codes "left out: " ++ (text ++ codes "\n")
 
 -- the token that is left out, or the rule that is broken
 abbrev pub lines_for : List ℕ → List Lexeme → Option Lexeme → List ℕ

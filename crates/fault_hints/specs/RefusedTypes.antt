@@ -43,7 +43,7 @@ name_among (row ∷ rows) kind = if kind == row.0 then row.1 else name_among row
 abbrev pub type_words : ColumnType → List ℕ
 type_words type =
     if type.kind == 7 then
-    codes "decimal(" ++ decimal type.first ++ codes ", " ++ decimal type.second ++ codes ")"
+    codes "decimal(" ++ (decimal type.first ++ (codes ", " ++ (decimal type.second ++ codes ")")))
     else name_among kind_names type.kind
 
 -- a type of a kind, with these numbers
@@ -108,8 +108,8 @@ columns_in header = do
 -- the line for a column
 abbrev pub column_line : Option ColumnAt → List ℕ
 column_line (Some column) =
-    codes "column " ++ column.name ++ codes ": " ++ type_words column.type
-    ++ codes " is not taken\n"
+    codes "column " ++ (column.name ++ (codes ": " ++ (type_words column.type
+    ++ codes " is not taken\n")))
 column_line None = codes "a type is not taken, or a body is compressed\n"
 
 abbrev pub columns_line : Result VectorAt Fault → List ℕ

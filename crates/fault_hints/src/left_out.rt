@@ -4,6 +4,7 @@ ghost use Rattle.std.specs.Prelude.{◌≡◌, IfOk, map, option_map, string_byt
 ghost use Rattle.std.specs.List.{list_any};
 ghost use Rattle.sql_text.specs.Calls.{lexeme_of};
 ghost use Rattle.sql_text.specs.Standard.{Lexeme};
+ghost use Rattle.sql_text.specs.declared.token.Token.{Token};
 ghost use Rattle.sql_text.specs.declared.token.TokenKind.{TokenKind};
 ghost use Rattle.sql_text.specs.declared.token.TokenKind.TheVariants as kind;
 ghost use Rattle.sql_text.specs.declared.symbol.Symbol.TheVariants as symbol;
@@ -130,15 +131,27 @@ fn first_left_out<'a>(tokens: &[Token<'a>]) -> Option<Token<'a>>
     None
 }
 
+// Whether a token makes groups.
+fn have_groups(tokens: &[Token<'_>]) -> bool
+    ensures { result ≡ list_any (λ (token : Token). makes_groups token.kind) tokens.now }
+{
+    tokens.iter().any(|token| makes_groups(token.kind))
+}
+
+// Whether a token joins.
+fn have_joins(tokens: &[Token<'_>]) -> bool
+    ensures { result ≡ list_any (λ (token : Token). joins token.kind) tokens.now }
+{
+    tokens.iter().any(|token| joins(token.kind))
+}
+
 // The rule that a query of these tokens breaks.
 fn broken_rule(tokens: &[Token<'_>]) -> &'static [u8]
     ensures { result.now ≡ broken_rule
         (list_any (λ (token : Lexeme). makes_groups token.kind) (map lexeme_of tokens.now))
         (list_any (λ (token : Lexeme). joins token.kind) (map lexeme_of tokens.now)) }
 {
-    let groups = tokens.iter().any(|token| makes_groups(token.kind));
-    let joined = tokens.iter().any(|token| joins(token.kind));
-    rule(groups, joined)
+    rule(have_groups(tokens), have_joins(tokens))
 }
 
 fn rule(groups: bool, joined: bool) -> &'static [u8]

@@ -1,25 +1,42 @@
 //! The line of a text in which a byte stands, and a mark under it.
 
-ghost use Rattle.std.specs.Prelude.{◌≡◌, ◌++◌, IfOk, OnOk, map};
-ghost use Rattle.fault_hints.specs.MarkedLines.{begins_character, blanks_of, first_line};
-ghost use Rattle.fault_hints.specs.MarkedLines.{last_line, marked, shown_byte};
+ghost use Rattle.std.specs.Prelude.{◌≡◌, ◌≤◌, ◌++◌, IfOk, OnOk, length, map};
+ghost use Rattle.std.specs.List.{prefix_len, suffix_len};
+ghost use Rattle.fault_hints.specs.MarkedLines.{begins_character, blanks_of, continues_line};
+ghost use Rattle.fault_hints.specs.MarkedLines.{first_line, last_line, marked, shown_byte};
 
 use std::alloc::{AllocError, Global};
+
+// How many bytes stand before the first LF, or how many there are.
+fn first_len(text: &[u8]) -> usize
+    ensures len { result ≡ prefix_len continues_line text.now }
+    ensures within { result ≤ length text.now }
+{
+    text.iter().take_while(|&&b| b != b'\n').count()
+}
+
+// How many bytes stand after the last LF, or how many there are.
+fn last_len(text: &[u8]) -> usize
+    ensures len { result ≡ suffix_len continues_line text.now }
+    ensures within { result ≤ length text.now }
+{
+    text.iter().rev().take_while(|&&b| b != b'\n').count()
+}
 
 // What stands before the first LF, or all.
 fn first_line(text: &[u8]) -> &[u8]
     ensures { result.now ≡ first_line text.now }
 {
-    let len = text.iter().take_while(|&&b| b != b'\n').count();
-    &text[..len]
+    let (line, _) = text.split_at(first_len(text));
+    line
 }
 
 // What stands after the last LF, or all.
 fn last_line(text: &[u8]) -> &[u8]
     ensures { result.now ≡ last_line text.now }
 {
-    let len = text.iter().rev().take_while(|&&b| b != b'\n').count();
-    &text[text.len() - len..]
+    let (_, line) = text.split_at(text.len() - last_len(text));
+    line
 }
 
 // How a byte is shown.
