@@ -1,12 +1,13 @@
 //! Telling what came of calls.
 
-ghost use Rattle.grpc_frame.specs.Ends.{CanFail};
-ghost use Rattle.command_ends.specs.Printing.{said_of};
+ghost use Rattle.std.specs.Prelude.{◌++◌};
+ghost use Rattle.grpc_frame.specs.Ends.{CanFail, CountsFailure, FailsByTransport, Writes};
+ghost use Rattle.command_ends.specs.Printing.{Prints, fault_line, said_of};
 ghost use Rattle.fault_hints.specs.Hints.{hint_of};
 ghost use Rattle.client_commands.specs.CallOutcome.{Explains, TellsFailure, TellsPrinted};
 
 use client_calls::Failure;
-use command_ends::{ExitStatus, end_by_cause, print_fault};
+use command_ends::{ExitStatus, end_by_cause};
 use fault_hints::{Question, hint};
 use grpc_frame::Output;
 use scan_base::Fault;
@@ -57,4 +58,38 @@ fn explain<E: Output>(alloc: Global, faults: &mut E, fault: Fault, question: Que
         Ok(more) => print_fault(faults, fault, &more),
         Err(AllocError) => print_fault(faults, fault, &[]),
     }
+}
+
+/// Prints a fault in a line, and more after it, as far as `faults` takes them.
+pub(crate) fn print_fault<E: Output>(faults: &mut E, fault: Fault, more: &[u8])
+    requires { CanFail (E.failures faults.old) }
+    ensures { Prints (fault_line fault ++ more.now)
+        (said_of E.Output faults.old) (said_of E.Output faults.new) }
+{
+    let _ = write_more(faults, fault, more);
+}
+
+// Writes a fault in a line, and more after it.
+fn write_more<E: Output>(faults: &mut E, fault: Fault, more: &[u8]) -> Result<(), Fault>
+    requires { CanFail (E.failures faults.old) }
+    ensures bytes { Writes result (E.contents faults.old) (E.contents faults.new)
+        (fault_line fault ++ more.now) }
+    ensures counted { CountsFailure result (E.failures faults.old) (E.failures faults.new) }
+    ensures kind { FailsByTransport result }
+{
+    write_fault(faults, fault)?;
+    faults.write(more)
+}
+
+// Writes a fault in a line.
+fn write_fault<E: Output>(faults: &mut E, fault: Fault) -> Result<(), Fault>
+    requires { CanFail (E.failures faults.old) }
+    ensures bytes { Writes result (E.contents faults.old) (E.contents faults.new)
+        (fault_line fault) }
+    ensures counted { CountsFailure result (E.failures faults.old) (E.failures faults.new) }
+    ensures kind { FailsByTransport result }
+{
+    faults.write(b"fault: ")?;
+    faults.write(fault.text().as_str().as_bytes())?;
+    faults.write(b"\n")
 }

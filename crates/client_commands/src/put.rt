@@ -17,14 +17,12 @@ ghost use Rattle.csv_columns.specs.Refusals.{WhyNoColumns};
 ghost use Rattle.csv_columns.specs.TextRecords.{records_in};
 ghost use Rattle.csv_input.specs.Input.{form_of};
 
-use crate::call_outcome::{end_by_failure, end_by_printing};
+use crate::call_outcome::{end_by_failure, end_by_printing, print_fault};
 use crate::connecting::{end_unconnected, open};
 use crate::rows_put::put_rows;
 use bytes::Bytes;
 use client_calls::{Failure, Target};
-use command_ends::{
-    Connect, ExitStatus, end_by_cause, end_by_fault, print_count, print_fault, read_whole,
-};
+use command_ends::{Connect, ExitStatus, end_by_cause, end_by_fault, print_count, read_whole};
 use command_line::CsvForm;
 use csv_columns::columns_in;
 use csv_input::{CsvText, read_csv};

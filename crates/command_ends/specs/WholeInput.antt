@@ -2,9 +2,11 @@
 use Rattle.std.specs.Prelude.{◌≡◌, ◌⊎◌, ℕ, ◌+◌, List, Result, Ok, Err}
 use Rattle.std.specs.Io.KnownBytes.{IsAtEnd}
 use Rattle.scan_base.specs.declared.fault.Fault.{Fault}
-use Rattle.scan_base.specs.declared.fault.Fault.TheVariants.{OutOfMemory, Transport}
+use Rattle.scan_base.specs.declared.fault.Fault.TheVariants.{BadFlatbuffer, OutOfMemory, Transport}
 use Rattle.grpc_frame.specs.Ends.{Advances, Tape}
 use Rattle.grpc_frame.specs.declared.ends.Input.{Ghosts as InputMembers}
+use Rattle.ipc_stream.specs.declared.message.IpcMessage.{IpcMessage}
+use Rattle.ipc_stream.specs.Stream.{Framed, IsStream}
 
 -- an input: its tape, and how many reads have failed
 pub record Source : Type 0 where
@@ -31,3 +33,23 @@ StopsReading fault old new =
 abbrev pub ReadsWhole : Result (List ℕ) Fault → Source → Source → Type 0
 ReadsWhole (Ok bytes) old new = Gives bytes old new
 ReadsWhole (Err fault) old new = StopsReading fault old new
+
+-- the whole input is no Arrow IPC stream
+pub record IsNoStream (old new : Source) : Type 0 where
+  pub bytes : List ℕ
+  pub gives : Gives bytes old new
+  pub none : ¬ IsStream bytes
+
+-- the whole input is the Arrow IPC stream of these messages
+pub record IsStreamOf (messages : List IpcMessage) (old new : Source) : Type 0 where
+  pub bytes : List ℕ
+  pub gives : Gives bytes old new
+  pub rest : List ℕ
+  pub framed : Framed bytes messages rest
+
+-- the messages of the whole input, seen by `view`; or it is no stream (F6), or it was not read
+abbrev pub ReadsMessages : {A : Type 0} → (A → List IpcMessage) → Result A Fault → Source →
+    Source → Type 0
+ReadsMessages view (Ok messages) old new = IsStreamOf (view messages) old new
+ReadsMessages view (Err fault) old new =
+    ((fault ≡ BadFlatbuffer) × IsNoStream old new) ⊎ StopsReading fault old new

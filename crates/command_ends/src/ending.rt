@@ -44,27 +44,6 @@ pub fn end_by_cause<E: Output>(faults: &mut E, cause: &str) -> ExitStatus
     ExitStatus::FaultAtThisEnd
 }
 
-/// Prints a fault in a line, and after it more, as far as `faults` takes them.
-pub fn print_fault<E: Output>(faults: &mut E, fault: Fault, more: &[u8])
-    requires { CanFail (E.failures faults.old) }
-    ensures { Prints (fault_line fault ++ more.now)
-        (said_of E.Output faults.old) (said_of E.Output faults.new) }
-{
-    let _ = write_more(faults, fault, more);
-}
-
-// Writes a fault in a line, and more after it.
-fn write_more<E: Output>(faults: &mut E, fault: Fault, more: &[u8]) -> Result<(), Fault>
-    requires { CanFail (E.failures faults.old) }
-    ensures bytes { Writes result (E.contents faults.old) (E.contents faults.new)
-        (fault_line fault ++ more.now) }
-    ensures counted { CountsFailure result (E.failures faults.old) (E.failures faults.new) }
-    ensures kind { FailsByTransport result }
-{
-    write_fault(faults, fault)?;
-    faults.write(more)
-}
-
 // Writes a fault in a line.
 fn write_fault<E: Output>(faults: &mut E, fault: Fault) -> Result<(), Fault>
     requires { CanFail (E.failures faults.old) }

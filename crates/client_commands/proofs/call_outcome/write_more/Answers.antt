@@ -1,7 +1,7 @@
 use Rattle.std.proofs.lemmas.Result.{err_from_is_err_and}
 use Rattle.grpc_frame.proofs.Growing.{beginning_of_head, content_behind}
 use Rattle.command_ends.specs.Printing.{fault_line}
-use Rattle.command_ends.proofs.ending.write_more.Goals as goal
+use Rattle.client_commands.proofs.call_outcome.write_more.Goals as goal
 
 pub returns-in_err-write_fault-clause-bytes : goal.returns-in_err-write_fault-clause-bytes
 returns-in_err-write_fault-clause-bytes g c =
