@@ -1,6 +1,6 @@
 //! The first column of a schema whose type is not taken.
 
-ghost use Rattle.std.specs.Prelude.{◌≡◌, ◌<◌, IfOk, Ok, option_map, string_bytes};
+ghost use Rattle.std.specs.Prelude.{◌≡◌, ◌<◌, IfOk, Ok, Some, option_map, string_bytes};
 ghost use Rattle.scan_base.specs.Reading.{Gives};
 ghost use Rattle.fault_hints.specs.RefusedTypes.{column_at, column_line, column_said, columns_in};
 ghost use Rattle.fault_hints.specs.RefusedTypes.{first_refused, is_taken, kind_names, name_among};
@@ -163,7 +163,16 @@ fn columns_in(header: &[u8]) -> Result<Vector<'_>, Fault>
     schema.vector(1)?.ok_or(Fault::BadFlatbuffer)
 }
 
-/// The line for a column.
+// The line for a column whose type is not taken.
+fn refused_line(alloc: Global, name: &str, data_type: ColumnType) -> Result<String, AllocError>
+    ensures { IfOk result (λ line. string_bytes line
+        ≡ column_line (Some (record { name = name.now; type = data_type }))) }
+{
+    let words = type_words(alloc, data_type)?;
+    format!(in alloc; "column {name}: {words} is not taken\n")
+}
+
+/// The line for a column whose type is not taken, if there is one.
 ///
 /// # Errors
 ///
@@ -175,12 +184,10 @@ pub(crate) fn column_line(
     ensures { IfOk result
         (λ line. string_bytes line ≡ column_line (option_map column_at refused.entry)) }
 {
-    let Some(column) = refused else {
-        return String::from_str(alloc, "a type is not taken, or a body is compressed\n");
-    };
-    let words = type_words(alloc, column.data_type)?;
-    let name = column.name;
-    format!(in alloc; "column {name}: {words} is not taken\n")
+    match refused {
+        Some(column) => refused_line(alloc, column.name, column.data_type),
+        None => String::from_str(alloc, "a type is not taken, or a body is compressed\n"),
+    }
 }
 
 /// What is said of the schema that a header names, one of whose types may not be taken.
