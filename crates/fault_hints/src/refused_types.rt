@@ -1,6 +1,6 @@
 //! The first column of a schema whose type is not taken.
 
-ghost use Rattle.std.specs.Prelude.{◌≡◌, ◌<◌, IfOk, Ok, Some, option_map, string_bytes};
+ghost use Rattle.std.specs.Prelude.{◌≡◌, ◌<◌, ◌++◌, codes, IfOk, Ok, Some, option_map, string_bytes};
 ghost use Rattle.scan_base.specs.Reading.{Gives};
 ghost use Rattle.fault_hints.specs.RefusedTypes.{column_at, column_line, column_said, columns_in};
 ghost use Rattle.fault_hints.specs.RefusedTypes.{first_refused, is_taken, kind_names, name_among};
@@ -169,6 +169,13 @@ fn refused_line(alloc: Global, name: &str, data_type: ColumnType) -> Result<Stri
         ≡ column_line (Some (record { name = name.now; type = data_type }))) }
 {
     let words = type_words(alloc, data_type)?;
+    words_line(alloc, name, words.as_str())
+}
+
+fn words_line(alloc: Global, name: &str, words: &str) -> Result<String, AllocError>
+    ensures { IfOk result (λ line. string_bytes line ≡ codes "column " ++ (name.now
+        ++ (codes ": " ++ (words.now ++ codes " is not taken\n")))) }
+{
     format!(in alloc; "column {name}: {words} is not taken\n")
 }
 
