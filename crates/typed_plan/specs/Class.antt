@@ -44,7 +44,7 @@ literal_value (literal.Truth flag) = value.Bool flag
 literal_value (literal.Number number) = value.Int number
 literal_value (literal.Date day) = value.Int day
 
--- the class where literals are values: a number is one, whatever it means
+-- the class of a bound operand: a literal there is a value, so a date is a number
 abbrev pub bound_class : Class → Class
 bound_class Date = Number
 bound_class class = class
