@@ -30,7 +30,7 @@ use Rattle.query_binder.specs.NameClasses.{class_at, class_of_column, class_of_n
 use Rattle.typed_plan.specs.JoinedRows.{fields_in, place_columns}
 use Rattle.query_binder.specs.PlannedTree.{schema_in, place_tree}
 use Rattle.typed_plan.specs.TypedPlans.{types_of, tree_types, class_if_there, class_of_number, key_class_if_there, key_class}
-use Rattle.typed_plan.proofs.ClassFollows.{Follows}
+use Rattle.typed_plan.proofs.ClassFollows.{Follows, number_bound}
 
 abbrev pub type_in : ScopeColumn → DataType
 type_in column = column.field.data_type
@@ -116,8 +116,7 @@ key_follows scope name = name_follows (λ class. class) key_class_if_there (λ d
 literal_bound : (l : Literal) → value_class (literal_value l) ≡ bound_class (literal_class l)
 literal_bound (literal.Text bytes) = refl
 literal_bound (literal.Truth flag) = refl
-literal_bound (literal.Number number) = refl
-literal_bound (literal.Date day) = refl
+literal_bound (literal.Number kind number) = sym (number_bound kind)
 
 -- the class of a term is that of what stands for it
 pub term_follows : (scope : Scope) (written : Term) →
