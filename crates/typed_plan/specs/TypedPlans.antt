@@ -1,5 +1,5 @@
--- What a plan that is well typed has: each column is there, and what is compared is of one class. In
--- a predicate a date is a number, since a literal there is a value. In a key it is none.
+-- What a plan that is well typed has: each column is there, and what is compared is of one class.
+-- In a predicate a date is a number, since a literal there is a value. In a key it is none.
 use Rattle.std.specs.Prelude.{◌≡◌, ℕ, Bool, true, false, not, ◌&&◌, IsTrue, List, ◌++◌, length, map}
 use Rattle.std.specs.Prelude.{nat_lt, slice_get, get_or, unwrap_or}
 use Rattle.std.specs.Prelude.{Option, Some, None, Result, Ok, Err}
