@@ -5,8 +5,8 @@ use Rattle.scan_base.specs.declared.value.Value.TheVariants.{Int, Null, Text}
 use Rattle.scan_base.specs.declared.fault.Fault.TheVariants.{TableMissing, TableExists, LimitReached, BadBatch, SchemaMismatch}
 use Rattle.arrow_types.specs.declared.data_type.DataType.{DataType}
 use Rattle.arrow_types.specs.declared.data_type.DataType.TheVariants.{Number, Utf8, Dictionary}
-use Rattle.arrow_types.specs.declared.data_type.NumberType.TheVariants.{Integer}
-use Rattle.arrow_types.specs.declared.data_type.IntegerType.TheVariants.{Int8, Int64, UInt8}
+use Rattle.arrow_types.specs.declared.data_type.NumberType.TheVariants.{Integer, Date}
+use Rattle.arrow_types.specs.declared.data_type.IntegerType.TheVariants.{Int8, Int32, Int64, UInt8}
 use Rattle.arrow_types.specs.declared.schema.Field.{Field}
 use Rattle.arrays.specs.Batch.{BatchAt}
 use Rattle.scan_base.specs.declared.put_options.IfExists.{IfExists}
@@ -104,6 +104,20 @@ two_alike = refl
 
 other_type : after (database_after (created ∷ [])) 1 (appended (Number (Integer UInt8)) []) ≡ Err SchemaMismatch
 other_type = refl
+
+-- a date is no integer, though it lies in a slot as an Int32 does
+abbrev of_type : DataType → Put
+of_type data_type = put absent.Create Fail data_type (int 1 ∷ [])
+
+date_onto_int32 : after (database_after (of_type (Number (Integer Int32)) ∷ [])) 1 (appended (Number Date) (int 2 ∷ [])) ≡ Err SchemaMismatch
+date_onto_int32 = refl
+
+int32_onto_date : after (database_after (of_type (Number Date) ∷ [])) 1 (appended (Number (Integer Int32)) (int 2 ∷ [])) ≡ Err SchemaMismatch
+int32_onto_date = refl
+
+date_onto_date : after (database_after (of_type (Number Date) ∷ [])) 1 (appended (Number Date) (int 2 ∷ []))
+    ≡ Ok ((codes "t", table (Number Date) (int 1 ∷ int 2 ∷ [])) ∷ [])
+date_onto_date = refl
 
 other_name : after (database_after (created ∷ [])) 1 (record (appended int64 []) { schema = record { fields = field (codes "b") int64 ∷ [] } })
     ≡ Err SchemaMismatch
