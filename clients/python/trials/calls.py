@@ -257,6 +257,7 @@ def servers_that_break_off(run: Run) -> None:
     for said, kind, text in (
             (b"", flightscan.OperationalError, "F22 Transport (the server ended"),
             (b"\x05", flightscan.InternalError, "F1 BadFrame"),
+            (b"\x02\x00\x00\x00\x00\x00", flightscan.OperationalError, "F22 Transport (the server ended"),
             (b"\x02\x00\x00\x00\x00\x09abc", flightscan.OperationalError, "F22 Transport (the server ended"),
             (b"\x02\x00\x7f\x00\x00\x00", flightscan.InternalError, "F1 BadFrame"),
             (b"\x04\x00\x00\x00", flightscan.InternalError, "F4 BadProto (0 messages"),
