@@ -215,7 +215,7 @@ def put_table(frame: pandas.DataFrame | dask.dataframe.DataFrame, servers: Seque
 
     `by` names a column, by whose hash a row's server is chosen; or it is a column and bounds, one fewer than servers: the
     first server takes what is below the first bound. Nulls go to the first server. If a server fails, the others may have
-    made their put: see `PartPut`.
+    made their put: see `PartPut`. If a worker of Dask dies, its puts are made again, though a server may have made them.
     """
     if isinstance(frame, pandas.DataFrame):
         frame = dask.dataframe.from_pandas(frame, npartitions=1, sort=False)
@@ -270,6 +270,8 @@ def hashes(series: pandas.Series[Any]) -> Array:
         values = series.to_numpy(dtype=np.uint64 if kind == "u" else np.int64, **({"na_value": 0} if nulls.any() else {}))
     elif kind == "M":
         values = series.to_numpy().astype("datetime64[ns]").view(np.int64)
+    elif kind == "f":  # as pandas holds integers with nulls; a put refuses what is not whole
+        values = np.where(nulls, 0, series.to_numpy(dtype=np.float64, na_value=np.nan)).astype(np.int64)
     else:
         values = series.to_numpy(dtype=object)
     found: Array = pandas.util.hash_array(values)

@@ -39,6 +39,7 @@ class Link:
 
     def __init__(self, host: str, port: int, timeout: float | None):
         self.server, self.timeout, self.seen = f"{host}:{port}", timeout, 0
+        self.is_between = True  # calls: the last one was sent and answered to its end
         try:
             self.socket = socket.create_connection((host, port), timeout)
             self.socket.setsockopt(socket.IPPROTO_TCP, socket.TCP_NODELAY, 1)
@@ -58,6 +59,7 @@ class Link:
 
     def send_call(self, method: str, messages: Iterable[Pieces]) -> None:
         """Sends a call's records, each message as it is made. The server answers after the last."""
+        self.is_between = False
         path = (SERVICE + method).encode()
         held: list[Piece] = [struct.pack(">BH", OPEN, len(path)) + path]
         for pieces in messages:
@@ -131,6 +133,7 @@ class Link:
             raise fault(1, "the server's answer breaks the rules of records", self.server)
         code, length = struct.unpack(">BH", self.take(3))
         said = bytes(self.take(length)).decode(errors="replace")
+        self.is_between = True
         if code != 0:
             raise refusal(said, code, self.server)
 
@@ -157,16 +160,11 @@ class Records:
     def call(self, method: str, messages: Iterable[Pieces]) -> Iterator[memoryview]:
         """The messages that answer a call. What refuses it is raised, and a call that is left early closes its socket."""
         link = self.take(method)
-        is_whole = False
         try:
             link.send_call(method, messages)
             yield from link.answer()
-            is_whole = True
-        except Error as said:
-            is_whole = said.code is not None
-            raise
         finally:
-            self.end(link, method, is_whole)
+            self.end(link, method)
 
     def take(self, method: str) -> Link:
         with self.lock:
@@ -183,13 +181,13 @@ class Records:
         link.seen = puts
         return link
 
-    def end(self, link: Link, method: str, is_whole: bool) -> None:
+    def end(self, link: Link, method: str) -> None:
         """Keeps a socket for the next call where its call went to its end, and else closes it."""
         with self.lock:
             if method == "DoPut":
                 link.seen += link.seen == self.puts
                 self.puts += 1
-            if not is_whole or self.is_closed:
+            if not link.is_between or self.is_closed:
                 link.close()
                 return
             self.idle.append(link)

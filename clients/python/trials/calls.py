@@ -168,8 +168,16 @@ def sources_that_fail(run: Run) -> None:
         yield {"a": np.arange(100_000)}
         raise KeyError("the source")
 
+    def refused_parts() -> Any:
+        yield {"a": np.arange(100_000)}
+        yield connection.query("SELEKT")
+
     with run.connected() as connection:
         connection.put("t", {"a": [7]})
+        refused("a source that the server refuses", flightscan.ProgrammingError, "F13 BadSql at byte 0",
+                lambda: connection.put("t", refused_parts(), mode="append"))
+        same("the next call", ["t"], connection.tables())
+        same("and the one after it", ["t"], connection.tables())
         try:
             connection.put("t", parts(), mode="append")
         except KeyError as failed:
@@ -213,7 +221,7 @@ def look_at_sockets(connection: flightscan.Connection) -> None:
     for method, wanted in (("GetFlightInfo", True), ("DoPut", True), ("GetSchema", True), ("DoGet", False)):
         link = calls.take(method)
         same(f"the socket of {method} has seen all puts", wanted, link.seen == calls.puts)
-        calls.end(link, "GetFlightInfo", True)
+        calls.end(link, "GetFlightInfo")
 
 
 FOUND: dict[int, list[int]] = {}
@@ -249,6 +257,7 @@ def servers_that_break_off(run: Run) -> None:
     for said, kind, text in (
             (b"", flightscan.OperationalError, "F22 Transport (the server ended"),
             (b"\x05", flightscan.InternalError, "F1 BadFrame"),
+            (b"\x02\x00\x00\x00\x00\x00", flightscan.OperationalError, "F22 Transport (the server ended"),
             (b"\x02\x00\x00\x00\x00\x09abc", flightscan.OperationalError, "F22 Transport (the server ended"),
             (b"\x02\x00\x7f\x00\x00\x00", flightscan.InternalError, "F1 BadFrame"),
             (b"\x04\x00\x00\x00", flightscan.InternalError, "F4 BadProto (0 messages"),

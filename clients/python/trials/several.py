@@ -2,6 +2,10 @@
 
 from __future__ import annotations
 
+import os
+import pathlib
+import subprocess
+import sys
 import threading
 from decimal import Decimal
 from typing import Any
@@ -48,10 +52,13 @@ def spread_and_read(run: Run) -> str:
              {name: str(dtype) for name, dtype in read.dtypes.items()})
         counts = several.put_table(frame, servers, ("id", [10_000, 35_000]), "u")
         same("ranges", [10_000, 25_000, 5_000], counts)
+        same("neighbours are joined in their order", frame["id"].tolist(),
+             several.read_query("SELECT id FROM u", servers, 2)["id"].compute().tolist())
         same("a filter", frame["id"][(frame["km"] > 250).fillna(False)].tolist(),
              several.read_query("SELECT id FROM u WHERE km > 250", servers)["id"].compute().tolist())
         dask_frame = several.dask.dataframe.from_pandas(frame, npartitions=5)
         same("a frame of five partitions", 40_000, sum(several.put_table(dask_frame, servers, "km", "v", mode="replace")))
+        same("one step on each server", [3] * 3, [version for _, version in several.ask("SELECT id FROM v", servers).versions])
         same("its rows", frame["id"].tolist(), in_order(several.read_query("SELECT id FROM v", servers).compute())["id"].tolist())
         same("a sum by Dask", int(frame["km"].sum()), int(several.read_query("SELECT km FROM v", servers)["km"].sum().compute()))
     return f"{len(frame)} rows"
@@ -61,6 +68,24 @@ def with_categories(pandas: Any, given: Any, wanted: Any) -> Any:
     """The same values with the categories in one order: that order is of no meaning."""
     given["town"] = pandas.Categorical(given["town"].astype(object), wanted["town"].cat.categories)
     return given
+
+
+@case("hashes are the same in each process, for equal numbers of any width, and 0 of a null")
+def hashes_are_equal(run: Run) -> None:
+    pandas, several = modules()
+    words = ["Delft", "Jørgensby", None]
+    asked = f"import pandas, flightscan.dask as d; print(d.hashes(pandas.Series({words!r})).tolist())"
+    home = str(pathlib.Path(flightscan.__file__).parent.parent)
+    for seed in "12":
+        said = subprocess.run([sys.executable, "-c", asked], env=os.environ | {"PYTHONPATH": home, "PYTHONHASHSEED": seed},
+                              capture_output=True, check=True).stdout.decode()
+        same("hashes of another process", str(several.hashes(pandas.Series(words)).tolist()), said.strip())
+    wanted = several.hashes(pandas.Series([-5, 77])).tolist()
+    for dtype in ("int8", "int16", "Int32", "float64"):
+        same(f"hashes of {dtype}", wanted, several.hashes(pandas.Series([-5, 77], dtype=dtype)).tolist())
+    for dtype in ("Int32", "float64"):
+        same(f"{dtype} with a null", [*wanted, 0], several.hashes(pandas.Series([-5, 77, None], dtype=dtype)).tolist())
+    same("a null", 0, int(several.hashes(pandas.Series(words))[2]))
 
 
 @case("groups: counts and sums of all servers, added exactly, are those of pandas over all rows")
