@@ -7,6 +7,7 @@ ghost use Rattle.sql_query.specs.Sentence.{sentence_of, is_aggregate, has_aggreg
 ghost use Rattle.sql_query.specs.Sentence.{place_name};
 ghost use Rattle.sql_query.specs.Sentence.{is_left_out_whole};
 
+use number_keys::Numeral;
 use scan_base::{Items, Predicate, Text};
 
 /// A column, by its name, or by the name of its place and its own.
@@ -33,6 +34,8 @@ pub enum Literal {
     Number(i128),
     /// The day number of the date after `DATE`, where 1970-01-01 is 0.
     Date(i32),
+    /// What a sign and a numeral say.
+    Numeral(Numeral),
 }
 
 /// A side of a comparison as it is written.
