@@ -1,5 +1,5 @@
 -- A chain is bound from its first predicate on, and each predicate of it is smaller than it.
-use Rattle.std.proofs.Common.{◌≡◌, ℕ, ◌+◌, ◌≤◌, List, [], ◌∷◌, ◌++◌, map, Some, None, Result, arith, refl}
+use Rattle.std.proofs.Common.{◌≡◌, ℕ, ◌+◌, ◌≤◌, List, [], ◌∷◌, ◌++◌, map, Option, Some, None, Result, arith, refl}
 use Rattle.std.proofs.Common.{ap, sym, ◌∙◌}
 use Rattle.std.proofs.lemmas.List.{map-append}
 use Rattle.scan_base.specs.declared.fault.Fault.{Fault}
@@ -9,7 +9,10 @@ use Rattle.sql_query.specs.declared.query.Term.{Term}
 use Rattle.query_binder.specs.declared.chain.Connective.{Connective}
 use Rattle.query_binder.specs.declared.chain.Connective.TheVariants.{And, Or}
 use Rattle.typed_plan.specs.declared.class.Class.{Class}
+use Rattle.typed_plan.specs.ExactNumbers.{exact, or_equal, exact_comparing}
+use Rattle.scan_base.specs.declared.comparison.Comparison.TheVariants.{Equal}
 use Rattle.typed_plan.specs.Faults.{◌then◌, predicate_fault}
+use Rattle.typed_plan.specs.Scope.{Scope}
 use Rattle.scan_base.specs.View.{pred_of}
 use Rattle.query_binder.specs.declared.chain.ChainLink.{ChainLink}
 use Rattle.query_binder.specs.Chain.{LinkAt, link_of, connected, first_predicate, links_of}
@@ -51,28 +54,35 @@ chained_nearest p [] side = refl
 chained_nearest p (far ∷ sides) side =
     ap (λ left. connected far.connective left far.predicate) (chained_nearest p sides side)
 
+-- the first fault of a predicate, and the predicate that is bound, where numerals are compared by their exact values
+abbrev pub exact_fault : Scope → (Term → Result Class Fault) → Pred Term → Option Fault
+exact_fault scope f p = predicate_fault f (exact scope p)
+
+abbrev pub exact_bind : {C : Type 0} → Scope → (Term → Operand C) → Pred Term → Pred C
+exact_bind scope g p = predicate_bind g (exact scope p)
+
 -- a fault of what comes first is the chain's
-pub first_fault : (f : Term → Result Class Fault) (p : Pred Term) (sides : List LinkAt) (fault : Fault) →
-    predicate_fault f p ≡ Some fault → predicate_fault f (chained p sides) ≡ Some fault
-first_fault f p [] fault e = e
-first_fault f p (side ∷ sides) fault e = connected_fault side.connective (first_fault f p sides fault e)
+pub first_fault : (scope : Scope) (f : Term → Result Class Fault) (p : Pred Term) (sides : List LinkAt) (fault : Fault) →
+    exact_fault scope f p ≡ Some fault → exact_fault scope f (chained p sides) ≡ Some fault
+first_fault scope f p [] fault e = e
+first_fault scope f p (side ∷ sides) fault e = connected_fault side.connective (first_fault scope f p sides fault e)
   where
-    connected_fault : (connective : Connective) → predicate_fault f (chained p sides) ≡ Some fault →
-        predicate_fault f (connected connective (chained p sides) side.predicate) ≡ Some fault
-    connected_fault And e = ap (λ first. first then predicate_fault f side.predicate) e
-    connected_fault Or e = ap (λ first. first then predicate_fault f side.predicate) e
+    connected_fault : (connective : Connective) → exact_fault scope f (chained p sides) ≡ Some fault →
+        exact_fault scope f (connected connective (chained p sides) side.predicate) ≡ Some fault
+    connected_fault And e = ap (λ first. first then exact_fault scope f side.predicate) e
+    connected_fault Or e = ap (λ first. first then exact_fault scope f side.predicate) e
 
 -- without a fault of what comes first, the side's is the first
-pub side_fault : (f : Term → Result Class Fault) (p q : Pred Term) (connective : Connective) →
-    predicate_fault f p ≡ None →
-    predicate_fault f (connected connective p q) ≡ predicate_fault f q
-side_fault f p q And e = ap (λ first. first then predicate_fault f q) e
-side_fault f p q Or e = ap (λ first. first then predicate_fault f q) e
+pub side_fault : (scope : Scope) (f : Term → Result Class Fault) (p q : Pred Term) (connective : Connective) →
+    exact_fault scope f p ≡ None →
+    exact_fault scope f (connected connective p q) ≡ exact_fault scope f q
+side_fault scope f p q And e = ap (λ first. first then exact_fault scope f q) e
+side_fault scope f p q Or e = ap (λ first. first then exact_fault scope f q) e
 
-pub connected_map : {C : Type 0} (g : Term → Operand C) (p q : Pred Term) (connective : Connective) →
-    predicate_bind g (connected connective p q) ≡ connected connective (predicate_bind g p) (predicate_bind g q)
-connected_map g p q And = refl
-connected_map g p q Or = refl
+pub connected_map : {C : Type 0} (scope : Scope) (g : Term → Operand C) (p q : Pred Term) (connective : Connective) →
+    exact_bind scope g (connected connective p q) ≡ connected connective (exact_bind scope g p) (exact_bind scope g q)
+connected_map scope g p q And = refl
+connected_map scope g p q Or = refl
 
 pub connected_operators : (p q : Pred Term) (connective : Connective) →
     operators (connected connective p q) ≡ 1 + (operators p + operators q)
@@ -96,10 +106,10 @@ first_operators (membership negated operand items) = omega arith
 first_operators (null_test negated operand) = omega arith
 first_operators (constant truth) = omega arith
 
-pub chain_fault : (f : Term → Result Class Fault) (p whole : Pred Term) (sides : List LinkAt)
+pub chain_fault : (scope : Scope) (f : Term → Result Class Fault) (p whole : Pred Term) (sides : List LinkAt)
     (fault : Fault) →
-    chained p sides ≡ whole → predicate_fault f p ≡ Some fault → predicate_fault f whole ≡ Some fault
-chain_fault f p whole sides fault is e = ap (predicate_fault f) (sym is) ∙ first_fault f p sides fault e
+    chained p sides ≡ whole → exact_fault scope f p ≡ Some fault → exact_fault scope f whole ≡ Some fault
+chain_fault scope f p whole sides fault is e = ap (exact_fault scope f) (sym is) ∙ first_fault scope f p sides fault e
 
 -- a predicate and a side, taken apart
 pub started : (side : ChainLink) (left : Pred Term) (fresh pushed all : List ChainLink) → fresh ≡ [] →
@@ -133,10 +143,20 @@ side_operators done q left right connective outer sides is =
       connected_operators left right outer,
     )
 
-pub bound_more : {C : Type 0} (g : Term → Operand C) (connective : Connective) (done q : Pred Term)
+pub bound_more : {C : Type 0} (scope : Scope) (g : Term → Operand C) (connective : Connective) (done q : Pred Term)
     (whole left right : Pred C) →
-    whole ≡ connected connective left right → left ≡ predicate_bind g done → right ≡ predicate_bind g q →
-    whole ≡ predicate_bind g (connected connective done q)
-bound_more g connective done q whole left right is l r =
-    is ∙ ap (λ p. connected connective p right) l ∙ ap (λ p. connected connective (predicate_bind g done) p) r
-    ∙ sym (connected_map g done q connective)
+    whole ≡ connected connective left right → left ≡ exact_bind scope g done → right ≡ exact_bind scope g q →
+    whole ≡ exact_bind scope g (connected connective done q)
+bound_more scope g connective done q whole left right is l r =
+    is ∙ ap (λ p. connected connective p right) l ∙ ap (λ p. connected connective (exact_bind scope g done) p) r
+    ∙ sym (connected_map scope g done q connective)
+
+-- ---- the OR of equalities
+
+-- a fault of what comes first is that of the whole
+pub or_fault : (scope : Scope) (f : Term → Result Class Fault) (a : Operand Term) (p : Pred Term) (items : List (Operand Term)) (fault : Fault) →
+    predicate_fault f p ≡ Some fault → predicate_fault f (or_equal scope a p items) ≡ Some fault
+or_fault scope f a p [] fault e = e
+or_fault scope f a p (item ∷ items) fault e =
+    or_fault scope f a (disjunction p (exact_comparing scope Equal a item)) items fault
+    (ap (λ first. first then predicate_fault f (exact_comparing scope Equal a item)) e)

@@ -15,6 +15,7 @@ use Rattle.typed_plan.specs.Faults.{◌then◌, must, first_in, fault_in, predic
 use Rattle.query_binder.specs.NameClasses.{class_of_term, filter_fault}
 use Rattle.typed_plan.specs.JoinedRows.{place_columns, scope_of}
 use Rattle.typed_plan.specs.Class.{bound_class}
+use Rattle.typed_plan.specs.ExactNumbers.{exact}
 use Rattle.typed_plan.specs.NumberedPredicates.{predicate_bind}
 use Rattle.typed_plan.specs.Plan.{Tree}
 use Rattle.query_binder.specs.PlannedTree.{place_tree, joins_tree, from_tree, numbered_filter, where_kept, output_for, plan_for}
@@ -31,9 +32,9 @@ where_typed : (scope : Scope) (tree : Tree) (filtering : Option (Pred Term)) →
     filter_fault scope filtering ≡ None → HasTypes scope (where_kept (numbered_filter scope filtering) tree)
 where_typed scope tree None has e = has
 where_typed scope tree (Some predicate) has e =
-    let numbers = predicate_bind (term_operand scope) predicate in
+    let numbers = predicate_bind (term_operand scope) (exact scope predicate) in
     let follows = bound_follows (class_of_term scope) (class_of_number (scope_types scope)) (term_operand scope)
-    bound_class value_bound (term_follows scope) predicate e in
+    bound_class value_bound (term_follows scope) (exact scope predicate) e in
     record {
       types = has.types;
       typed = (

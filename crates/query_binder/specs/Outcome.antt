@@ -9,6 +9,7 @@ use Rattle.sql_query.specs.declared.query.Term.{Term}
 use Rattle.typed_plan.specs.Faults.{predicate_fault}
 use Rattle.query_binder.specs.NameClasses.{class_of_term}
 use Rattle.typed_plan.specs.NumberedPredicates.{predicate_bind}
+use Rattle.typed_plan.specs.ExactNumbers.{exact}
 use Rattle.typed_plan.specs.Scope.{Scope, term_operand}
 
 -- Ok where there is no fault, and the value is as said; else the first fault, or want of memory
@@ -21,8 +22,12 @@ abbrev pub Finds : {X : Type 0} → Option Fault → (X → Type 0) → Result X
 Finds first IsFound (Ok x) = (first ≡ None) × IsFound x
 Finds first IsFound (Err fault) = first ≡ Some fault
 
--- a predicate's first fault from the left, or the predicate over numbers of columns
-abbrev pub BindsPredicate : Scope → Pred Term → Result (Predicate ℕ) Fault → Type 0
-BindsPredicate scope predicate =
+-- a predicate's first fault from the left, or the predicate over numbers of columns, as it is
+abbrev pub BindsPlainly : Scope → Pred Term → Result (Predicate ℕ) Fault → Type 0
+BindsPlainly scope predicate =
     Binds (predicate_fault (class_of_term scope) predicate)
     (λ bound. pred_of bound ≡ predicate_bind (term_operand scope) predicate)
+
+-- the same, where numerals are compared by their exact values
+abbrev pub BindsPredicate : Scope → Pred Term → Result (Predicate ℕ) Fault → Type 0
+BindsPredicate scope predicate = BindsPlainly scope (exact scope predicate)

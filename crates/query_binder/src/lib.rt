@@ -4,6 +4,7 @@
 mod answer;
 pub mod binding;
 mod chain;
+mod exact;
 mod group_by;
 mod joining;
 mod places;

@@ -2,17 +2,22 @@
 
 ghost use Rattle.std.specs.Prelude.{◌≡◌, IfOk, Ok, map};
 ghost use Rattle.scan_base.specs.Predicate.{truth_test, comparing, between, membership, null_test};
+ghost use Rattle.scan_base.specs.Predicate.{conjunction};
+ghost use Rattle.scan_base.specs.declared.comparison.Comparison.TheVariants as comparison;
 ghost use Rattle.scan_base.specs.View.{pred_of};
 ghost use Rattle.typed_plan.specs.Class.{literal_value};
 ghost use Rattle.typed_plan.specs.Scope.{term_operand};
 ghost use Rattle.typed_plan.specs.Faults.{operand_class, compare_fault, items_fault, fault_in};
-ghost use Rattle.query_binder.specs.NameClasses.{class_of_name, class_of_term};
+ghost use Rattle.typed_plan.specs.ExactNumbers.{equal_to_any, exact_comparing, not_if, tested};
+ghost use Rattle.query_binder.specs.NameClasses.{class_of_name, class_of_literal, class_of_term};
 ghost use Rattle.typed_plan.specs.NumberedPredicates.{operand_bind};
 ghost use Rattle.query_binder.specs.Chain.{connected};
-ghost use Rattle.query_binder.specs.Outcome.{Binds, BindsPredicate};
+ghost use Rattle.query_binder.specs.Outcome.{Binds, BindsPlainly, BindsPredicate};
 
 use crate::chain::{ChainLink, Connective, first_of};
+use crate::exact::{any_numeral, is_numeral, mirrored, operand_numeral, operand_scale};
 use crate::scope::Scope;
+use number_keys::{NumberTest, test_of};
 use scan_base::{Comparison, Fault, Items, Operand, Predicate, Truth, Value};
 use sql_query::{ColumnName, Literal, Term};
 use std::alloc::{AllocError, Global};
@@ -26,13 +31,23 @@ fn name_class(scope: &Scope<'_>, name: &ColumnName) -> Result<Class, Fault>
     Ok(Class::of_type(scope.field(number).data_type))
 }
 
+// The class of a literal. A numeral that is no test of a column's numbers has none.
+fn literal_class(literal: &Literal) -> Result<Class, Fault>
+    ensures { result ≡ class_of_literal literal.now }
+{
+    match literal {
+        Literal::Numeral(_) => Err(Fault::TypeClash),
+        _ => Ok(Class::of_literal(literal)),
+    }
+}
+
 // The class of a term.
 fn term_class(scope: &Scope<'_>, term: &Term) -> Result<Class, Fault>
     ensures { result ≡ class_of_term scope.now term.now }
 {
     match term {
         Term::Name(name) => name_class(scope, name),
-        Term::Literal(literal) => Ok(Class::of_literal(literal)),
+        Term::Literal(literal) => literal_class(literal),
     }
 }
 
@@ -65,6 +80,7 @@ fn bind_literal(literal: &Literal) -> Result<Value, AllocError>
         Literal::Truth(flag) => Ok(Value::Bool(*flag)),
         Literal::Number(number) => Ok(Value::Int(*number)),
         Literal::Date(day) => Ok(Value::Int(i128::from(*day))),
+        Literal::Numeral(_) => Ok(Value::Int(0)),
     }
 }
 
@@ -108,13 +124,13 @@ fn number_items(
 }
 
 // The left side, the right side, then whether their classes agree.
-fn number_comparison(
+fn plain_comparison(
     scope: &Scope<'_>,
     comparison: Comparison,
     left: &Operand<Term>,
     right: &Operand<Term>,
 ) -> Result<Predicate<usize>, Fault>
-    ensures { BindsPredicate scope.now (comparing comparison left.now right.now) result }
+    ensures { BindsPlainly scope.now (comparing comparison left.now right.now) result }
 {
     agree(operand_class(scope, left)?, operand_class(scope, right))?;
     Ok(Predicate::Compare {
@@ -124,8 +140,101 @@ fn number_comparison(
     })
 }
 
+// The test of an operand.
+fn number_test(
+    scope: &Scope<'_>,
+    operand: &Operand<Term>,
+    test: NumberTest,
+) -> Result<Predicate<usize>, Fault>
+    ensures { BindsPlainly scope.now (tested operand.now test) result }
+{
+    match test {
+        NumberTest::Compare(comparison, number) => {
+            let whole = Operand::Column(Term::Literal(Literal::Number(number)));
+            plain_comparison(scope, comparison, operand, &whole)
+        }
+        NumberTest::Never => plain_comparison(scope, Comparison::NotEqual, operand, operand),
+        NumberTest::Always => plain_comparison(scope, Comparison::Equal, operand, operand),
+    }
+}
+
+// A comparison. Of a column's numbers with a numeral it is a test.
+fn number_comparison(
+    scope: &Scope<'_>,
+    comparison: Comparison,
+    left: &Operand<Term>,
+    right: &Operand<Term>,
+) -> Result<Predicate<usize>, Fault>
+    ensures { BindsPlainly scope.now
+        (exact_comparing scope.now comparison left.now right.now) result }
+{
+    let (turned, operand, numeral) = match (operand_numeral(left), operand_numeral(right)) {
+        (Some(numeral), _) => (mirrored(comparison), right, numeral),
+        (None, Some(numeral)) => (comparison, left, numeral),
+        (None, None) => return plain_comparison(scope, comparison, left, right),
+    };
+    match operand_scale(scope, operand) {
+        Some(scale) => number_test(scope, operand, test_of(turned, numeral, scale)),
+        None => plain_comparison(scope, comparison, left, right),
+    }
+}
+
+// NOT the predicate, where that is said.
+fn not_if(
+    alloc: Global,
+    negated: bool,
+    predicate: Predicate<usize>,
+) -> Result<Predicate<usize>, AllocError>
+    ensures { IfOk result (λ whole. pred_of whole ≡ not_if negated (pred_of predicate)) }
+{
+    if negated {
+        let predicate = Box::new(alloc, predicate).map_err(|_| AllocError)?;
+        Ok(Predicate::Not(predicate))
+    } else {
+        Ok(predicate)
+    }
+}
+
+// `operand >= low AND operand <= high`.
+fn exact_between(
+    alloc: Global,
+    scope: &Scope<'_>,
+    operand: &Operand<Term>,
+    low: &Operand<Term>,
+    high: &Operand<Term>,
+) -> Result<Predicate<usize>, Fault>
+    ensures { BindsPlainly scope.now (conjunction
+        (exact_comparing scope.now comparison.GreaterOrEqual operand.now low.now)
+        (exact_comparing scope.now comparison.LessOrEqual operand.now high.now)) result }
+{
+    let low = number_comparison(scope, Comparison::GreaterOrEqual, operand, low)?;
+    let high = number_comparison(scope, Comparison::LessOrEqual, operand, high)?;
+    Ok(Connective::And.connect(alloc, low, high)?)
+}
+
+// `operand = first OR operand = second ..`.
+fn equal_to_any(
+    alloc: Global,
+    scope: &Scope<'_>,
+    operand: &Operand<Term>,
+    items: &[Operand<Term>],
+) -> Result<Predicate<usize>, Fault>
+    ensures { BindsPlainly scope.now (equal_to_any scope.now operand.now items.now) result }
+{
+    let [first, rest @ ..] = items else {
+        return Ok(Predicate::Constant(Truth::False));
+    };
+    let mut bound = number_comparison(scope, Comparison::Equal, operand, first)?;
+    for item in rest {
+        let equal = number_comparison(scope, Comparison::Equal, operand, item)?;
+        bound = Connective::Or.connect(alloc, bound, equal)?;
+    }
+    Ok(bound)
+}
+
 // `operand BETWEEN low AND high`: the operand, then each end's name and class.
 fn number_between(
+    alloc: Global,
     scope: &Scope<'_>,
     negated: bool,
     operand: &Operand<Term>,
@@ -134,6 +243,10 @@ fn number_between(
 ) -> Result<Predicate<usize>, Fault>
     ensures { BindsPredicate scope.now (between negated operand.now low.now high.now) result }
 {
+    if is_numeral(operand) || is_numeral(low) || is_numeral(high) {
+        let both = exact_between(alloc, scope, operand, low, high)?;
+        return Ok(not_if(alloc, negated, both)?);
+    }
     let class = operand_class(scope, operand)?;
     agree(class, operand_class(scope, low))?;
     agree(class, operand_class(scope, high))?;
@@ -155,6 +268,10 @@ fn number_in(
 ) -> Result<Predicate<usize>, Fault>
     ensures { BindsPredicate scope.now (membership negated operand.now items.now) result }
 {
+    if is_numeral(operand) || any_numeral(items) {
+        let any = equal_to_any(alloc, scope, operand, items)?;
+        return Ok(not_if(alloc, negated, any)?);
+    }
     let class = operand_class(scope, operand)?;
     let items = number_items(alloc, scope, class, items)?;
     Ok(Predicate::In {
@@ -206,7 +323,7 @@ pub(crate) fn number_predicate(
             operand,
             low,
             high,
-        } => number_between(scope, *negated, operand, low, high),
+        } => number_between(alloc, scope, *negated, operand, low, high),
         Predicate::In {
             negated,
             operand,

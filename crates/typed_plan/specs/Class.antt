@@ -1,5 +1,5 @@
 -- The classes of values: only values of one class are compared. And the values of literals.
-use Rattle.std.specs.Prelude.{Bool, true, false}
+use Rattle.std.specs.Prelude.{Bool, true, false, pos}
 use denote.Enum.Bare.{sameb}
 use Rattle.arrow_types.specs.declared.data_type.DataType.{DataType}
 use Rattle.arrow_types.specs.declared.data_type.DataType.TheVariants as type
@@ -36,13 +36,16 @@ literal_class (literal.Text bytes) = Text
 literal_class (literal.Truth flag) = Truth
 literal_class (literal.Number number) = Number
 literal_class (literal.Date day) = Date
+literal_class (literal.Numeral numeral) = Number
 
--- the value of a literal: of a date it is the day number
+-- The value of a literal: of a date it is the day number. A numeral has none here: next to a column
+-- of numbers it is a test, and else a fault.
 abbrev pub literal_value : Literal → Value
 literal_value (literal.Text bytes) = value.Text bytes
 literal_value (literal.Truth flag) = value.Bool flag
 literal_value (literal.Number number) = value.Int number
 literal_value (literal.Date day) = value.Int day
+literal_value (literal.Numeral numeral) = value.Int (pos 0)
 
 -- the class where literals are values: a number is one, whatever it means
 abbrev pub bound_class : Class → Class

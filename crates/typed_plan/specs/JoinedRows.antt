@@ -14,6 +14,7 @@ use Rattle.sql_query.specs.declared.query.Equality.{Equality}
 use Rattle.sql_query.specs.Sentence.{Sentence, place_name}
 use Rattle.table_versions.specs.Table.{Row, Table}
 use Rattle.table_versions.specs.Database.{Database, table_at}
+use Rattle.typed_plan.specs.ExactNumbers.{exact}
 use Rattle.typed_plan.specs.Scope.{Scope, columns_in, named_cell, term_value}
 
 -- the columns of a table, where it is there
@@ -76,10 +77,11 @@ from_rows query database a b =
     rows_after database (place_columns database query.first) query.joins
     (rows_between a b (place_rows database query.first))
 
--- whether WHERE is true
+-- whether WHERE is true, where numerals are compared by their exact values
 abbrev pub meets_where : Scope → Option (Pred Term) → Row → Bool
 meets_where scope None row = true
-meets_where scope (Some predicate) row = keeps (truth_of (term_value scope row) predicate)
+meets_where scope (Some predicate) row =
+    keeps (truth_of (term_value scope row) (exact scope predicate))
 
 -- the joined rows for which WHERE is true, in order
 abbrev pub kept_rows : Sentence → Database → ℕ → ℕ → List Row
