@@ -7,6 +7,8 @@ use Rattle.arrow_types.specs.declared.data_type.IntegerType.TheVariants.{UInt8, 
 use Rattle.arrow_types.specs.declared.data_type.IntegerType.TheVariants.{UInt64}
 use Rattle.arrow_types.specs.declared.data_type.NumberType.{NumberType}
 use Rattle.arrow_types.specs.declared.data_type.NumberType.TheVariants as number
+use Rattle.arrow_types.specs.declared.data_type.FloatWidth.{FloatWidth}
+use Rattle.arrow_types.specs.declared.data_type.FloatWidth.TheVariants.{Single, Double}
 use Rattle.arrow_types.specs.declared.data_type.Cell.{Cell}
 use Rattle.arrow_types.specs.declared.data_type.Cell.TheVariants as cell
 use Rattle.arrow_types.specs.declared.data_type.DataType.{DataType}
@@ -32,11 +34,17 @@ bit_width integer = (integer_form integer).1
 abbrev pub is_signed : IntegerType → Bool
 is_signed integer = (integer_form integer).0
 
+-- how many bytes a float has
+abbrev pub float_bytes : FloatWidth → ℕ
+float_bytes Single = 4
+float_bytes Double = 8
+
 -- how a number of a type lies in a slot: a date in 32 bits with a sign, a decimal in 16 bytes
 abbrev pub cell_of : NumberType → Cell
 cell_of (number.Integer integer) = cell.Integer integer
 cell_of number.Decimal = cell.Wide
 cell_of number.Date = cell.Integer Int32
+cell_of (number.Float width) = cell.Float width
 
 -- whether two are one type
 abbrev pub same_number : NumberType → NumberType → Bool
@@ -44,6 +52,8 @@ same_number (number.Integer one) (number.Integer other) =
     bit_width one == bit_width other && same_flag (is_signed one) (is_signed other)
 same_number number.Decimal number.Decimal = true
 same_number number.Date number.Date = true
+same_number (number.Float Single) (number.Float Single) = true
+same_number (number.Float Double) (number.Float Double) = true
 same_number _ _ = false
 
 -- the dictionary of a type, where it has one

@@ -25,20 +25,31 @@ pub struct DictionaryEncoding {
     pub index: IntegerType,
 }
 
+/// How many bits a float has: 32 or 64.
+#[derive(Clone, Copy, Debug, PartialEq, Eq)]
+pub enum FloatWidth {
+    Single,
+    Double,
+}
+
 /// The types whose values are whole numbers, in whose order they stand. A decimal is one of 38
-/// digits with none after the point. A date is a number of whole days from 1970-01-01 on.
+/// digits with none after the point. A date is a number of whole days from 1970-01-01 on. The number
+/// of a float is its key.
 #[derive(Clone, Copy, Debug, PartialEq, Eq)]
 pub enum NumberType {
     Integer(IntegerType),
     Decimal,
     Date,
+    Float(FloatWidth),
 }
 
-/// How a number lies in a slot: as an integer of fixed width, or in 16 bytes with a sign.
+/// How a number lies in a slot: as an integer of fixed width, in 16 bytes with a sign, or as a
+/// float.
 #[derive(Clone, Copy, Debug, PartialEq, Eq)]
 pub enum Cell {
     Integer(IntegerType),
     Wide,
+    Float(FloatWidth),
 }
 
 /// The type of a column's values. A dictionary's values are Utf8.
@@ -86,6 +97,7 @@ impl NumberType {
             NumberType::Integer(integer) => Cell::Integer(integer),
             NumberType::Decimal => Cell::Wide,
             NumberType::Date => Cell::Integer(IntegerType::Int32),
+            NumberType::Float(width) => Cell::Float(width),
         }
     }
 
@@ -99,6 +111,8 @@ impl NumberType {
             }
             (NumberType::Decimal, NumberType::Decimal) => true,
             (NumberType::Date, NumberType::Date) => true,
+            (NumberType::Float(FloatWidth::Single), NumberType::Float(FloatWidth::Single)) => true,
+            (NumberType::Float(FloatWidth::Double), NumberType::Float(FloatWidth::Double)) => true,
             (_, _) => false,
         }
     }
