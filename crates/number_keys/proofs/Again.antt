@@ -1,5 +1,5 @@
 -- Keys, their bits and their floats, there and back.
-use Rattle.std.proofs.Common.{◌≡◌, ℕ, zero, suc, ◌+◌, ◌-◌, ◌*◌, ◌/◌, ◌%◌, ◌^◌, ◌<◌, ◌≤◌, Bool, true, false, cond, not, T, ℤ, pos, negsuc, refl, sym, ap, ◌∙◌, subst, arith, inl, inr, ◌⊎◌, mod-eq_of_lt, ◌==◌, eqb→eq, eq-eqb, true≢false}
+use Rattle.std.proofs.Common.{◌≡◌, ℕ, zero, suc, ◌+◌, ◌-◌, ◌*◌, ◌/◌, ◌%◌, ◌^◌, ◌<◌, ◌≤◌, Bool, true, false, cond, not, T, ℤ, pos, negsuc, refl, sym, ap, ◌∙◌, subst, arith, inl, inr, ◌⊎◌, mod-eq_of_lt, ◌==◌, eqb→eq, eq-eqb, true≢false, nltb→le}
 use Rattle.std.proofs.lemmas.Bool.{cases_Bool, cases_order}
 use native.Mathlib.Nat.{add-mod_left}
 use lib.Dec.{eqb, ltb, leb, lt→ltb, ltb→lt, leb→le, le→leb}
@@ -84,3 +84,16 @@ key_of_negative f n h =
     let sign : leb (top f) (top f + n) ≡ true = is_so (leb (top f) (top f + n)) (le→leb (top f) (top f + n) (omega arith)) in
     let size : (top f + n) % top f ≡ n = add-mod_left (top f) n ∙ mod-eq_of_lt h in
     λ i. key_of_parts f (sign i) (size i)
+
+not_over : (n p : ℕ) → ltb n p ≡ false → p ≤ n
+not_over n p h = nltb→le n p (subst (λ (b : Bool). T (not b)) (sym h) tt)
+
+-- what is the key of bits is a key
+pub key_stands : (f : Format) (b : ℕ) → IsKey f (key_of f b)
+key_stands f b = go (ltb (infinity f) (b % top f)) (leb (top f) b) (b % top f) refl
+  where
+    go : (n s : Bool) (size : ℕ) → ltb (infinity f) size ≡ n → IsKey f (cond n (pos (suc (infinity f))) (signed s size))
+    go true s size e = omega arith
+    go false false size e = omega (arith, not_over (infinity f) size e)
+    go false true zero e = omega arith
+    go false true (suc size) e = not_over (infinity f) (suc size) e
