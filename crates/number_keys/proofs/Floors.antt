@@ -179,17 +179,23 @@ is_not_so : (b : Bool) → (T b → ⊥) → b ≡ false
 is_not_so true f = absurd (f tt)
 is_not_so false f = refl
 
+pub never_less : (n : ℕ) → ltb n 0 ≡ false
+never_less n = is_not_so (ltb n 0) (λ t. omega (arith, ltb→lt n 0 t))
+
 -- a number of 128 bits is below this one
 above : (m : ℕ) → 2 ^ 127 ≤ m → (number : ℤ) → FitsSigned w128 number → Less ≡ int_cmp number (pos m)
-above m M (pos n) h = sym (by_sides (pos n) (pos m) true (ltb m n) (is_so (ltb n m) (lt→ltb n m (omega (arith, M, h.sfits)))) refl)
+above m M (pos n) h =
+    let low : n < 2 ^ 127 = h.sfits in
+    sym (by_sides (pos n) (pos m) true (ltb m n) (is_so (ltb n m) (lt→ltb n m (omega (arith, M, low)))) refl)
 above m M (negsuc n) h = refl
 
 below : (m : ℕ) → 2 ^ 127 ≤ m → (number : ℤ) → FitsSigned w128 number → Greater ≡ int_cmp number (negsuc m)
 below m M (pos n) h = refl
 below m M (negsuc n) h =
+    let low : n < 2 ^ 127 = h.sfits in
     sym (by_sides (negsuc n) (negsuc m) false true
-    (is_not_so (int_lt (negsuc n) (negsuc m)) (λ t. omega (arith, M, h.sfits, ltb→lt m n t)))
-    (is_so (int_lt (negsuc m) (negsuc n)) (lt→ltb n m (omega (arith, M, h.sfits)))))
+    (is_not_so (int_lt (negsuc n) (negsuc m)) (λ t. omega (arith, M, low, ltb→lt m n t)))
+    (is_so (int_lt (negsuc m) (negsuc n)) (lt→ltb n m (omega (arith, M, low)))))
 
 -- whether a number has 128 bits
 abbrev fits : ℤ → Bool
@@ -199,7 +205,7 @@ pub whole_means : (z number : ℤ) → FitsSigned w128 number → place_cmp (who
 whole_means z number h = go z (fits z) refl
   where
     far : (z : ℤ) → fits z ≡ false → place_cmp (if is_negative z then Below else Above) number ≡ int_cmp number z
-    far (pos m) e = above m (large m e) number h
+    far (pos m) e = ap (λ (b : Bool). place_cmp (if b then Below else Above) number) (never_less m) ∙ above m (large m e) number h
       where
         large : (m : ℕ) → ltb m (2 ^ 127) ≡ false → 2 ^ 127 ≤ m
         large m e = nltb→le m (2 ^ 127) (subst (λ (b : Bool). T (not b)) (sym e) tt)
@@ -261,7 +267,8 @@ large_product u a U = omega (arith, U, suc-mul a u)
 pub far_up : (shift : ℕ) → 38 < shift → (digits : ℤ) → int_lt digits (pos 0) ≡ false → (digits ≡ pos 0 → ⊥) → Above ≡ whole_place (digits *ℤ pos (10 ^ shift))
 far_up shift h (pos zero) n z = absurd (z refl)
 far_up shift h (pos (suc a)) n z =
-    sym (ap (λ (b : Bool). if b then At (pos (suc a * 10 ^ shift)) else Above) (is_not_so (ltb (suc a * 10 ^ shift) (2 ^ 127)) (λ t. omega (arith, ltb→lt (suc a * 10 ^ shift) (2 ^ 127) t, large_product (10 ^ shift) a (large_power shift h)))))
+    sym (ap (λ (b : Bool). if b then At (pos (suc a * 10 ^ shift)) else (if is_negative (pos (suc a * 10 ^ shift)) then Below else Above)) (is_not_so (ltb (suc a * 10 ^ shift) (2 ^ 127)) (λ t. omega (arith, ltb→lt (suc a * 10 ^ shift) (2 ^ 127) t, large_product (10 ^ shift) a (large_power shift h))))
+    ∙ ap (λ (b : Bool). if b then Below else Above) (never_less (suc a * 10 ^ shift)))
 far_up shift h (negsuc a) n z = absurd (true≢false n)
 
 pub far_down : (shift : ℕ) → 38 < shift → (digits : ℤ) → int_lt digits (pos 0) ≡ true → Below ≡ whole_place (digits *ℤ pos (10 ^ shift))

@@ -9,6 +9,7 @@ use Rattle.std.specs.Option.{option_map}
 use Rattle.std.specs.Str.Parse.{digits_value}
 use Rattle.std.proofs.lemmas.Fmt.{decimal_is_IsNumeral_wide}
 use Rattle.std.proofs.lemmas.Float.Parse.{parse_float-text_of}
+use Rattle.number_keys.proofs.Floors.{never_less}
 use Rattle.number_keys.specs.FloatKeys.{key_in, key_of_float}
 use Rattle.number_keys.specs.Numerals.{tens_up, tens_down, nearest, key_of_numeral}
 use Rattle.number_keys.specs.declared.numerals.Numeral.{Numeral}
@@ -50,7 +51,7 @@ written f s size t e small few =
     ∙ (λ i. Some (round f s (digits i * 10 ^ (cond t 0 (x.1 i))) (10 ^ (0 + cond t (x.1 i) 0))))
 
 signed_text : (z : ℤ) → signed_decimal z ≡ sign_text (is_negative z) ++ decimal (unsigned_abs z)
-signed_text (pos n) = refl
+signed_text (pos n) = sym (ap (λ (b : Bool). sign_text b ++ decimal n) (never_less n))
 signed_text (negsuc n) = refl
 
 -- the exponent is the number of places, with the other sign

@@ -1,6 +1,6 @@
 //! Comparisons of columns with numerals, as tests of whole numbers.
 
-ghost use Rattle.std.specs.Prelude.{◌≡◌, ◌≤◌, IfSome, IsTrue};
+ghost use Rattle.std.specs.Prelude.{◌≡◌, ◌≤◌, IfSome};
 ghost use Rattle.std.specs.List.{list_any};
 ghost use Rattle.typed_plan.specs.ExactNumbers.{is_numeral, mirrored, operand_numeral};
 ghost use Rattle.typed_plan.specs.ExactNumbers.{operand_scale, type_scale};

@@ -3,7 +3,8 @@
 ghost use Rattle.std.specs.Prelude.{◌≡◌, IfOk, Ok, map};
 ghost use Rattle.scan_base.specs.Predicate.{truth_test, comparing, between, membership, null_test};
 ghost use Rattle.scan_base.specs.Predicate.{conjunction};
-ghost use Rattle.scan_base.specs.declared.comparison.Comparison.TheVariants as comparison;
+ghost use Rattle.scan_base.specs.declared.comparison.Comparison.TheVariants.{GreaterOrEqual};
+ghost use Rattle.scan_base.specs.declared.comparison.Comparison.TheVariants.{LessOrEqual};
 ghost use Rattle.scan_base.specs.View.{pred_of};
 ghost use Rattle.typed_plan.specs.Class.{literal_value};
 ghost use Rattle.typed_plan.specs.Scope.{term_operand};
@@ -204,8 +205,8 @@ fn exact_between(
     high: &Operand<Term>,
 ) -> Result<Predicate<usize>, Fault>
     ensures { BindsPlainly scope.now (conjunction
-        (exact_comparing scope.now comparison.GreaterOrEqual operand.now low.now)
-        (exact_comparing scope.now comparison.LessOrEqual operand.now high.now)) result }
+        (exact_comparing scope.now GreaterOrEqual operand.now low.now)
+        (exact_comparing scope.now LessOrEqual operand.now high.now)) result }
 {
     let low = number_comparison(scope, Comparison::GreaterOrEqual, operand, low)?;
     let high = number_comparison(scope, Comparison::LessOrEqual, operand, high)?;

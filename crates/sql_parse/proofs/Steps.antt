@@ -2,6 +2,8 @@
 use Rattle.std.proofs.Common.{◌≡◌, ℕ, zero, suc, ◌-◌, Bool, true, false, cond, List, [], ◌∷◌, ◌++◌, Option, Some}
 use Rattle.std.proofs.Common.{None, Ok, Err, refl, ◌∙◌, ap, sym, append_assoc, arith, append-nil}
 use Rattle.std.specs.Prelude.{◌==◌, ℤ}
+use Rattle.sql_text.specs.Numerals.{numeral_of}
+use Rattle.std.specs.Float.Numeral.{scan_numeral}
 use Rattle.sql_text.specs.Values.{number_of}
 use Rattle.std.proofs.lemmas.Bool.{ne_eqb}
 use Rattle.sql_text.specs.declared.word.Keyword.TheVariants as word
@@ -11,7 +13,7 @@ use Rattle.grammar.specs.Reading.{starts}
 use Rattle.grammar.proofs.Determined.{well_made}
 use Rattle.sql_text.specs.Words.{is_name}
 use Rattle.sql_text.specs.Values.{unquoted}
-use Rattle.sql_parse.specs.Tokens.{Mark, is_word, is_symbol, same_word, same_symbol}
+use Rattle.sql_parse.specs.Tokens.{Mark, is_word, is_symbol, is_numeral, same_word, same_symbol}
 use Rattle.sql_parse.specs.Answers.{Answer, seen, ◌>>=◌}
 use Rattle.scan_base.specs.declared.predicate.Operand.{Operand}
 use Rattle.scan_base.specs.Predicate.{conjunction, disjunction, negation}
@@ -272,7 +274,7 @@ pub nil_after : {A : Type 0} (xs ys : List A) (x : A) → (xs ++ x ∷ []) ++ ys
 nil_after xs ys x = append_assoc xs (x ∷ []) ys
 
 operand_made : well_made (a_symbol symbol.Comma ⊳ operand) ≡ true
-unfolding literal operand column name number minus digits numeral unsigned date string same_symbol same_word number_of unquoted
+unfolding literal operand column name number minus digits numeral unsigned date string same_symbol same_word number_of numeral_of scan_numeral unquoted
 operand_made = refl
 
 operands_flat : (D : Nest) (ts : List Mark) →
