@@ -1,5 +1,5 @@
 -- The table of each type is read as it is written, and as what it says.
-use Rattle.std.proofs.Common.{◌≡◌, ℕ, ◌≤◌, ◌<◌, ◌==◌, ◌&&◌, not, Bool, true, false, List, [], length, Result, Ok, refl, arith, sym, subst}
+use Rattle.std.proofs.Common.{◌≡◌, ℕ, ◌≤◌, ◌<◌, ◌==◌, ◌&&◌, not, Bool, true, false, List, [], ◌∷◌, length, Result, Ok, Err, if◌then◌else◌, refl, arith, sym, subst}
 use Rattle.std.proofs.lemmas.Bool.{and_parts, eqb-true}
 use Rattle.scan_base.specs.declared.fault.Fault.{Fault}
 use Rattle.scan_base.specs.declared.fault.Fault.TheVariants.{UnsupportedArrow}
@@ -12,11 +12,13 @@ use Rattle.flatbuf.proofs.Written.{table_reads}
 use Rattle.flatbuf.proofs.Lengths.{whole_table, short_table, fits_table}
 use Rattle.arrow_types.specs.declared.data_type.IntegerType.{IntegerType}
 use Rattle.arrow_types.specs.declared.data_type.IntegerType.TheVariants.{Int8, Int16, Int32, Int64, UInt8, UInt16, UInt32, UInt64}
-use Rattle.arrow_types.specs.declared.data_type.NumberType.TheVariants.{Integer, Decimal, Date}
+use Rattle.arrow_types.specs.declared.data_type.NumberType.TheVariants.{Integer, Decimal, Date, Float}
+use Rattle.arrow_types.specs.declared.data_type.FloatWidth.{FloatWidth}
+use Rattle.arrow_types.specs.declared.data_type.FloatWidth.TheVariants.{Single, Double}
 use Rattle.arrow_types.specs.declared.data_type.DataType.{DataType}
 use Rattle.arrow_types.specs.declared.data_type.DataType.TheVariants.{Number, Utf8, Bool as Flags, Dictionary}
 use Rattle.arrow_types.specs.DataType.{bit_width, is_signed}
-use Rattle.arrow_schema.specs.TypeTables.{meaning_of, flag, SaysInteger, SaysDecimal, SaysDate, SaysType, signed_types, unsigned_types, integer_type, integer_of, integer_slots, integer_part, decimal_of, date_of, type_readings, type_written, type_number, type_part, type_of}
+use Rattle.arrow_schema.specs.TypeTables.{meaning_of, flag, SaysInteger, SaysDecimal, SaysDate, SaysType, signed_types, unsigned_types, integer_type, integer_of, integer_slots, integer_part, decimal_of, date_of, float_of, float_precision, SaysFloat, type_readings, type_written, type_number, type_part, type_of}
 use Rattle.arrow_schema.proofs.Readings.{bind_ok, demand_ok, HoldOf, meaning_told, says_scalar, reads_scalar}
 
 -- ---- Int
@@ -137,6 +139,23 @@ date_row table t is e =
       record { unit = subst (λ (n : ℕ). HasScalar 2 table 0 1 n) (eqb-true a.0 0 (demand_ok (a.0 == 0) UnsupportedArrow b.0 b.1)) (says_scalar 2 table 0 1 a.0 is a.1) },
     )
 
+float_row : IsTold 3 float_of
+unfolding float_of
+float_row table t is e =
+    let a = bind_ok (scalar_of 2 table 0 0) _ t e in
+    let b = bind_ok (meaning_of ((1, Single) ∷ (2, Double) ∷ []) a.0) _ t a.2 in
+    let last = b.2 in
+    let f : Number (Float b.0) ≡ t = cc in
+    rw (← f) (refl, record { precision = subst (λ (n : ℕ). HasScalar 2 table 0 0 n) (float_again a.0 b.0 b.1) (says_scalar 2 table 0 0 a.0 is a.1) })
+  where
+    float_again : (n : ℕ) (width : FloatWidth) → meaning_of ((1, Single) ∷ (2, Double) ∷ []) n ≡ Ok width → n ≡ float_precision width
+    float_again n width e = go (n == 1) (n == 2) refl refl e
+      where
+        go : (x y : Bool) → (n == 1) ≡ x → (n == 2) ≡ y → (if x then Ok Single else (if y then Ok Double else Err UnsupportedArrow)) ≡ Ok width → n ≡ float_precision width
+        go true y f g e = let w : Single ≡ width = cc in rw (← w) (eqb-true n 1 f)
+        go false true f g e = let w : Double ≡ width = cc in rw (← w) (eqb-true n 2 g)
+        go false false f g e = cc
+
 utf8_row : IsTold 5 (λ table. Ok Utf8)
 utf8_row table t is e = let f : Utf8 ≡ t = cc in rw (← f) (refl, tt)
 
@@ -144,7 +163,7 @@ flags_row : IsTold 6 (λ table. Ok Flags)
 flags_row table t is e = let f : Flags ≡ t = cc in rw (← f) (refl, tt)
 
 told_rows : HoldOf IsTold type_readings
-told_rows = (integer_row, (utf8_row, (flags_row, (decimal_row, (date_row, tt)))))
+told_rows = (integer_row, (utf8_row, (flags_row, (decimal_row, (date_row, (float_row, tt))))))
 
 pub type_told : (kind : ℕ) (table : Result TableAt Fault) (t : DataType) → type_of kind table ≡ Ok t → (found : TableAt) × (table ≡ Ok found) × (IsBytes found.bytes → (kind ≡ type_number t) × SaysType t found)
 type_told kind table t e =
@@ -197,6 +216,26 @@ date_read : (table : TableAt) → IsBytes table.bytes → SaysDate table → dat
 unfolding date_of
 date_read table is says = rw (reads_scalar 2 table 0 1 0 is says.unit) refl
 
+float_again : (width : FloatWidth) (bytes : List ℕ) (at : ℕ) → Stands (type_part (Number (Float width))).bytes bytes at → float_of (table_at bytes at (type_part (Number (Float width)))) ≡ Ok (Number (Float width))
+unfolding type_part float_of
+float_again Single bytes at s =
+    let slots = (type_written (Number (Float Single))).1 in
+    let t = table_at bytes at (table_part slots) in
+    let reads = table_reads slots bytes at (fits_table slots (omega arith) (omega arith)) tt s in
+    let precision : scalar_of 2 t 0 0 ≡ Ok 1 = reads 0 2 0 (omega arith) (omega arith) in
+    rw precision refl
+float_again Double bytes at s =
+    let slots = (type_written (Number (Float Double))).1 in
+    let t = table_at bytes at (table_part slots) in
+    let reads = table_reads slots bytes at (fits_table slots (omega arith) (omega arith)) tt s in
+    let precision : scalar_of 2 t 0 0 ≡ Ok 2 = reads 0 2 0 (omega arith) (omega arith) in
+    rw precision refl
+
+float_read : (width : FloatWidth) (table : TableAt) → IsBytes table.bytes → SaysFloat table width → float_of table ≡ Ok (Number (Float width))
+unfolding float_of
+float_read Single table is says = rw (reads_scalar 2 table 0 0 1 is says.precision) refl
+float_read Double table is says = rw (reads_scalar 2 table 0 0 2 is says.precision) refl
+
 pub row : (t : DataType) → Row t
 unfolding type_part integer_part
 row (Number (Integer integer)) = record {
@@ -209,6 +248,15 @@ row (Number (Integer integer)) = record {
 }
 row (Number Decimal) = record { whole = tt; short = (let s = short_table (type_written (Number Decimal)).1 in omega arith); reading = decimal_of; known = refl; again = decimal_again; read = decimal_read }
 row (Number Date) = record { whole = tt; short = (let s = short_table (type_written (Number Date)).1 in omega arith); reading = date_of; known = refl; again = date_again; read = date_read }
+row (Number (Float width)) = record { whole = float_whole width; short = float_short width; reading = float_of; known = refl; again = float_again width; read = float_read width }
+  where
+    float_whole : (width : FloatWidth) → AreWhole (type_written (Number (Float width))).1
+    float_whole Single = tt
+    float_whole Double = tt
+
+    float_short : (width : FloatWidth) → length (type_part (Number (Float width))).bytes ≤ 50
+    float_short Single = let s = short_table (type_written (Number (Float Single))).1 in omega arith
+    float_short Double = let s = short_table (type_written (Number (Float Double))).1 in omega arith
 row Utf8 = record { whole = tt; short = (let s = short_table [] in omega arith); reading = λ table. Ok Utf8; known = refl; again = λ bytes at s. refl; read = λ table is says. refl }
 row Flags = record { whole = tt; short = (let s = short_table [] in omega arith); reading = λ table. Ok Flags; known = refl; again = λ bytes at s. refl; read = λ table is says. refl }
 row (Dictionary encoding) = record { whole = tt; short = (let s = short_table [] in omega arith); reading = λ table. Ok Utf8; known = refl; again = λ bytes at s. refl; read = λ table is says. absurd says }
@@ -218,7 +266,7 @@ abbrev IsKind : ℕ → (TableAt → Result DataType Fault) → Type 0
 IsKind kind reading = (1 ≤ kind) × (kind < 256)
 
 pub is_kind : (t : DataType) → (1 ≤ type_number t) × (type_number t < 256)
-is_kind t = meaning_told IsKind type_readings (type_number t) (row t).reading ((omega arith, omega arith), ((omega arith, omega arith), ((omega arith, omega arith), ((omega arith, omega arith), ((omega arith, omega arith), tt))))) (row t).known
+is_kind t = meaning_told IsKind type_readings (type_number t) (row t).reading ((omega arith, omega arith), ((omega arith, omega arith), ((omega arith, omega arith), ((omega arith, omega arith), ((omega arith, omega arith), ((omega arith, omega arith), tt)))))) (row t).known
 
 pub whole_type : (t : DataType) → IsWhole (type_part t)
 unfolding type_part

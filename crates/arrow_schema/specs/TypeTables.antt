@@ -12,7 +12,10 @@ use Rattle.arrow_types.specs.declared.data_type.IntegerType.{IntegerType}
 use Rattle.arrow_types.specs.declared.data_type.IntegerType.TheVariants.{Int8, Int16, Int32, Int64}
 use Rattle.arrow_types.specs.declared.data_type.IntegerType.TheVariants.{UInt8, UInt16, UInt32}
 use Rattle.arrow_types.specs.declared.data_type.IntegerType.TheVariants.{UInt64}
+use Rattle.arrow_types.specs.declared.data_type.FloatWidth.{FloatWidth}
+use Rattle.arrow_types.specs.declared.data_type.FloatWidth.TheVariants.{Single, Double}
 use Rattle.arrow_types.specs.declared.data_type.NumberType.TheVariants.{Integer, Decimal, Date}
+use Rattle.arrow_types.specs.declared.data_type.NumberType.TheVariants.{Float}
 use Rattle.arrow_types.specs.declared.data_type.DataType.{DataType}
 use Rattle.arrow_types.specs.declared.data_type.DataType.TheVariants.{Number, Utf8, Bool as Flags}
 use Rattle.arrow_types.specs.declared.data_type.DataType.TheVariants.{Dictionary}
@@ -90,6 +93,23 @@ date_of table = do
   _ ← demand (unit == 0) UnsupportedArrow
   Ok (Number Date)
 
+-- ---- FloatingPoint
+
+-- the precision of a FloatingPoint table: SINGLE (1) or DOUBLE (2); HALF (0), which is the default,
+-- is none of them
+abbrev pub float_precision : FloatWidth → ℕ
+float_precision Single = 1
+float_precision Double = 2
+
+pub record SaysFloat (table : TableAt) (width : FloatWidth) : Type 0 where
+  pub precision : HasScalar 2 table 0 0 (float_precision width)
+
+unfoldable pub float_of : TableAt → Result DataType Fault
+float_of table = do
+  precision ← scalar_of 2 table 0 0
+  width ← meaning_of ((1, Single) ∷ (2, Double) ∷ []) precision
+  Ok (Number (Float width))
+
 -- ---- the rows
 
 -- what the table of a type says; no type's table says a dictionary
@@ -97,6 +117,7 @@ abbrev pub SaysType : DataType → TableAt → Type 0
 SaysType (Number (Integer integer)) table = SaysInteger table integer
 SaysType (Number Decimal) table = SaysDecimal table
 SaysType (Number Date) table = SaysDate table
+SaysType (Number (Float width)) table = SaysFloat table width
 SaysType Utf8 table = Unit {0}
 SaysType Flags table = Unit {0}
 SaysType (Dictionary encoding) table = ⊥
@@ -108,6 +129,7 @@ type_readings = (2, λ table. integer_of table >>= λ integer. Ok (Number (Integ
     ∷ (6, λ table. Ok Flags)
     ∷ (7, decimal_of)
     ∷ (8, date_of)
+    ∷ (3, float_of)
     ∷ []
 
 -- how a type is written: the number of its kind, and the slots of its table. Those of a dictionary
@@ -116,6 +138,7 @@ abbrev pub type_written : DataType → ℕ × List Given
 type_written (Number (Integer integer)) = (2, integer_slots integer)
 type_written (Number Decimal) = (7, Scalar 38 ∷ Scalar 0 ∷ Scalar 128 ∷ [])
 type_written (Number Date) = (8, Scalar 0 ∷ [])
+type_written (Number (Float width)) = (3, Scalar (float_precision width) ∷ [])
 type_written Utf8 = (5, [])
 type_written Flags = (6, [])
 type_written (Dictionary encoding) = (5, [])

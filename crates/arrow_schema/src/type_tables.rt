@@ -6,10 +6,11 @@ ghost use Rattle.scan_base.specs.Reading.{Gives};
 ghost use Rattle.arrow_types.specs.Schema.{IsType};
 ghost use Rattle.arrow_schema.specs.Fields.{table_wanted};
 ghost use Rattle.arrow_schema.specs.TypeTables.{integer_type, integer_of, decimal_of, date_of};
+ghost use Rattle.arrow_schema.specs.TypeTables.{float_of};
 ghost use Rattle.arrow_schema.specs.TypeTables.{type_of, integer_part, type_number, type_part};
 
 use crate::header::table_wanted;
-use arrow_types::{DataType, IntegerType, NumberType};
+use arrow_types::{DataType, FloatWidth, IntegerType, NumberType};
 use flatbuf::{Block, Builder, Slot, Table, Width};
 use scan_base::Fault;
 use std::alloc::AllocError;
@@ -65,6 +66,19 @@ fn date(table: &Table<'_>) -> Result<DataType, Fault>
     Ok(DataType::Number(NumberType::Date))
 }
 
+// A float of 32 or 64 bits.
+#[tactic(auto, unfolding(crate::specs::TypeTables::float_of))]
+fn float(table: &Table<'_>) -> Result<DataType, Fault>
+    ensures value { Gives (λ float. float) result (float_of table.now) }
+    ensures valid { IfOk result IsType }
+{
+    match table.scalar(0, Width::Two, 0)? {
+        1 => Ok(DataType::Number(NumberType::Float(FloatWidth::Single))),
+        2 => Ok(DataType::Number(NumberType::Float(FloatWidth::Double))),
+        _ => Err(Fault::UnsupportedArrow),
+    }
+}
+
 /// The type of a field's values, by the number of its kind. It refuses an unknown kind before an
 /// absent table.
 pub(crate) fn type_from(kind: u64, field: &Table<'_>) -> Result<DataType, Fault>
@@ -85,6 +99,7 @@ pub(crate) fn type_from(kind: u64, field: &Table<'_>) -> Result<DataType, Fault>
         }
         7 => decimal(&table?),
         8 => date(&table?),
+        3 => float(&table?),
         _ => Err(Fault::UnsupportedArrow),
     }
 }
@@ -113,5 +128,11 @@ pub(crate) fn type_block(builder: &Builder, data_type: DataType) -> Result<(u64,
             Ok((7, builder.table(&slots)?))
         }
         DataType::Number(NumberType::Date) => Ok((8, builder.table(&[Slot::Number(0)])?)),
+        DataType::Number(NumberType::Float(FloatWidth::Single)) => {
+            Ok((3, builder.table(&[Slot::Number(1)])?))
+        }
+        DataType::Number(NumberType::Float(FloatWidth::Double)) => {
+            Ok((3, builder.table(&[Slot::Number(2)])?))
+        }
     }
 }
