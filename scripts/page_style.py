@@ -7,13 +7,13 @@ import re
 MOST_WORDS_OF = {
     "README.md": 1_000, "CONTRIBUTING.md": 2_000, "CHANGELOG.md": 600, "SECURITY.md": 750,
     "docs/USING.md": 2_500, "docs/PROTOCOL.md": 8_200, "docs/FORMATS.md": 4_900,
-    "docs/SQL.md": 4_700, "docs/PROMISE.md": 5_700, "docs/ARCHITECTURE.md": 6_000,
+    "docs/SQL.md": 5_000, "docs/PROMISE.md": 5_700, "docs/ARCHITECTURE.md": 6_000,
     "docs/DECISIONS.md": 5_800, "bench/README.md": 2_500, "scripts/README.md": 1_900,
-    "gateway/README.md": 1_050, "plants/README.md": 1_150, "vectors/README.md": 400,
+    "gateway/README.md": 1_050, "plants/README.md": 1_160, "vectors/README.md": 400,
     "vectors/arrow/README.md": 1_200, "vectors/flight/README.md": 350, "vectors/puts/README.md": 320,
 }
 MOST_WORDS_OF_A_CRATE = 1_000
-MOST_WORDS_OF_CRATES, MOST_WORDS_OF_OTHERS = 32_000, 50_000  # of all crates' READMEs, and of all other pages
+MOST_WORDS_OF_CRATES, MOST_WORDS_OF_OTHERS = 32_000, 50_700  # of all crates' READMEs, and of all other pages
 MOST_WORDS_OF_A_PARAGRAPH = 80
 MOST_COLUMNS = 100
 AVOIDED = re.compile(r"\b(behind|beside|anew|whoever|house)\b", re.I)

@@ -1,7 +1,7 @@
 #!/usr/bin/env python3
 """Writes stdin and stdout of crates/format_cases: rows, and the answer of each. Run it in any folder; it always writes the
-same. The rows of messages, streams, dates and times are those of flight/, streams/, dates/ and times/, and the others stand here and in
-bits.py, with answers by hand."""
+same. The rows of messages, streams, dates, times and floats are those of flight/, streams/, dates/, times/ and floats/, and
+the others stand here and in bits.py, with answers by hand."""
 import pathlib
 import sys
 
@@ -14,6 +14,7 @@ sys.path.append(str(HERE.parent))
 import bits  # noqa: E402
 from dates import rows as dates  # noqa: E402
 from flight import rows as flight  # noqa: E402
+from floats import rows as floats  # noqa: E402
 from streams import rows as streams  # noqa: E402
 from times import rows as times  # noqa: E402
 from framing import stream_of  # noqa: E402  (of streams/)
@@ -147,7 +148,7 @@ def batches():
 
 
 def rows():
-    found = [*flight.rows(), *streams.rows(), *dates.rows(), *times.rows()]
+    found = [*flight.rows(), *streams.rows(), *dates.rows(), *times.rows(), *floats.rows()]
     for part in (values, fields, buffers, messages, ends, bits.rows, schemas, batches):
         found += part()
     return found

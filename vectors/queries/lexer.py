@@ -2,6 +2,8 @@
 
 This is a lexer of its own, by regular expressions; it shares nothing with the crates.
 """
+import decimal
+import fractions
 import re
 
 GRAMMAR = """SELECT FROM WHERE INNER JOIN ON AND OR NOT IS NULL TRUE FALSE UNKNOWN IN BETWEEN GROUP BY AS
@@ -17,12 +19,27 @@ SYMBOLS = {
 PATTERN = re.compile(
     rb"""(?P<space>[ \t\n\r]+|--[^\n]*)
     |(?P<word>[A-Za-z_][A-Za-z0-9_]*)
+    |(?P<numeral>[0-9]+(?:\.[0-9]*(?:[eE][+-]?[0-9]+)?|[eE][+-]?[0-9]+))
     |(?P<digits>[0-9]+)
     |(?P<name>"(?:[^"]|"")*"(?!"))
     |(?P<string>'(?:[^']|'')*'(?!'))
     |(?P<symbol><>|!=|<=|>=|\|\||[(),.;*=<>+\-/%])""",
     re.VERBOSE | re.DOTALL,
 )
+
+
+def numeral_of(text):
+    """The number of a numeral as a fraction; none, where it has too many digits."""
+    digits, _, exponent = text.lower().partition("e")
+    few = len(digits.replace(".", "")) <= 38 and len(exponent.strip("+-")) <= 3 and abs(int(exponent or 0)) <= 400
+    return fractions.Fraction(decimal.Decimal(text)) if few else None
+
+
+def numeral_said(text):
+    """Its digits, and how many of them stand after the point."""
+    parts = decimal.Decimal(text).as_tuple()
+    digits = int("".join(map(str, parts.digits)))
+    return f"Some(Numeral {{ digits: {digits}, places: {-parts.exponent} }})"
 
 
 def kind_of(group, piece):
@@ -32,6 +49,8 @@ def kind_of(group, piece):
         if upper in GRAMMAR:
             return f"Keyword({upper.capitalize()})"
         return "LeftOut" if upper in LEFT_OUT else "Name"
+    if group == "numeral":
+        return "Numeral" if numeral_of(text) else None
     if group == "digits":
         return "Digits" if int(text) < 10**38 else None
     if group == "name":
@@ -78,6 +97,11 @@ GROUPS = {
     "0", "007", "12 34", "12a", str(10**38 - 1), LIMIT, "0" * 50 + "1", "0" * 50 + str(10**38 - 1), "0" * 50 + LIMIT, "9" * 39,
     "a " + LIMIT + " '", "1.5", "-1", "+1",
     ],
+    "NUMERALS": [
+    "2.", "0.5", ".5", "1.5.5", "1..5", "t.1.5", "1.a", "1.5a", "1e5", "1E+5", "1e-05", "1.e5", "1.5e", "1e", "1e+", "1e+-5", "1.5e5e5", "1 .5", "1. 5",
+    "00.50", "1.5e400", "1e401", "1e0400", "1e-400", "1e-401", "0." + "1" * 37, "0." + "1" * 38, "1" * 39 + ".", "1" * 38 + ".", "1.5-1.5", "1.5--1",
+    "1.5\u00e9", "1.\u00e9", "1e5\u00e9", "-1.5", "1.5e+007", "1.5E10", "a.1e5", "1.5''", "(1.5,2e0)",
+    ],
     "SYMBOLS": [
     "( ) , . ; * = <> != < <= > >= + - / % ||", "(),.;*=<>!=<<=>>=+-/%||", "<=>", "<<", "<>=", "><", "!", "a ! b", "!==", "|", "a | b", "|||",
     "= =", "===", "-", "- -", "--", "a--b", "a = --1", "a -- b\nc", "--\n--\na", "-- 'x\n'y'", "---", "a- -b", "a-\n-b", "-- \u00e9", "--\ra\n b",
@@ -102,7 +126,7 @@ GROUPS = {
 # Texts whose tokens are asked what they say.
 SPOKEN = [
     "a1_B", "SELECT", '"a""b"', '""""', '"\'"', "''", "'it''s'", "''''''", "'\u00e9''\"'", "007", "0", "9" * 38, "<>",
-    "NULL date Order + - * / % ||", "SELECT count a \"null\" 'DATE' 1 = <> . ; ( ) ,",
+    "1.5 2. 1e5 1.e5 00.50 1.5E-400 0.1 1e400 99.e-0 -1.25e+2", "NULL date Order + - * / % ||", "SELECT count a \"null\" 'DATE' 1 = <> . ; ( ) ,",
 ]
 
 
@@ -116,5 +140,5 @@ def spoken(query):
             piece = piece[1:-1].replace(2 * piece[0], piece[0])
         number = f"Some({int(piece)})" if kind == "Digits" else "None"
         is_left_out = kind == "LeftOut" or piece.upper() in ("NULL", "DATE", *"+-*/%", "||") and kind[:7] in ("Keyword", "Symbol(")
-        told += f"{piece} {len(piece.encode())} {number} {str(is_left_out).lower()};"
+        told += f"{piece} {len(piece.encode())} {number} {numeral_said(piece) if kind == 'Numeral' else None} {str(is_left_out).lower()};"
     return told

@@ -23,7 +23,7 @@ conj    = factor {AND factor}
 factor  = NOT factor | test
 test    = primary [IS [NOT] (TRUE | FALSE | UNKNOWN)]
 primary = "(" pred ")" | operand compare operand | operand [NOT] BETWEEN operand AND operand | operand [NOT] IN "(" operand {"," operand} ")" | operand IS [NOT] NULL
-operand = column | ["+" | "-"] digits | string | date | stamp | time | TRUE | FALSE | DATE date | TIMESTAMP stamp | TIME time
+operand = column | ["+" | "-"] (digits | numeral) | string | date | stamp | time | TRUE | FALSE | DATE date | TIMESTAMP stamp | TIME time
 column  = name ["." name]
 compare = "=" | "<>" | "!=" | "<" | "<=" | ">" | ">="
 """
@@ -74,7 +74,7 @@ class Grammar:
                     symbols.append(name)
             elif word.startswith('"'):
                 symbols.append(("t", word.strip('"')))
-            elif word.isupper() or word in ("name", "digits", "string", "date", "stamp", "time"):
+            elif word.isupper() or word in ("name", "digits", "numeral", "string", "date", "stamp", "time"):
                 symbols.append(("t", word))
             else:
                 symbols.append(word)
@@ -132,7 +132,7 @@ def tokens_of(query):
         if kind.startswith("Keyword"):
             called = piece.upper()
         else:
-            called = {"Name": "name", "DelimitedName": "name", "String": "string", "Digits": "digits"}.get(kind, piece)
+            called = {"Name": "name", "DelimitedName": "name", "String": "string", "Digits": "digits", "Numeral": "numeral"}.get(kind, piece)
         if kind == "LeftOut":
             called = None
         elif kind == "String":

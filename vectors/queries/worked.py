@@ -14,6 +14,7 @@ k  i8 to i64, d  u8 to u64  s        f      g      c
 The column c is a dictionary: its 'a' stands there twice, and in row 6 an index leads to a null.
 """
 
+import numerals
 from table import ODD, ROWS
 
 MISSING, LIMIT, NAME, CLASH, LEFT_OUT = "F9 TableMissing", "F12 LimitReached", "F14 UnknownName", "F15 TypeClash", "F16 NotInSubset"
@@ -403,6 +404,8 @@ CLASHES_OF_DATES = [
     "d = '1994-01-01'",
     "'1994-01-01' = d",
     "d = 8766",
+    "d = 8766.0",
+    "9000.5 > d",
     "k = DATE '1994-01-01'",
     "DATE '1994-01-01' = 8766",
     "DATE '1994-01-01' < '1994-01-01'",
@@ -731,6 +734,8 @@ def refused():
     yield from ((f"rows SELECT k FROM types WHERE {predicate}", CLASH) for predicate in CLASHES_OF_TYPES)
     yield from ((f"rows SELECT k FROM days WHERE {predicate}", CLASH) for predicate in CLASHES_OF_DATES)
     yield from ((f"rows SELECT k FROM times WHERE {predicate}", CLASH) for predicate in CLASHES_OF_TIMES)
+    yield from ((f"rows SELECT k FROM types WHERE {predicate}", CLASH) for predicate in numerals.CLASHES)
+    yield "rows SELECT k FROM types WHERE z = 1.5", NAME
 
 
 def large():
@@ -763,6 +768,8 @@ def cases():
         for one in names:
             yield from (rows("SELECT k FROM types WHERE " + filled(predicate, one), wanted) for predicate, wanted in predicates)
     for predicate, wanted in NUMBERS + TEXTS + LISTS + TRUTH_VALUES:
+        yield rows(f"SELECT k FROM types WHERE {predicate}", wanted)
+    for predicate, wanted in numerals.cases():
         yield rows(f"SELECT k FROM types WHERE {predicate}", wanted)
     for predicate, wanted in DATES:
         yield rows(f"SELECT k FROM days WHERE {predicate}", wanted)

@@ -11,6 +11,7 @@ mod faults;
 mod fields;
 mod flat_buffers;
 mod messages;
+mod numbers;
 mod records;
 mod round_trips;
 mod row;
@@ -71,6 +72,11 @@ fn answer(alloc: Global, line: &str) -> Result<String, Fault> {
         "shown" => dates::shown(alloc, words),
         "number" => times::number(alloc, words),
         "literal" => times::literal(alloc, words),
+        "float64" => numbers::double(alloc, words),
+        "float32" => numbers::single(alloc, words),
+        "numeral" => numbers::numeral(alloc, words),
+        "place" => numbers::place(alloc, words),
+        "passes" => numbers::passes(alloc, words),
         _ => answer_row(alloc, kind, &CaseRow::read(alloc, words)?),
     }
 }

@@ -29,7 +29,7 @@ use Rattle.arrow_types.specs.declared.data_type.NumberType.TheVariants as number
 use Rattle.typed_plan.specs.Scope.{Scope, ScopeColumn, stands_for, named_numbers, the_only, column_of, numbered, number_in}
 use Rattle.typed_plan.specs.Scope.{term_operand}
 use Rattle.typed_plan.specs.Faults.{fault_in, operand_class}
-use Rattle.query_binder.specs.NameClasses.{class_at, class_of_column, class_of_name, class_of_term}
+use Rattle.query_binder.specs.NameClasses.{class_at, class_of_column, class_of_name, class_of_literal, class_of_term}
 use Rattle.typed_plan.specs.JoinedRows.{fields_in, place_columns}
 use Rattle.query_binder.specs.PlannedTree.{schema_in, place_tree}
 use Rattle.typed_plan.specs.TypedPlans.{types_of, tree_types, class_if_there, class_of_number}
@@ -120,6 +120,18 @@ literal_bound (literal.Date day) = refl
 literal_bound (literal.Timestamp yoctos) = refl
 literal_bound (literal.Time yoctos) = refl
 literal_bound (literal.Typed kind number) = number_bound kind
+literal_bound (literal.Numeral numeral) = refl
+
+-- a literal that has a class is no numeral
+written_class : (l : Literal) (class : Class) → class_of_literal l ≡ Ok class → literal_class l ≡ class
+written_class (literal.Text bytes) class e = cc
+written_class (literal.Truth flag) class e = cc
+written_class (literal.Number number) class e = cc
+written_class (literal.Date day) class e = cc
+written_class (literal.Timestamp yoctos) class e = cc
+written_class (literal.Time yoctos) class e = cc
+written_class (literal.Typed kind number) class e = cc
+written_class (literal.Numeral numeral) class e = cc
 
 -- the class of a term is that of what stands for it
 pub term_follows : (scope : Scope) (written : Term) →
@@ -127,8 +139,7 @@ pub term_follows : (scope : Scope) (written : Term) →
     (operand_class (class_of_number (scope_types scope)) (term_operand scope written))
 term_follows scope (term.Name name) class e = class_follows scope name class e
 term_follows scope (term.Literal l) class e =
-    let one : literal_class l ≡ class = cc in
-    ap (λ (found : Class). Ok found) (literal_bound l ∙ ap bound_class one)
+    ap (λ (found : Class). Ok found) (literal_bound l ∙ ap bound_class (written_class l class e))
 
 -- and that of a value stays
 pub value_bound : (v : Value) → bound_class (value_class v) ≡ value_class v

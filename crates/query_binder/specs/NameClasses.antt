@@ -1,8 +1,11 @@
 -- The classes of terms, whether columns have a sum, and the faults of WHERE.
 use Rattle.std.specs.Prelude.{ℕ, Bool, false, slice_get, Option, Some, None, Result, Ok, Err}
 use Rattle.scan_base.specs.declared.fault.Fault.{Fault}
+use Rattle.scan_base.specs.declared.fault.Fault.TheVariants.{TypeClash}
 use Rattle.scan_base.specs.Predicate.{Pred}
 use Rattle.sql_query.specs.declared.query.ColumnName.{ColumnName}
+use Rattle.sql_query.specs.declared.query.Literal.{Literal}
+use Rattle.sql_query.specs.declared.query.Literal.TheVariants as literal
 use Rattle.sql_query.specs.declared.query.Term.{Term}
 use Rattle.sql_query.specs.declared.query.Term.TheVariants as term
 use Rattle.typed_plan.specs.declared.class.Class.{Class}
@@ -31,10 +34,15 @@ class_of_column scope (Err fault) = Err fault
 abbrev pub class_of_name : Scope → ColumnName → Result Class Fault
 class_of_name scope name = class_of_column scope (column_of scope name)
 
+-- the class of a literal; a numeral next to no column of numbers has none
+abbrev pub class_of_literal : Literal → Result Class Fault
+class_of_literal (literal.Numeral numeral) = Err TypeClash
+class_of_literal other = Ok (literal_class other)
+
 -- the class of a term
 abbrev pub class_of_term : Scope → Term → Result Class Fault
 class_of_term scope (term.Name name) = class_of_name scope name
-class_of_term scope (term.Literal literal) = Ok (literal_class literal)
+class_of_term scope (term.Literal literal) = class_of_literal literal
 
 -- the fault of WHERE's predicate, where there is one, with its literals next to columns
 abbrev pub filter_fault : Scope → Option (Pred Term) → Option Fault

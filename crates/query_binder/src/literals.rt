@@ -1,4 +1,4 @@
-//! Literals of timestamps and times next to a column.
+//! Literals of timestamps and times, and numerals, next to a column.
 
 ghost use Rattle.std.specs.Prelude.{◌≡◌, ◌^◌, ◌<ℤ◌, pos, unwrap_or};
 ghost use Rattle.arrow_types.specs.DataType.{yoctos_in};
@@ -7,6 +7,7 @@ ghost use Rattle.typed_plan.specs.SettledLiterals.{turned, typed};
 
 use crate::scope::Scope;
 use arrow_types::{DataType, NumberType, TimeUnit};
+use number_keys::standing_of;
 use scan_base::{Comparison, Operand};
 use sql_query::{Literal, Term};
 
@@ -47,6 +48,9 @@ fn typed(kind: NumberType, comparison: Comparison, literal: &Literal) -> Option<
         }
         (NumberType::Time(unit), Literal::Time(yoctos)) => {
             Some(Literal::Typed(kind, number_beside(comparison, unit, *yoctos)))
+        }
+        (NumberType::Integer(_) | NumberType::Decimal, Literal::Numeral(numeral)) => {
+            Some(Literal::Typed(kind, standing_of(comparison, *numeral, 0)))
         }
         (_, _) => None,
     }

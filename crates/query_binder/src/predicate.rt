@@ -8,7 +8,7 @@ ghost use Rattle.scan_base.specs.declared.comparison.Comparison.TheVariants.{Equ
 ghost use Rattle.typed_plan.specs.Scope.{term_operand};
 ghost use Rattle.typed_plan.specs.SettledLiterals.{settled_operand as settled};
 ghost use Rattle.typed_plan.specs.Faults.{operand_class, compare_fault, items_fault, fault_in};
-ghost use Rattle.query_binder.specs.NameClasses.{class_of_name, class_of_term};
+ghost use Rattle.query_binder.specs.NameClasses.{class_of_literal, class_of_name, class_of_term};
 ghost use Rattle.typed_plan.specs.NumberedPredicates.{operand_bind};
 ghost use Rattle.query_binder.specs.Chain.{connected};
 ghost use Rattle.query_binder.specs.Outcome.{Binds, BindsPredicate};
@@ -29,13 +29,23 @@ fn name_class(scope: &Scope<'_>, name: &ColumnName) -> Result<Class, Fault>
     Ok(Class::of_type(scope.field(number).data_type))
 }
 
+// The class of a literal. A numeral next to no column of numbers has none.
+fn literal_class(literal: &Literal) -> Result<Class, Fault>
+    ensures { result ≡ class_of_literal literal.now }
+{
+    match literal {
+        Literal::Numeral(_) => Err(Fault::TypeClash),
+        _ => Ok(Class::of_literal(literal)),
+    }
+}
+
 // The class of a term.
 fn term_class(scope: &Scope<'_>, term: &Term) -> Result<Class, Fault>
     ensures { result ≡ class_of_term scope.now term.now }
 {
     match term {
         Term::Name(name) => name_class(scope, name),
-        Term::Literal(literal) => Ok(Class::of_literal(literal)),
+        Term::Literal(literal) => literal_class(literal),
     }
 }
 
@@ -70,6 +80,7 @@ fn bind_literal(literal: &Literal) -> Result<Value, AllocError>
         Literal::Date(day) => Ok(Value::Int(i128::from(*day))),
         Literal::Timestamp(yoctos) | Literal::Time(yoctos) => Ok(Value::Int(*yoctos)),
         Literal::Typed(_, number) => Ok(Value::Int(*number)),
+        Literal::Numeral(_) => Ok(Value::Int(0)),
     }
 }
 

@@ -14,19 +14,20 @@ pub fn tokens(alloc: Global, sql: &str) -> Result<String, Fault> {
     Ok(told)
 }
 
-/// What each token says, how many bytes that has, its number, and whether this server leaves the
-/// token out.
+/// What each token says, how many bytes that has, its number, as digits or as a numeral, and whether
+/// this server leaves the token out.
 pub fn values(alloc: Global, sql: &str) -> Result<String, Fault> {
     let mut told = String::new(alloc);
     for token in &sql_text::tokens(alloc, sql)? {
         let value = token.value(alloc)?;
-        let (len, number, is_left_out) = (
+        let (len, number, numeral, is_left_out) = (
             token.value_len(),
             token.number(),
+            token.numeral(),
             token.kind.is_left_out(),
         );
         let value = value.as_str();
-        let token = format!(in alloc; "{value} {len} {number:?} {is_left_out};")?;
+        let token = format!(in alloc; "{value} {len} {number:?} {numeral:?} {is_left_out};")?;
         told.push_str(token.as_str())?;
     }
     Ok(told)

@@ -76,6 +76,7 @@ everywhere p h kind.Name = holds_at p kinds 23 kind.Name h refl
 everywhere p h kind.DelimitedName = holds_at p kinds 24 kind.DelimitedName h refl
 everywhere p h kind.String = holds_at p kinds 25 kind.String h refl
 everywhere p h kind.Digits = holds_at p kinds 26 kind.Digits h refl
+everywhere p h kind.Numeral = holds_at p kinds 46 kind.Numeral h refl
 
 pub follows_by : (a b : Bool) → (not a || b) ≡ true → a ≡ true → b ≡ true
 follows_by true b h e = h

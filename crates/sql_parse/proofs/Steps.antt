@@ -2,6 +2,8 @@
 use Rattle.std.proofs.Common.{◌≡◌, ℕ, zero, suc, ◌-◌, Bool, true, false, cond, List, [], ◌∷◌, ◌++◌, Option, Some}
 use Rattle.std.proofs.Common.{None, Ok, Err, refl, ◌∙◌, ap, sym, append_assoc, arith, append-nil}
 use Rattle.std.specs.Prelude.{◌==◌, ℤ}
+use Rattle.sql_text.specs.Numerals.{numeral_of}
+use Rattle.std.specs.Float.Numeral.{scan_numeral}
 use Rattle.sql_text.specs.Values.{number_of}
 use Rattle.std.proofs.lemmas.Bool.{ne_eqb}
 use Rattle.sql_text.specs.declared.word.Keyword.TheVariants as word
@@ -11,14 +13,14 @@ use Rattle.grammar.specs.Reading.{starts}
 use Rattle.grammar.proofs.Determined.{well_made}
 use Rattle.sql_text.specs.Words.{is_name}
 use Rattle.sql_text.specs.Values.{unquoted}
-use Rattle.sql_parse.specs.Tokens.{Mark, is_word, is_symbol, same_word, same_symbol}
+use Rattle.sql_parse.specs.Tokens.{Mark, is_word, is_symbol, is_numeral, same_word, same_symbol}
 use Rattle.sql_parse.specs.Answers.{Answer, seen, ◌>>=◌}
 use Rattle.scan_base.specs.declared.predicate.Operand.{Operand}
 use Rattle.scan_base.specs.Predicate.{conjunction, disjunction, negation}
 use Rattle.grammar.specs.Rule.{many, make}
 use Rattle.grammar.proofs.Deep.{flat_alike}
 use Rattle.sql_query.specs.declared.query.Term.{Term}
-use Rattle.sql_parse.specs.Productions.{name, column, minus, digits, date, timestamp, time, number, string, literal, operand}
+use Rattle.sql_parse.specs.Productions.{name, column, minus, digits, numeral, unsigned, date, timestamp, time, number, string, literal, operand}
 use Rattle.sql_parse.specs.Productions.{compare}
 use Rattle.sql_parse.specs.Notation.{Condition}
 use Rattle.sql_parse.specs.Productions.{negated}
@@ -26,6 +28,7 @@ use Rattle.sql_parse.specs.PredicateProductions.{truth_value, conj, pred, inner}
 use Rattle.sql_parse.specs.Notation.{a_word, a_symbol, ◌⊳◌, ◌⊲◌}
 use Rattle.sql_parse.specs.FactoredGrammar.{compared, nulled, ranged, among, tail, forms, primary, test, factor_by_operand}
 use Rattle.sql_parse.specs.Steps.{at, token_at, name_at, column_at, minus_at, numbered, digits_at, date_at, timestamp_at, time_at, number_at}
+use Rattle.sql_parse.specs.Steps.{numeral_at, unsigned_at}
 use Rattle.sql_parse.specs.Steps.{literal_at, operand_at, compare_at}
 use Rattle.sql_parse.specs.PredicateSteps.{negated_at, truth_at, compared_at, nulled_at, ranged_at}
 use Rattle.sql_parse.specs.PredicateSteps.{operands_at, among_at, tail_at, factor_at, ands_at, conj_at, ors_at, pred_at}
@@ -74,7 +77,7 @@ pub column_same : (D : Nest) (ts : List Mark) → seen (reads D column ts) ≡ c
 unfolding column column_at token_at at
 column_same D ts = simp (flat, name_same)
 
-seen_kept : (o : Option ℤ) (all rest : List Mark) → seen (kept o all rest) ≡ numbered o all rest
+seen_kept : {A : Type 0} (o : Option A) (all rest : List Mark) → seen (kept o all rest) ≡ numbered o all rest
 unfolding seen
 seen_kept None all rest = refl
 seen_kept (Some n) all rest = refl
@@ -100,9 +103,22 @@ time_same : (D : Nest) (ts : List Mark) → seen (reads D time ts) ≡ time_at t
 unfolding time_at token_at
 time_same D ts = simp (flat, seen_kept, then_same)
 
+numeral_same : (D : Nest) (ts : List Mark) → seen (reads D numeral ts) ≡ numeral_at ts
+unfolding numeral numeral_at token_at
+numeral_same D ts = simp (flat, seen_kept)
+
+numeral_starts : (ts : List Mark) → begins (starts numeral) ts ≡ at is_numeral ts
+unfolding numeral at
+numeral_starts ts = refl
+
+unsigned_same : (D : Nest) (negative : Bool) (ts : List Mark) →
+    (seen (reads D unsigned ts) >>= λ p. Ok (p.0 negative, p.1)) ≡ unsigned_at negative ts
+unfolding unsigned unsigned_at at
+unsigned_same D negative ts = simp (flat, numeral_starts, numeral_same, digits_same)
+
 number_same : (D : Nest) (ts : List Mark) → seen (reads D number ts) ≡ number_at ts
-unfolding number number_at token_at
-number_same D ts = simp (flat, minus_same, digits_same)
+unfolding number number_at
+number_same D ts = simp (flat, minus_same, unsigned_same)
 
 pub column_starts : (ts : List Mark) → begins (starts column) ts ≡ at is_name ts
 unfolding column name at
@@ -170,7 +186,7 @@ unfolding among at
 among_starts ts = refl
 
 among_flat : (D : Nest) (ts : List Mark) → reads D among ts ≡ reads None among ts
-unfolding among literal operand column name number minus digits date string
+unfolding among literal operand column name number minus digits numeral unsigned date string
 among_flat D ts = flat_alike D None among refl ts
 
 among_first : (n : Bool) (a : Operand Term) (ts : List Mark) →
@@ -274,12 +290,12 @@ pub nil_after : {A : Type 0} (xs ys : List A) (x : A) → (xs ++ x ∷ []) ++ ys
 nil_after xs ys x = append_assoc xs (x ∷ []) ys
 
 operand_made : well_made (a_symbol symbol.Comma ⊳ operand) ≡ true
-unfolding literal operand column name number minus digits date string same_symbol same_word number_of unquoted
+unfolding literal operand column name number minus digits numeral unsigned date string same_symbol same_word number_of numeral_of scan_numeral unquoted
 operand_made = refl
 
 operands_flat : (D : Nest) (ts : List Mark) →
     reads D (many (a_symbol symbol.Comma ⊳ operand)) ts ≡ reads None (many (a_symbol symbol.Comma ⊳ operand)) ts
-unfolding literal operand column name number minus digits date string
+unfolding literal operand column name number minus digits numeral unsigned date string
 operands_flat D ts = flat_alike D None (many (a_symbol symbol.Comma ⊳ operand)) refl ts
 
 pub operands_step : (front : List (Operand Term)) (ts : List Mark) →

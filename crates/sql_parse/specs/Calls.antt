@@ -9,6 +9,7 @@ use Rattle.sql_parse.specs.declared.limits.Tally.{Tally}
 use Rattle.sql_parse.specs.Limits.{TallyAt}
 use Rattle.sql_text.specs.Words.{is_name}
 use Rattle.sql_parse.specs.Tokens.{Mark, marks, is_word, is_symbol, is_string, is_digits}
+use Rattle.sql_parse.specs.Tokens.{is_numeral}
 
 abbrev pub has : Class → TokenKind → Bool
 has (class.Word w) = is_word w
@@ -16,6 +17,7 @@ has (class.Symbol s) = is_symbol s
 has class.Name = is_name
 has class.String = is_string
 has class.Digits = is_digits
+has class.Numeral = is_numeral
 
 abbrev pub unread : Rest → List Mark
 unread rest = marks rest.tokens.now

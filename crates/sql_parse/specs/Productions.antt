@@ -7,19 +7,20 @@ use Rattle.scan_base.specs.declared.predicate.Operand.TheVariants.{Column}
 use Rattle.sql_text.specs.declared.word.Keyword.TheVariants as word
 use Rattle.sql_text.specs.declared.symbol.Symbol.TheVariants as symbol
 use Rattle.grammar.specs.Rule.{one, empty, both, either, make}
+use Rattle.number_keys.specs.declared.numerals.Numeral as written
 use Rattle.sql_query.specs.declared.query.ColumnName.{ColumnName}
 use Rattle.sql_query.specs.declared.query.Literal.{Literal}
 use Rattle.sql_query.specs.declared.query.Literal.TheVariants.{Text, Truth, Number, Date}
-use Rattle.sql_query.specs.declared.query.Literal.TheVariants.{Timestamp, Time}
+use Rattle.sql_query.specs.declared.query.Literal.TheVariants.{Timestamp, Time, Numeral}
 use Rattle.sql_query.specs.declared.query.Term.{Term}
 use Rattle.sql_query.specs.declared.query.Term.TheVariants as term
 use Rattle.number_words.specs.Dates.{day_in}
 use Rattle.number_words.specs.Times.{literal_stamp, literal_time}
 use Rattle.sql_text.specs.Words.{is_name}
-use Rattle.sql_parse.specs.Tokens.{is_string, is_digits}
-use Rattle.sql_parse.specs.Tokens.{name_token, string_token, digits_token, date_token}
-use Rattle.sql_parse.specs.Tokens.{timestamp_token, time_token}
-use Rattle.sql_text.specs.Calls.{said, numeral}
+use Rattle.sql_parse.specs.Tokens.{is_string, is_digits, is_numeral, number_in, numeral_in}
+use Rattle.sql_parse.specs.Tokens.{name_token, string_token, digits_token, numeral_token}
+use Rattle.sql_parse.specs.Tokens.{date_token, timestamp_token, time_token}
+use Rattle.sql_text.specs.Calls.{said}
 use Rattle.sql_parse.specs.Notation.{Of, a_word, a_symbol, word_for, symbol_for, ◌⊳◌}
 use Rattle.sql_parse.specs.Notation.{maybe}
 
@@ -47,13 +48,27 @@ abbrev pub signed : Bool → ℤ → ℤ
 signed true number = neg_ℤ number
 signed false number = number
 
+-- the same of a numeral
+abbrev pub signed_numeral : Bool → written.Numeral → written.Numeral
+signed_numeral negative numeral =
+    record { digits = signed negative numeral.digits; places = numeral.places }
+
 -- digits
 unfoldable pub digits : Of ℤ
-digits = one is_digits (λ t. numeral t.0 t.1.1) digits_token
+digits = one is_digits number_in digits_token
 
--- [ "+" | "-" ] digits
-unfoldable pub number : Of ℤ
-number = make (λ p. signed p.0 p.1) (both minus digits)
+-- a numeral
+unfoldable pub numeral : Of written.Numeral
+numeral = one is_numeral numeral_in numeral_token
+
+-- a numeral or digits, after a sign
+unfoldable pub unsigned : Of (Bool → Literal)
+unsigned = either (make (λ n negative. Numeral (signed_numeral negative n)) numeral)
+    (make (λ n negative. Number (signed negative n)) digits)
+
+-- [ "+" | "-" ] ( numeral | digits )
+unfoldable pub number : Of Literal
+number = make (λ p. p.1 p.0) (both minus unsigned)
 
 -- a text in single quotes
 unfoldable pub string : Of (List ℕ)
@@ -76,7 +91,7 @@ time = a_word word.Time ⊳ one is_string (λ t. literal_time (said t.0 t.1.1)) 
 unfoldable pub literal : Of Literal
 literal = either (make Date date) (either (make Timestamp timestamp) (either (make Time time)
     (either (make Text string) (either (word_for word.True (Truth true))
-    (either (word_for word.False (Truth false)) (make Number number))))))
+    (either (word_for word.False (Truth false)) number)))))
 
 -- column | literal
 unfoldable pub operand : Of (Operand Term)

@@ -12,7 +12,7 @@ use Rattle.grammar.specs.Reading.{begins, token}
 use Rattle.sql_query.specs.declared.query.ColumnName.{ColumnName}
 use Rattle.sql_query.specs.declared.query.Literal.{Literal}
 use Rattle.sql_query.specs.declared.query.Literal.TheVariants.{Text, Truth, Number, Date}
-use Rattle.sql_query.specs.declared.query.Literal.TheVariants.{Timestamp, Time}
+use Rattle.sql_query.specs.declared.query.Literal.TheVariants.{Timestamp, Time, Numeral}
 use Rattle.sql_query.specs.declared.query.Term.{Term}
 use Rattle.sql_query.specs.declared.query.Term.TheVariants as term
 use Rattle.sql_parse.specs.declared.refusal.Refusal.TheVariants as refusal
@@ -20,9 +20,10 @@ use Rattle.number_words.specs.Dates.{day_in}
 use Rattle.number_words.specs.Times.{literal_stamp, literal_time}
 use Rattle.sql_text.specs.Words.{is_name}
 use Rattle.sql_parse.specs.Tokens.{Mark, is_word, is_symbol, is_string, is_digits, value_of}
-use Rattle.sql_parse.specs.Tokens.{number_in}
+use Rattle.sql_parse.specs.Tokens.{number_in, numeral_in, is_numeral}
 use Rattle.sql_parse.specs.Answers.{Answer, seen, ◌>>=◌}
-use Rattle.sql_parse.specs.Productions.{column_name, signed}
+use Rattle.number_keys.specs.declared.numerals.Numeral as written
+use Rattle.sql_parse.specs.Productions.{column_name, signed, signed_numeral}
 
 unfoldable pub at : (TokenKind → Bool) → List Mark → Bool
 at p ts = begins p ts
@@ -54,7 +55,7 @@ minus_at ts =
         Ok (false, t.1)) else Ok (false, ts))
 
 -- the number, where the tokens before and after it are these
-abbrev pub numbered : Option ℤ → List Mark → List Mark → Answer ℤ
+abbrev pub numbered : {A : Type 0} → Option A → List Mark → List Mark → Answer A
 numbered None all rest = Err (refusal.Offends (length all))
 numbered (Some n) all rest = Ok (n, rest)
 
@@ -63,11 +64,24 @@ digits_at ts = do
   t ← token_at is_digits ts
   numbered (number_in t.0) ts t.1
 
-unfoldable pub number_at : List Mark → Answer ℤ
+unfoldable pub numeral_at : List Mark → Answer written.Numeral
+numeral_at ts = do
+  t ← token_at is_numeral ts
+  numbered (numeral_in t.0) ts t.1
+
+-- a number, after its sign
+unfoldable pub unsigned_at : Bool → List Mark → Answer Literal
+unsigned_at negative ts =
+    if at is_numeral ts then (do
+      n ← numeral_at ts
+      Ok (Numeral (signed_numeral negative n.0), n.1)) else (do
+        n ← digits_at ts
+        Ok (Number (signed negative n.0), n.1))
+
+unfoldable pub number_at : List Mark → Answer Literal
 number_at ts = do
   m ← minus_at ts
-  n ← digits_at m.1
-  Ok (signed m.0 n.0, n.1)
+  unsigned_at m.0 m.1
 
 unfoldable pub date_at : List Mark → Answer ℤ
 date_at ts = do
@@ -101,9 +115,7 @@ literal_at ts =
               t ← token_at (is_word word.True) ts
               Ok (Truth true, t.1)) else (if at (is_word word.False) ts then (do
                 t ← token_at (is_word word.False) ts
-                Ok (Truth false, t.1)) else (do
-                  n ← number_at ts
-                  Ok (Number n.0, n.1)))))))
+                Ok (Truth false, t.1)) else number_at ts)))))
 
 unfoldable pub operand_at : List Mark → Answer (Operand Term)
 operand_at ts =

@@ -9,7 +9,8 @@ use Rattle.sql_text.specs.declared.token.TokenKind.{TokenKind}
 use Rattle.sql_text.specs.declared.token.TokenKind.TheVariants as kind
 use Rattle.sql_text.specs.declared.token.Token.{Token}
 use Rattle.sql_text.specs.Standard.{Lexeme}
-use Rattle.sql_text.specs.Calls.{said, numeral}
+use Rattle.number_keys.specs.declared.numerals.Numeral.{Numeral}
+use Rattle.sql_text.specs.Calls.{said, digits_said, numeral_said}
 
 -- where a token begins, and its bytes
 abbrev pub Span : Type 0
@@ -61,6 +62,11 @@ abbrev pub is_digits : TokenKind → Bool
 is_digits kind.Digits = true
 is_digits _ = false
 
+-- the kind is a numeral
+abbrev pub is_numeral : TokenKind → Bool
+is_numeral kind.Numeral = true
+is_numeral _ = false
+
 -- ---- values
 
 -- what a token says: a name, or the text of a string
@@ -69,7 +75,11 @@ value_of token = said token.0 token.1.1
 
 -- the number that digits say
 abbrev pub number_in : Mark → Option ℤ
-number_in token = numeral token.0 token.1.1
+number_in token = digits_said token.0 token.1.1
+
+-- the number that a numeral says
+abbrev pub numeral_in : Mark → Option Numeral
+numeral_in token = numeral_said token.0 token.1.1
 
 -- a token that is this word; where grammars name a token, it shows that there is one
 abbrev pub word_token : Keyword → Mark
@@ -90,6 +100,10 @@ string_token = (kind.String, (0, codes "''"))
 -- a token that is digits
 abbrev pub digits_token : Mark
 digits_token = (kind.Digits, (0, codes "0"))
+
+-- a token that is a numeral
+abbrev pub numeral_token : Mark
+numeral_token = (kind.Numeral, (0, codes "0.0"))
 
 -- a token that is the text of a date
 abbrev pub date_token : Mark

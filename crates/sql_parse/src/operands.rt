@@ -3,10 +3,12 @@
 ghost use Rattle.std.specs.Prelude.{◌≡◌, ◌<◌, ◌≤◌, ◌≤ℤ◌, pos, IfOk};
 ghost use Rattle.sql_parse.specs.Answers.{Gives};
 ghost use Rattle.sql_parse.specs.Calls.{unread, remaining};
+ghost use Rattle.sql_parse.specs.Productions.{signed};
 ghost use Rattle.sql_parse.specs.Steps as steps;
 
 use crate::refusal::Refusal;
 use crate::tokens::{Class, Rest};
+use number_keys::Numeral;
 use number_words::{day_in, literal_stamp, literal_time};
 use scan_base::{Comparison, Operand, Text};
 use sql_query::{ColumnName, Literal, Term};
@@ -78,15 +80,52 @@ fn digits<'t>(tokens: Rest<'t>) -> Result<(i128, Rest<'t>), Refusal>
     }
 }
 
-// [ "+" | "-" ] digits
+// numeral
+#[tactic(auto, unfolding(crate::specs::Steps::numeral_at))]
+fn numeral<'t>(tokens: Rest<'t>) -> Result<(Numeral, Rest<'t>), Refusal>
+    ensures exact { Gives (λ x. (x.0, unread x.1)) result (steps.numeral_at (unread tokens.entry)) }
+    ensures shorter { IfOk result (λ x. remaining x.1 < remaining tokens.entry) }
+    ensures positive { IfOk result (λ x. pos 0 ≤ℤ x.0.digits) }
+{
+    let (token, rest) = tokens.take(Class::Numeral)?;
+    match token.numeral() {
+        Some(numeral) => Ok((numeral, rest)),
+        None => Err(Refusal::Offends(tokens.tokens.len())),
+    }
+}
+
+fn signed(negative: bool, number: i128) -> i128
+    requires { pos 0 ≤ℤ number }
+    ensures { result ≡ signed negative number }
+{
+    if negative { -number } else { number }
+}
+
+// A numeral or digits, after a sign.
+#[tactic(auto, unfolding(crate::specs::Steps::unsigned_at))]
+fn unsigned<'t>(negative: bool, tokens: Rest<'t>) -> Result<(Literal, Rest<'t>), Refusal>
+    ensures exact { Gives (λ x. (x.0, unread x.1)) result
+        (steps.unsigned_at negative (unread tokens.entry)) }
+    ensures shorter { IfOk result (λ x. remaining x.1 < remaining tokens.entry) }
+{
+    if tokens.at(Class::Numeral) {
+        let (numeral, rest) = numeral(tokens)?;
+        let digits = signed(negative, numeral.digits);
+        Ok((Literal::Numeral(Numeral { digits, ..numeral }), rest))
+    } else {
+        let (number, rest) = digits(tokens)?;
+        Ok((Literal::Number(signed(negative, number)), rest))
+    }
+}
+
+// [ "+" | "-" ] ( numeral | digits )
 #[tactic(auto, unfolding(crate::specs::Steps::number_at))]
-fn signed_number<'t>(tokens: Rest<'t>) -> Result<(i128, Rest<'t>), Refusal>
+fn number<'t>(tokens: Rest<'t>) -> Result<(Literal, Rest<'t>), Refusal>
     ensures exact { Gives (λ x. (x.0, unread x.1)) result (steps.number_at (unread tokens.entry)) }
     ensures shorter { IfOk result (λ x. remaining x.1 < remaining tokens.entry) }
 {
     let (negative, rest) = minus(tokens)?;
-    let (number, rest) = digits(rest)?;
-    Ok((if negative { -number } else { number }, rest))
+    unsigned(negative, rest)
 }
 
 // DATE string, where the string is a date: its day number
@@ -170,8 +209,7 @@ fn literal<'t>(alloc: Global, tokens: Rest<'t>) -> Result<(Literal, Rest<'t>), R
         let (_, rest) = tokens.take(Class::Word(Keyword::False))?;
         Ok((Literal::Truth(false), rest))
     } else {
-        let (number, rest) = signed_number(tokens)?;
-        Ok((Literal::Number(number), rest))
+        number(tokens)
     }
 }
 

@@ -22,6 +22,8 @@ pub(crate) enum Class {
     String,
     /// Digits.
     Digits,
+    /// A numeral.
+    Numeral,
 }
 
 impl Class {
@@ -36,6 +38,7 @@ impl Class {
             (Class::Name, TokenKind::Name | TokenKind::DelimitedName) => true,
             (Class::String, TokenKind::String) => true,
             (Class::Digits, TokenKind::Digits) => true,
+            (Class::Numeral, TokenKind::Numeral) => true,
             _ => false,
         }
     }

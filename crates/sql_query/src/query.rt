@@ -8,6 +8,7 @@ ghost use Rattle.sql_query.specs.Sentence.{place_name};
 ghost use Rattle.sql_query.specs.Sentence.{is_left_out_whole};
 
 use arrow_types::NumberType;
+use number_keys::Numeral;
 use scan_base::{Items, Predicate, Text};
 
 /// A column, by its name, or by the name of its place and its own.
@@ -40,6 +41,8 @@ pub enum Literal {
     Time(i128),
     /// A number of a type: what binding makes of the two before next to a column.
     Typed(NumberType, i128),
+    /// What a sign and a numeral say.
+    Numeral(Numeral),
 }
 
 /// A side of a comparison as it is written.

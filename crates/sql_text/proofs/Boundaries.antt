@@ -1,22 +1,24 @@
 -- A text may be cut after a piece.
-use Rattle.std.proofs.Common.{◌≡◌, ◌≢◌, ◌<◌, ◌≤◌, ℕ, ◌+◌, Bool, true, false, cond, List, [], ◌∷◌, ◌++◌, length, get_or, Option, Some, None, refl, sym, ap, subst, arith, append_assoc, append-nil}
-use Rattle.std.specs.Prelude.{◌==◌, ◌&&◌, IfSome}
+use Rattle.std.proofs.Common.{◌≡◌, ◌≢◌, ◌<◌, ◌≤◌, ℕ, ◌+◌, Bool, true, false, cond, List, [], ◌∷◌, ◌++◌, length, get_or, take, drop, ◌⊎◌, inl, inr, ◌∙◌, Option, Some, None, refl, sym, ap, subst, arith, append_assoc, append-nil}
+use Rattle.std.specs.Prelude.{◌==◌, ◌&&◌, IfSome, slice_index}
 use Rattle.std.specs.Char.{is_ascii_digit}
-use Rattle.std.specs.List.{list_all}
+use Rattle.std.specs.List.{list_all, prefix_len}
 use Rattle.std.specs.Str.{IsUtf8, IsCharBoundary}
 use Rattle.std.proofs.Math.Seq.{get_or-append_seam}
 use Rattle.std.proofs.lemmas.Bool.{and_parts, eqb-true}
 use Rattle.std.proofs.lemmas.Bool.Decides.{nat_tests}
-use Rattle.std.proofs.lemmas.List.{length-append}
+use Rattle.std.proofs.lemmas.List.{length-append, length-take, take-append-drop}
 use Rattle.std.proofs.lemmas.Str.{IsCharBoundary-end, IsCharBoundary-before_ascii, IsCharBoundary-after_ascii}
 use Rattle.sql_text.specs.declared.front.Front.{Front}
 use Rattle.sql_text.specs.declared.symbol.Symbol.{Symbol}
 use Rattle.sql_text.specs.Values.{opened}
-use Rattle.sql_text.specs.Standard.{begins_word, continues_word, is_separator, continues_comment, Form, separator, comment, word, delimited_name, string, unclosed, digits, mark, SpellsPiece, StandsInFront, is_sound}
+use Rattle.sql_text.specs.Standard.{begins_word, continues_word, is_separator, continues_comment, Form, separator, comment, word, delimited_name, string, unclosed, digits, numeral, mark, SpellsPiece, StandsInFront, is_sound}
 use Rattle.sql_text.specs.Symbols.{symbols, symbol_in}
-use Rattle.sql_text.specs.Reading.{front_at}
+use Rattle.sql_text.specs.Numerals.{AreDigits, IsFraction, IsExponent, IsNumeral}
+use Rattle.sql_text.specs.Reading.{front_at, tail_len}
 use Rattle.sql_text.proofs.Groups.{mark_short, some_byte}
 use Rattle.sql_text.proofs.Cuts.{word_ascii, digit_ascii}
+use Rattle.sql_text.proofs.Numerals.{number_len, number_within, numeral_spells}
 use Rattle.sql_text.proofs.Fronts.{front_read}
 
 -- the last byte is ASCII
@@ -71,6 +73,47 @@ mark_ends (b ∷ []) s e = record { before = []; last = b; whole = refl; ascii =
 mark_ends (a ∷ b ∷ []) s e = record { before = a ∷ []; last = b; whole = refl; ascii = two_ascii a b s e }
 mark_ends (a ∷ b ∷ c ∷ t) s e = absurd (mark_short a b c t s e)
 
+ends_after : (front more : List ℕ) → Ends more → Ends (front ++ more)
+ends_after front more e = record {
+  before = front ++ e.before;
+  last = e.last;
+  whole = ap (λ (x : List ℕ). front ++ x) e.whole ∙ sym (append_assoc front e.before (e.last ∷ []));
+  ascii = e.ascii;
+}
+
+-- digits after what ends with an ASCII byte
+digits_after : (front digits : List ℕ) → Ends front → list_all is_ascii_digit digits ≡ true → Ends (front ++ digits)
+digits_after front [] e all = subst Ends (sym (append-nil front)) e
+digits_after front (b ∷ digits) e all = ends_after front (b ∷ digits) (run_ends is_ascii_digit digit_ascii b digits all)
+
+exponent_ends : (bytes : List ℕ) → IsExponent bytes → Ends bytes
+exponent_ends bytes h = subst Ends (sym h.whole) (ends_after (h.letter ∷ h.sign) h.digits (go h.digits h.digits_are))
+  where
+    go : (digits : List ℕ) → AreDigits digits → Ends digits
+    go [] d = absurd (d.0 refl)
+    go (b ∷ digits) d = run_ends is_ascii_digit digit_ascii b digits d.1
+
+fraction_ends : (bytes : List ℕ) → IsFraction bytes → Ends bytes
+fraction_ends bytes h = subst Ends (sym h.1) (digits_after (46 ∷ []) h.0 (record { before = []; last = 46; whole = refl; ascii = omega arith }) h.2)
+
+numeral_ends : (bytes : List ℕ) → IsNumeral bytes → Ends bytes
+numeral_ends bytes h = subst Ends (sym h.whole) (ends_after h.digits h.tail (go h.tail_is.fraction h.tail_is.exponent h.tail_is.whole h.tail_is.fraction_is h.tail_is.exponent_is))
+  where
+    go : (fraction exponent : List ℕ) → h.tail ≡ fraction ++ exponent → (fraction ≡ []) ⊎ IsFraction fraction → (exponent ≡ []) ⊎ IsExponent exponent → Ends h.tail
+    go fraction exponent e (inl none) (inl nothing) = absurd (h.more (e ∙ rw (none, nothing) refl))
+    go fraction exponent e (inr f) (inl nothing) = subst Ends (sym (e ∙ rw (nothing, append-nil fraction) refl)) (fraction_ends fraction f)
+    go fraction exponent e f (inr x) = subst Ends (sym e) (ends_after fraction exponent (exponent_ends exponent x))
+
+-- a text may be cut after a numeral
+pub numeral_cut : (text : List ℕ) → IsUtf8 text → is_ascii_digit (slice_index text 0) ≡ true → (tail_len (drop (prefix_len is_ascii_digit text) text) == 0) ≡ false → IsCharBoundary text (number_len text)
+numeral_cut [] utf8 first some = absurd cc
+numeral_cut (b ∷ text) utf8 first some =
+    let n = number_len (b ∷ text) in
+    let whole : take n (b ∷ text) ++ drop n (b ∷ text) ≡ b ∷ text = take-append-drop n (b ∷ text) in
+    let len : length (take n (b ∷ text)) ≡ n = length-take n (b ∷ text) (number_within (b ∷ text)) in
+    let cut = ends_cut (take n (b ∷ text)) (drop n (b ∷ text)) (numeral_ends (take n (b ∷ text)) (numeral_spells b text first some)) (rw whole utf8) in
+    rw (whole, len) at cut
+
 more_passes : (p : ℕ → Bool) (xs : List ℕ) (x : ℕ) → list_all p xs ≡ true → p x ≡ true → list_all p (xs ++ (x ∷ [])) ≡ true
 more_passes p [] x e f = rw f refl
 more_passes p (y ∷ xs) x e f = both (p y) refl e (more_passes p xs x)
@@ -118,6 +161,7 @@ ends_of string front h sound other = record { before = opened 39 h.0; last = 39;
 ends_of unclosed front h sound other = absurd cc
 ends_of digits [] h sound other = absurd (h.0 refl)
 ends_of digits (b ∷ front) h sound other = run_ends is_ascii_digit digit_ascii b front h.1
+ends_of numeral front h sound other = numeral_ends front h
 ends_of (mark s) front h sound other = mark_ends front s h
 
 pub sound_cut : (form : Form) (front rest : List ℕ) → StandsInFront (record { form = form; text = front }) (front ++ rest) rest → is_sound form front ≡ true → IsUtf8 (front ++ rest) → IsCharBoundary (front ++ rest) (length front)

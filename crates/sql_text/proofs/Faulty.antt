@@ -1,6 +1,6 @@
 -- Where nothing is read, no sound piece stands.
 use Rattle.std.proofs.Common.{◌≡◌, ℕ, suc, ◌+◌, Bool, true, false, cond, List, [], ◌∷◌, length, take, Option, Some, None, refl, subst, arith}
-use Rattle.std.specs.Prelude.{◌==◌, ◌&&◌, option_and_then}
+use Rattle.std.specs.Prelude.{◌==◌, ◌&&◌, option_and_then, is_some}
 use Rattle.std.specs.Char.{is_ascii_digit}
 use Rattle.std.specs.List.{prefix_len, flat_map}
 use Rattle.std.proofs.lemmas.Bool.{eqb-true, eqb-false}
@@ -8,11 +8,13 @@ use Rattle.sql_text.specs.declared.front.Front.{Front}
 use Rattle.sql_text.specs.declared.symbol.Symbol.{Symbol}
 use Rattle.sql_text.specs.declared.token.TokenKind.TheVariants as kind
 use Rattle.sql_text.specs.Values.{doubled, is_small}
-use Rattle.sql_text.specs.Standard.{begins_word, is_separator, Form, delimited_name, unclosed, digits, Piece, StandsInFront, sound, is_sound}
-use Rattle.sql_text.specs.Reading.{space, front_token, closed_at, string_front, delimited_front, word_front, digits_front, comment_front, pair, single, one_mark, two_marks, mark_front, front_at}
+use Rattle.sql_text.specs.Standard.{begins_word, is_separator, Form, delimited_name, unclosed, digits, numeral, Piece, StandsInFront, sound, is_sound}
+use Rattle.sql_text.specs.Reading.{space, front_token, closed_at, string_front, delimited_front, word_front, digits_front, numeral_front, number_front, comment_front, pair, single, one_mark, two_marks, mark_front, front_at}
 use Rattle.sql_text.proofs.Groups.{group, marks}
 use Rattle.sql_text.proofs.Quotes.{Closed, closed_of, open_of}
-use Rattle.sql_text.proofs.Fronts.{Stands, digits_len, digits_stands, double_stands, unclosed_stands, NoComment, Marked, none_stands}
+use Rattle.sql_text.specs.Numerals.{numeral_of}
+use Rattle.sql_text.proofs.Numerals.{number_len}
+use Rattle.sql_text.proofs.Fronts.{Stands, digits_len, behind_digits, digits_stands, numeral_stands, double_stands, unclosed_stands, NoComment, Marked, none_stands}
 use Rattle.sql_text.proofs.Unique.{same_piece}
 
 -- no sound piece stands in front of the text
@@ -25,16 +27,31 @@ unsound_only text form len s unsound piece more t =
     let forms = subst (λ (x : Form). is_sound x s.front ≡ false) same.forms unsound in
     subst (λ (x : List ℕ). is_sound piece.form x ≡ false) same.texts forms
 
-digits_none : (b : ℕ) (tail : List ℕ) → is_ascii_digit b ≡ true → digits_front (b ∷ tail) ≡ None → NoneSound (b ∷ tail)
+digits_none : (b : ℕ) (tail : List ℕ) → is_ascii_digit b ≡ true → (behind_digits (b ∷ tail) == 0) ≡ true → digits_front (b ∷ tail) ≡ None → NoneSound (b ∷ tail)
 unfolding digits_stands
-digits_none b tail first e = go (is_small text) refl (rw (digits_len b tail first) at e)
+digits_none b tail first none e = go (is_small text) refl (rw (digits_len b tail first) at e)
   where
     text : List ℕ
     text = b ∷ take (prefix_len is_ascii_digit tail) tail
 
     go : (x : Bool) → is_small text ≡ x → cond (is_small text) (front_token kind.Digits (suc (prefix_len is_ascii_digit tail))) None ≡ None → NoneSound (b ∷ tail)
     go true small e = let d : front_token kind.Digits (suc (prefix_len is_ascii_digit tail)) ≡ None = rw small at e in absurd cc
-    go false small e = unsound_only (b ∷ tail) digits _ (digits_stands b tail first) small
+    go false small e = unsound_only (b ∷ tail) digits _ (digits_stands b tail first none) small
+
+numeral_none : (b : ℕ) (tail : List ℕ) → is_ascii_digit b ≡ true → (behind_digits (b ∷ tail) == 0) ≡ false → numeral_front (b ∷ tail) (number_len (b ∷ tail)) ≡ None → NoneSound (b ∷ tail)
+unfolding numeral_stands
+numeral_none b tail first some e = go (is_some (numeral_of (take (number_len (b ∷ tail)) (b ∷ tail)))) refl e
+  where
+    go : (x : Bool) → is_some (numeral_of (take (number_len (b ∷ tail)) (b ∷ tail))) ≡ x → cond x (front_token kind.Numeral (number_len (b ∷ tail))) None ≡ None → NoneSound (b ∷ tail)
+    go true small e = absurd cc
+    go false small e = unsound_only (b ∷ tail) numeral _ (numeral_stands b tail first some) small
+
+number_none : (b : ℕ) (tail : List ℕ) → is_ascii_digit b ≡ true → number_front (b ∷ tail) ≡ None → NoneSound (b ∷ tail)
+number_none b tail first e = go (behind_digits (b ∷ tail) == 0) refl e
+  where
+    go : (x : Bool) → (behind_digits (b ∷ tail) == 0) ≡ x → cond x (digits_front (b ∷ tail)) (numeral_front (b ∷ tail) (number_len (b ∷ tail))) ≡ None → NoneSound (b ∷ tail)
+    go true none e = digits_none b tail first none e
+    go false some e = numeral_none b tail first some e
 
 nil_of : (xs : List ℕ) → length xs ≡ 0 → xs ≡ []
 nil_of [] e = refl
@@ -107,12 +124,12 @@ pub none_sound : (b : ℕ) (tail : List ℕ) → front_at (b ∷ tail) ≡ None 
 unfolding front_at
 none_sound b tail e = words_or (begins_word b) refl e
   where
-    words_or : (x : Bool) → begins_word b ≡ x → cond x (word_front (b ∷ tail)) (cond (is_ascii_digit b) (digits_front (b ∷ tail)) (cond (is_separator b) (space 1) (cond (b == 34) (delimited_front tail) (cond (b == 39) (string_front tail) (mark_front b tail))))) ≡ None → NoneSound (b ∷ tail)
+    words_or : (x : Bool) → begins_word b ≡ x → cond x (word_front (b ∷ tail)) (cond (is_ascii_digit b) (number_front (b ∷ tail)) (cond (is_separator b) (space 1) (cond (b == 34) (delimited_front tail) (cond (b == 39) (string_front tail) (mark_front b tail))))) ≡ None → NoneSound (b ∷ tail)
     words_or true f e = absurd cc
     words_or false f e = digits_or (is_ascii_digit b) refl e
       where
-        digits_or : (x : Bool) → is_ascii_digit b ≡ x → cond x (digits_front (b ∷ tail)) (cond (is_separator b) (space 1) (cond (b == 34) (delimited_front tail) (cond (b == 39) (string_front tail) (mark_front b tail)))) ≡ None → NoneSound (b ∷ tail)
-        digits_or true g e = digits_none b tail g e
+        digits_or : (x : Bool) → is_ascii_digit b ≡ x → cond x (number_front (b ∷ tail)) (cond (is_separator b) (space 1) (cond (b == 34) (delimited_front tail) (cond (b == 39) (string_front tail) (mark_front b tail)))) ≡ None → NoneSound (b ∷ tail)
+        digits_or true g e = number_none b tail g e
         digits_or false g e = others (is_separator b) (b == 34) (b == 39) refl refl refl e
           where
             others : (x y z : Bool) → is_separator b ≡ x → (b == 34) ≡ y → (b == 39) ≡ z → cond x (space 1) (cond y (delimited_front tail) (cond z (string_front tail) (mark_front b tail))) ≡ None → NoneSound (b ∷ tail)

@@ -1,24 +1,26 @@
 -- What is read at the front of a text stands there: the piece that is the longest.
 use Rattle.std.proofs.Common.{◌≡◌, ◌≤◌, ℕ, suc, ◌+◌, Bool, true, false, cond, List, [], ◌∷◌, ◌++◌, length, take, drop, Option, Some, None, refl, sym, ap, subst, ◌∙◌, arith, append_assoc, append-nil}
-use Rattle.std.specs.Prelude.{nat_eq, ◌==◌, ◌&&◌, option_and_then}
+use Rattle.std.specs.Prelude.{nat_eq, ◌==◌, ◌&&◌, option_and_then, is_some}
 use Rattle.std.specs.Char.{is_ascii_digit}
 use Rattle.std.specs.List.{prefix_len, flat_map}
 use Rattle.std.specs.Str.{bytes_eq}
 use Rattle.std.specs.Cmp.Lexicographic.{unequal}
 use Rattle.std.proofs.lemmas.Bool.{and_parts, eqb-true, eqb-false}
 use Rattle.std.proofs.lemmas.Bool.Decides.{nat_tests}
-use Rattle.std.proofs.lemmas.List.{take-append-drop, length-append}
+use Rattle.std.proofs.lemmas.List.{take-append-drop, length-append, length-take}
 use Rattle.std.proofs.lemmas.List.Folds.{length-prefix_len}
 use Rattle.sql_text.specs.declared.front.Front.{Front}
 use Rattle.sql_text.specs.declared.symbol.Symbol.{Symbol}
 use Rattle.sql_text.specs.declared.token.TokenKind.TheVariants as kind
 use Rattle.sql_text.specs.Words.{word_kind}
 use Rattle.sql_text.specs.Values.{doubled, opened, quoted, is_small}
-use Rattle.sql_text.specs.Standard.{begins_word, continues_word, is_separator, is_quote, continues_comment, Form, separator, comment, word, delimited_name, string, unclosed, digits, mark, SpellsPiece, Piece, StandsInFront, is_sound, kind_of}
-use Rattle.sql_text.specs.Reading.{space, front_token, closed_at, string_front, delimited_front, word_front, digits_front, comment_front, pair, single, one_mark, two_marks, mark_front, front_at}
+use Rattle.sql_text.specs.Standard.{begins_word, continues_word, is_separator, is_quote, continues_comment, Form, separator, comment, word, delimited_name, string, unclosed, digits, numeral, mark, SpellsPiece, Piece, StandsInFront, is_sound, kind_of}
+use Rattle.sql_text.specs.Reading.{space, front_token, closed_at, string_front, delimited_front, word_front, digits_front, tail_len, numeral_front, number_front, comment_front, pair, single, one_mark, two_marks, mark_front, front_at}
 use Rattle.sql_text.proofs.Groups.{words, numerals, separators, double_quotes, single_quotes, marks, group, Begins, of_word, of_digit, of_separator, mark_short, some_byte, longest_of, all_fits}
 use Rattle.sql_text.proofs.Quotes.{Closed, Open, closed_of, no_longer}
 use Rattle.sql_text.proofs.Cuts.{run_passes}
+use Rattle.sql_text.proofs.Numerals.{number_len, digits_fit, numeral_fits, numeral_spells, number_within}
+use Rattle.sql_text.specs.Numerals.{numeral_of}
 
 -- a piece stands in front of the text
 pub record Stands (text : List ℕ) (form : Form) (len : ℕ) : Type 0 where
@@ -70,14 +72,39 @@ word_stands b tail first =
       len_is = rw len refl;
     }
 
-pub digits_bound : (b : ℕ) (tail : List ℕ) (form : Form) (t more : List ℕ) → Begins form numerals → tail ≡ t ++ more → SpellsPiece form (b ∷ t) → length (b ∷ t) ≤ suc (prefix_len is_ascii_digit tail)
-digits_bound b tail digits t more g e h =
-    let fits : length t ≤ prefix_len is_ascii_digit tail = rw e (all_fits is_ascii_digit t more (and_parts (is_ascii_digit b) _ h.1).1) in
-    omega arith
-digits_bound b tail form t more g e h = absurd g
+number_bound : (b : ℕ) (tail : List ℕ) (form : Form) (t more : List ℕ) → Begins form numerals → tail ≡ t ++ more → SpellsPiece form (b ∷ t) → length (b ∷ t) ≤ number_len (b ∷ tail)
+number_bound b tail digits t more g e h = rw e (digits_fit (b ∷ t) more h.1)
+number_bound b tail numeral t more g e h = rw e (numeral_fits (b ∷ t) more h)
+number_bound b tail form t more g e h = absurd g
 
-unfoldable pub digits_stands : (b : ℕ) (tail : List ℕ) → is_ascii_digit b ≡ true → Stands (b ∷ tail) digits (suc (prefix_len is_ascii_digit tail))
-digits_stands b tail first =
+pub digits_len : (b : ℕ) (tail : List ℕ) → is_ascii_digit b ≡ true → prefix_len is_ascii_digit (b ∷ tail) ≡ suc (prefix_len is_ascii_digit tail)
+digits_len b tail first = rw first (omega arith)
+
+-- how many bytes of a numeral follow the digits at the front
+abbrev pub behind_digits : List ℕ → ℕ
+behind_digits bytes = tail_len (drop (prefix_len is_ascii_digit bytes) bytes)
+
+digits_bound : (b : ℕ) (tail : List ℕ) → is_ascii_digit b ≡ true → (behind_digits (b ∷ tail) == 0) ≡ true → (form : Form) (t more : List ℕ) → Begins form numerals → tail ≡ t ++ more → SpellsPiece form (b ∷ t) → length (b ∷ t) ≤ suc (prefix_len is_ascii_digit tail)
+digits_bound b tail first none form t more g e h =
+    omega (arith, number_bound b tail form t more g e h, eqb-true (behind_digits (b ∷ tail)) 0 none, digits_len b tail first)
+
+unfoldable pub numeral_stands : (b : ℕ) (tail : List ℕ) → is_ascii_digit b ≡ true → (behind_digits (b ∷ tail) == 0) ≡ false → Stands (b ∷ tail) numeral (number_len (b ∷ tail))
+numeral_stands b tail first some =
+    let n = number_len (b ∷ tail) in
+    let len : length (take n (b ∷ tail)) ≡ n = length-take n (b ∷ tail) (number_within (b ∷ tail)) in
+    record {
+      front = take n (b ∷ tail);
+      rest = drop n (b ∷ tail);
+      stands = record {
+        whole = sym (take-append-drop n (b ∷ tail));
+        spells = numeral_spells b tail first some;
+        longest = longest_of (length (take n (b ∷ tail))) b tail (λ form t more g e h. rw len (number_bound b tail form t more (rw (of_digit b first) at g) e h));
+      };
+      len_is = sym len;
+    }
+
+unfoldable pub digits_stands : (b : ℕ) (tail : List ℕ) → is_ascii_digit b ≡ true → (behind_digits (b ∷ tail) == 0) ≡ true → Stands (b ∷ tail) digits (suc (prefix_len is_ascii_digit tail))
+digits_stands b tail first none =
     let n = prefix_len is_ascii_digit tail in
     let len : length (take n tail) ≡ n = length-prefix_len is_ascii_digit tail in
     record {
@@ -86,7 +113,7 @@ digits_stands b tail first =
       stands = record {
         whole = ap (λ (x : List ℕ). b ∷ x) (sym (take-append-drop n tail));
         spells = ((λ e. cc), rw (first, run_passes is_ascii_digit tail) refl);
-        longest = longest_of (suc (length (take n tail))) b tail (λ form t more g e h. rw len (digits_bound b tail form t more (rw (of_digit b first) at g) e h));
+        longest = longest_of (suc (length (take n tail))) b tail (λ form t more g e h. rw len (digits_bound b tail first none form t more (rw (of_digit b first) at g) e h));
       };
       len_is = rw len refl;
     }
@@ -292,12 +319,9 @@ word_read b tail first front e =
     let d : Some (record { kind = Some (word_kind (b ∷ take m tail)); len = suc m }) ≡ Some front = rw len at e in
     read_as (b ∷ tail) _ front d (record { form = word; stands = word_stands b tail first; sound = refl; kind_is = refl })
 
-pub digits_len : (b : ℕ) (tail : List ℕ) → is_ascii_digit b ≡ true → prefix_len is_ascii_digit (b ∷ tail) ≡ suc (prefix_len is_ascii_digit tail)
-digits_len b tail first = rw first (omega arith)
-
-digits_read : (b : ℕ) (tail : List ℕ) → is_ascii_digit b ≡ true → (front : Front) → digits_front (b ∷ tail) ≡ Some front → Read (b ∷ tail) front
+digits_read : (b : ℕ) (tail : List ℕ) → is_ascii_digit b ≡ true → (behind_digits (b ∷ tail) == 0) ≡ true → (front : Front) → digits_front (b ∷ tail) ≡ Some front → Read (b ∷ tail) front
 unfolding digits_stands
-digits_read b tail first front e = go (is_small text) refl (rw (digits_len b tail first) at e)
+digits_read b tail first none front e = go (is_small text) refl (rw (digits_len b tail first) at e)
   where
     text : List ℕ
     text = b ∷ take (prefix_len is_ascii_digit tail) tail
@@ -305,8 +329,23 @@ digits_read b tail first front e = go (is_small text) refl (rw (digits_len b tai
     go : (x : Bool) → is_small text ≡ x → cond (is_small text) (front_token kind.Digits (suc (prefix_len is_ascii_digit tail))) None ≡ Some front → Read (b ∷ tail) front
     go true small e =
         let d : front_token kind.Digits (suc (prefix_len is_ascii_digit tail)) ≡ Some front = rw small at e in
-        read_as (b ∷ tail) _ front d (record { form = digits; stands = digits_stands b tail first; sound = small; kind_is = refl })
+        read_as (b ∷ tail) _ front d (record { form = digits; stands = digits_stands b tail first none; sound = small; kind_is = refl })
     go false small e = let d : None ≡ Some front = rw small at e in absurd cc
+
+numeral_read : (b : ℕ) (tail : List ℕ) → is_ascii_digit b ≡ true → (behind_digits (b ∷ tail) == 0) ≡ false → (front : Front) → numeral_front (b ∷ tail) (number_len (b ∷ tail)) ≡ Some front → Read (b ∷ tail) front
+unfolding numeral_stands
+numeral_read b tail first some front e = go (is_some (numeral_of (take (number_len (b ∷ tail)) (b ∷ tail)))) refl e
+  where
+    go : (x : Bool) → is_some (numeral_of (take (number_len (b ∷ tail)) (b ∷ tail))) ≡ x → cond x (front_token kind.Numeral (number_len (b ∷ tail))) None ≡ Some front → Read (b ∷ tail) front
+    go true small e = read_as (b ∷ tail) _ front e (record { form = numeral; stands = numeral_stands b tail first some; sound = small; kind_is = refl })
+    go false small e = absurd cc
+
+number_read : (b : ℕ) (tail : List ℕ) → is_ascii_digit b ≡ true → (front : Front) → number_front (b ∷ tail) ≡ Some front → Read (b ∷ tail) front
+number_read b tail first front e = go (behind_digits (b ∷ tail) == 0) refl e
+  where
+    go : (x : Bool) → (behind_digits (b ∷ tail) == 0) ≡ x → cond x (digits_front (b ∷ tail)) (numeral_front (b ∷ tail) (number_len (b ∷ tail))) ≡ Some front → Read (b ∷ tail) front
+    go true none e = digits_read b tail first none front e
+    go false some e = numeral_read b tail first some front e
 
 delimited_read : (tail : List ℕ) (front : Front) → delimited_front tail ≡ Some front → Read (34 ∷ tail) front
 unfolding double_stands
@@ -373,12 +412,12 @@ unfolding front_at
 front_read [] front e = absurd cc
 front_read (b ∷ tail) front e = words_or (begins_word b) refl e
   where
-    words_or : (x : Bool) → begins_word b ≡ x → cond x (word_front (b ∷ tail)) (cond (is_ascii_digit b) (digits_front (b ∷ tail)) (cond (is_separator b) (space 1) (cond (b == 34) (delimited_front tail) (cond (b == 39) (string_front tail) (mark_front b tail))))) ≡ Some front → Read (b ∷ tail) front
+    words_or : (x : Bool) → begins_word b ≡ x → cond x (word_front (b ∷ tail)) (cond (is_ascii_digit b) (number_front (b ∷ tail)) (cond (is_separator b) (space 1) (cond (b == 34) (delimited_front tail) (cond (b == 39) (string_front tail) (mark_front b tail))))) ≡ Some front → Read (b ∷ tail) front
     words_or true f e = word_read b tail f front e
     words_or false f e = digits_or (is_ascii_digit b) refl e
       where
-        digits_or : (x : Bool) → is_ascii_digit b ≡ x → cond x (digits_front (b ∷ tail)) (cond (is_separator b) (space 1) (cond (b == 34) (delimited_front tail) (cond (b == 39) (string_front tail) (mark_front b tail)))) ≡ Some front → Read (b ∷ tail) front
-        digits_or true g e = digits_read b tail g front e
+        digits_or : (x : Bool) → is_ascii_digit b ≡ x → cond x (number_front (b ∷ tail)) (cond (is_separator b) (space 1) (cond (b == 34) (delimited_front tail) (cond (b == 39) (string_front tail) (mark_front b tail)))) ≡ Some front → Read (b ∷ tail) front
+        digits_or true g e = number_read b tail g front e
         digits_or false g e = others (is_separator b) (b == 34) (b == 39) refl refl refl e
           where
             others : (x y z : Bool) → is_separator b ≡ x → (b == 34) ≡ y → (b == 39) ≡ z → cond x (space 1) (cond y (delimited_front tail) (cond z (string_front tail) (mark_front b tail))) ≡ Some front → Read (b ∷ tail) front

@@ -1,13 +1,13 @@
 -- The byte that a piece begins with tells its form, but for a few.
-use Rattle.std.proofs.Common.{◌≡◌, ◌≤◌, ℕ, ◌+◌, Bool, true, false, cond, List, [], ◌∷◌, ◌++◌, length, Option, Some, refl, subst, arith}
+use Rattle.std.proofs.Common.{◌≡◌, ◌≢◌, ◌≤◌, ℕ, ◌+◌, Bool, true, false, cond, List, [], ◌∷◌, ◌++◌, length, Option, Some, refl, sym, subst, arith}
 use Rattle.std.specs.Prelude.{◌==◌, ◌&&◌}
 use Rattle.std.specs.Char.{is_ascii_digit}
 use Rattle.std.specs.List.{prefix_len, list_all}
 use Rattle.std.proofs.Math.Bool.{and-false}
-use Rattle.std.proofs.lemmas.Bool.{eqb-true}
+use Rattle.std.proofs.lemmas.Bool.{and_parts, eqb-true}
 use Rattle.std.proofs.lemmas.Bool.Decides.{nat_tests}
 use Rattle.sql_text.specs.declared.symbol.Symbol.{Symbol}
-use Rattle.sql_text.specs.Standard.{begins_word, is_separator, is_quote, Form, separator, comment, word, delimited_name, string, unclosed, digits, mark, SpellsPiece}
+use Rattle.sql_text.specs.Standard.{begins_word, is_separator, is_quote, Form, separator, comment, word, delimited_name, string, unclosed, digits, numeral, mark, SpellsPiece}
 use Rattle.sql_text.specs.Symbols.{symbols, symbol_in}
 
 pub data Group : Type 0 where
@@ -36,6 +36,7 @@ Begins string single_quotes = Unit {0}
 Begins unclosed double_quotes = Unit {0}
 Begins unclosed single_quotes = Unit {0}
 Begins digits numerals = Unit {0}
+Begins numeral numerals = Unit {0}
 Begins (mark s) marks = Unit {0}
 Begins _ _ = ⊥
 
@@ -72,6 +73,10 @@ of_mark b t s e =
 pub mark_short : (a b c : ℕ) (t : List ℕ) (s : Symbol) → symbol_in symbols (a ∷ b ∷ c ∷ t) ≡ Some s → ⊥
 mark_short a b c t s e = let none = simp and-false at e in cc
 
+nil_left : (xs ys : List ℕ) → xs ++ ys ≡ [] → xs ≡ []
+nil_left [] ys e = refl
+nil_left (x ∷ xs) ys e = absurd cc
+
 pub some_byte : (form : Form) → SpellsPiece form [] → ⊥
 some_byte separator h = let e = h.1 in cc
 some_byte comment h = let e = h.1 in cc
@@ -80,6 +85,7 @@ some_byte delimited_name h = let e = h.1 in cc
 some_byte string h = let e = h.1 in cc
 some_byte unclosed h = let e = h.3 in cc
 some_byte digits h = h.0 refl
+some_byte numeral h = h.digits_are.0 (nil_left h.digits h.tail (sym h.whole))
 some_byte (mark s) h = cc
 
 pub begins : (form : Form) (b : ℕ) (t : List ℕ) → SpellsPiece form (b ∷ t) → Begins form (group b)
@@ -102,6 +108,11 @@ begins digits b t h = rw (of_digit b (first (is_ascii_digit b) _ h.1)) tt
     first : (x y : Bool) → (x && y) ≡ true → x ≡ true
     first true y e = refl
     first false y e = absurd cc
+begins numeral b t h = rw (of_digit b (first_of h.digits h.whole h.digits_are.0 h.digits_are.1)) tt
+  where
+    first_of : (whole : List ℕ) → b ∷ t ≡ whole ++ h.tail → whole ≢ [] → list_all is_ascii_digit whole ≡ true → is_ascii_digit b ≡ true
+    first_of [] e some all = absurd (some refl)
+    first_of (x ∷ xs) e some all = let same : x ≡ b = cc in rw (← same) ((and_parts (is_ascii_digit x) _ all).0)
 begins (mark s) b t h = rw (of_mark b t s h) tt
 
 -- Where each piece of a form that may begin with the first byte has at most n bytes, so has each piece.

@@ -3,6 +3,8 @@ pub mod Quotes
 pub mod Groups
 pub mod Cuts
 pub mod Numbers
+pub mod Digits
+pub mod Numerals
 pub mod Fronts
 pub mod Boundaries
 pub mod Scanning

@@ -18,7 +18,7 @@ use Rattle.sql_text.specs.declared.token.TokenKind.{TokenKind}
 use Rattle.sql_text.specs.declared.token.TokenKind.TheVariants as kind
 use Rattle.sql_text.specs.Words.{is_name, meaning_in, meanings, word_kind}
 use Rattle.sql_text.specs.Values.{doubled, opened, quoted}
-use Rattle.sql_text.specs.Standard.{Form, separator, comment, word, delimited_name, string, unclosed, digits, mark}
+use Rattle.sql_text.specs.Standard.{Form, separator, comment, word, delimited_name, string, unclosed, digits, numeral, mark}
 use Rattle.sql_text.specs.Standard.{SpellsPiece, Piece, StandsInFront, AreCut, is_sound, kind_of, sound, token_here}
 use Rattle.sql_text.specs.Standard.{tokens_of}
 use Rattle.sql_text.specs.Calls.{lexeme_of, KeepsPieces, SaysText, said}
@@ -141,6 +141,7 @@ here delimited_name text start h s utf8 =
 here string text start h s utf8 = All-cons SaysText _ [] (λ n. cc) (All-nil SaysText)
 here unclosed text start h s utf8 = All-nil SaysText
 here digits text start h s utf8 = All-cons SaysText _ [] (λ n. cc) (All-nil SaysText)
+here numeral text start h s utf8 = All-cons SaysText _ [] (λ n. cc) (All-nil SaysText)
 here (mark m) text start h s utf8 = All-cons SaysText _ [] (λ n. cc) (All-nil SaysText)
 
 says : (pieces : List Piece) (bytes : List ℕ) (start : ℕ) → AreCut bytes pieces [] → list_all sound pieces ≡ true →

@@ -4,8 +4,9 @@ use Rattle.std.specs.List.{flat_map}
 use Rattle.std.proofs.lemmas.List.{length-append, take_at, drop_at}
 use Rattle.sql_text.specs.declared.symbol.Symbol.{Symbol}
 use Rattle.sql_text.specs.Values.{doubled, opened, quoted}
-use Rattle.sql_text.specs.Standard.{Form, separator, comment, word, delimited_name, string, unclosed, digits, mark, SpellsPiece, Piece, StandsInFront}
+use Rattle.sql_text.specs.Standard.{Form, separator, comment, word, delimited_name, string, unclosed, digits, numeral, mark, SpellsPiece, Piece, StandsInFront}
 use Rattle.sql_text.proofs.Groups.{Group, words, numerals, separators, double_quotes, single_quotes, marks, group, Begins, begins, mark_short, some_byte}
+use Rattle.sql_text.proofs.Numerals.{no_digits}
 use Rattle.sql_text.proofs.Quotes.{no_longer}
 
 -- ---- forms
@@ -14,9 +15,10 @@ only_word : (form : Form) → Begins form words → form ≡ word
 only_word word g = refl
 only_word form g = absurd g
 
-only_digits : (form : Form) → Begins form numerals → form ≡ digits
-only_digits digits g = refl
-only_digits form g = absurd g
+two_numbers : (form : Form) → Begins form numerals → (form ≡ digits) ⊎ (form ≡ numeral)
+two_numbers digits g = inl refl
+two_numbers numeral g = inr refl
+two_numbers form g = absurd g
 
 only_separator : (form : Form) → Begins form separators → form ≡ separator
 only_separator separator g = refl
@@ -76,6 +78,16 @@ unclosed_single text string b h k = absurd (not_both 39 h.0 k.0 h.1 (sym k.1 ∙
 unclosed_single text unclosed b h k = refl
 unclosed_single text form b h k = absurd b
 
+digits_again : (text : List ℕ) (g : Form) → Begins g numerals → SpellsPiece digits text → SpellsPiece g text → digits ≡ g
+digits_again text digits b h k = refl
+digits_again text numeral b h k = absurd (no_digits text k h.1)
+digits_again text form b h k = absurd b
+
+numeral_again : (text : List ℕ) (g : Form) → Begins g numerals → SpellsPiece numeral text → SpellsPiece g text → numeral ≡ g
+numeral_again text digits b h k = absurd (no_digits text h k.1)
+numeral_again text numeral b h k = refl
+numeral_again text form b h k = absurd b
+
 comment_again : (text : List ℕ) (g : Form) → Begins g marks → SpellsPiece comment text → SpellsPiece g text → comment ≡ g
 comment_again text comment b h k = refl
 comment_again text (mark s) b h k = absurd (not_comment text s h k)
@@ -89,7 +101,10 @@ mark_again text s form b h k = absurd b
 -- by the group of the first byte
 in_group : (G : Group) (text : List ℕ) (f g : Form) → Begins f G → Begins g G → SpellsPiece f text → SpellsPiece g text → f ≡ g
 in_group words text f g a b h k = only_word f a ∙ sym (only_word g b)
-in_group numerals text f g a b h k = only_digits f a ∙ sym (only_digits g b)
+in_group numerals text f g a b h k = elim (two_numbers f a) [
+  | inl e ↦ e ∙ digits_again text g b (subst (λ (x : Form). SpellsPiece x text) e h) k
+  | inr e ↦ e ∙ numeral_again text g b (subst (λ (x : Form). SpellsPiece x text) e h) k
+]
 in_group separators text f g a b h k = only_separator f a ∙ sym (only_separator g b)
 in_group double_quotes text f g a b h k = elim (two_doubles f a) [
   | inl e ↦ e ∙ delimited_again text g b (subst (λ (x : Form). SpellsPiece x text) e h) k

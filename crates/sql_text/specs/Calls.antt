@@ -3,12 +3,14 @@ use Rattle.std.specs.Prelude.{◌≡◌, ◌≤◌, ◌<◌, ◌+◌, ℕ, ℤ, 
 use Rattle.std.specs.Prelude.{slice_range, Option, None}
 use Rattle.std.specs.Prelude.{Result, Ok, Err, Vec}
 use Rattle.std.specs.Global.{Global}
+use Rattle.number_keys.specs.declared.numerals.Numeral.{Numeral}
 use Rattle.scan_base.specs.Limits.{most_query_bytes}
 use Rattle.scan_base.specs.declared.fault.Fault.{Fault}
 use Rattle.scan_base.specs.declared.fault.Fault.TheVariants.{LimitReached, BadSql, OutOfMemory}
 use Rattle.std.specs.Str.{byte}
 use Rattle.sql_text.specs.declared.token.TokenKind.TheVariants as kind
 use Rattle.sql_text.specs.Values.{unquoted, number_of}
+use Rattle.sql_text.specs.Numerals.{numeral_of}
 use Rattle.sql_text.specs.Words.{is_name}
 use Rattle.sql_text.specs.declared.word.Meaning.{Meaning}
 use Rattle.sql_text.specs.declared.token.TokenKind.{TokenKind}
@@ -35,9 +37,14 @@ abbrev pub lexeme_value : Lexeme → List ℕ
 lexeme_value token = said token.kind token.text
 
 -- the number that a token's text says; none, unless it is digits
-abbrev pub numeral : TokenKind → List ℕ → Option ℤ
-numeral kind.Digits text = number_of text
-numeral other text = None
+abbrev pub digits_said : TokenKind → List ℕ → Option ℤ
+digits_said kind.Digits text = number_of text
+digits_said other text = None
+
+-- the same of a numeral
+abbrev pub numeral_said : TokenKind → List ℕ → Option Numeral
+numeral_said kind.Numeral text = numeral_of text
+numeral_said other text = None
 
 -- what `tokens` answers, by the pieces of the text: they are these tokens, the text is too long, or
 -- there is the first fault

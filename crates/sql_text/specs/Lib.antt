@@ -1,5 +1,6 @@
 pub mod Words
 pub mod Values
+pub mod Numerals
 pub mod Standard
 pub mod Symbols
 pub mod Reading

@@ -1,7 +1,7 @@
 -- The tokens of a text, read from its front, or the fault.
-use Rattle.std.specs.Prelude.{ℕ, zero, suc, ◌+◌, ◌==◌, ◌&&◌, nat_le, Option, Some, None}
-use Rattle.std.specs.Prelude.{option_and_then, Result, Ok, Err, List, [], ◌∷◌, ◌++◌, length, take}
-use Rattle.std.specs.Prelude.{drop, if◌then◌else◌}
+use Rattle.std.specs.Prelude.{ℕ, zero, suc, ◌+◌, ◌==◌, ◌&&◌, nat_le, slice_index, Option, Some}
+use Rattle.std.specs.Prelude.{None, is_some, option_and_then, Result, Ok, Err, List, [], ◌∷◌, ◌++◌}
+use Rattle.std.specs.Prelude.{length, take, drop, if◌then◌else◌}
 use Rattle.std.specs.Char.{is_ascii_digit}
 use Rattle.std.specs.List.{prefix_len}
 use Rattle.std.specs.Str.{byte}
@@ -15,6 +15,7 @@ use Rattle.sql_text.specs.declared.token.TokenKind.{TokenKind}
 use Rattle.sql_text.specs.declared.token.TokenKind.TheVariants as kind
 use Rattle.sql_text.specs.Words.{word_kind}
 use Rattle.sql_text.specs.Values.{is_small}
+use Rattle.sql_text.specs.Numerals.{is_exponent_mark, is_sign, numeral_of}
 use Rattle.sql_text.specs.Standard.{begins_word, continues_word, is_separator, continues_comment}
 use Rattle.sql_text.specs.Standard.{Lexeme, token_here}
 use Rattle.sql_text.specs.Symbols.{symbols, symbol_in}
@@ -61,6 +62,44 @@ digits_front bytes =
     let len = prefix_len is_ascii_digit bytes in
     if is_small (take len bytes) then front_token kind.Digits len else None
 
+-- how many bytes of a fraction stand there
+abbrev pub fraction_len : List ℕ → ℕ
+fraction_len [] = 0
+fraction_len (b ∷ bytes) = if b == byte "." then 1 + prefix_len is_ascii_digit bytes else 0
+
+-- how many bytes of a sign stand there
+abbrev pub sign_len : List ℕ → ℕ
+sign_len bytes = if is_sign (slice_index bytes 0) then 1 else 0
+
+-- how many bytes of a sign and digits stand there: none, where no digit does
+abbrev pub signed_len : List ℕ → ℕ
+signed_len bytes =
+    let digits = prefix_len is_ascii_digit (drop (sign_len bytes) bytes) in
+    if digits == 0 then 0 else sign_len bytes + digits
+
+-- how many bytes of an exponent stand there
+abbrev pub exponent_len : List ℕ → ℕ
+exponent_len [] = 0
+exponent_len (b ∷ bytes) =
+    if is_exponent_mark b
+    then (let len = signed_len bytes in if len == 0 then 0 else 1 + len) else 0
+
+-- how many bytes of a fraction, an exponent or both stand there
+abbrev pub tail_len : List ℕ → ℕ
+tail_len bytes = let len = fraction_len bytes in len + exponent_len (drop len bytes)
+
+-- a numeral of so many bytes, where its number is small
+abbrev pub numeral_front : List ℕ → ℕ → Option Front
+numeral_front bytes len =
+    if is_some (numeral_of (take len bytes)) then front_token kind.Numeral len else None
+
+-- a numeral or digits, the longest that stand there
+abbrev pub number_front : List ℕ → Option Front
+number_front bytes =
+    let whole = prefix_len is_ascii_digit bytes in
+    let tail = tail_len (drop whole bytes) in
+    if tail == 0 then digits_front bytes else numeral_front bytes (whole + tail)
+
 -- a comment, after the two signs
 abbrev pub comment_front : List ℕ → Option Front
 comment_front bytes = space (2 + prefix_len continues_comment bytes)
@@ -95,7 +134,7 @@ unfoldable pub front_at : List ℕ → Option Front
 front_at [] = None
 front_at (first ∷ bytes) =
     if begins_word first then word_front (first ∷ bytes)
-    else (if is_ascii_digit first then digits_front (first ∷ bytes)
+    else (if is_ascii_digit first then number_front (first ∷ bytes)
     else (if is_separator first then space 1
     else (if first == byte "\"" then delimited_front bytes
     else (if first == byte "'" then string_front bytes

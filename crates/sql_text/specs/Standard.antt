@@ -2,7 +2,7 @@
 -- the longest that stands at its place; then the pieces that are neither separators nor comments
 -- are tokens.
 use Rattle.std.specs.Prelude.{◌≡◌, ◌≢◌, ℕ, ◌+◌, ◌≤◌, ◌==◌, ◌||◌, Bool, true, false, not, IsTrue}
-use Rattle.std.specs.Prelude.{Option, Some, None, List, [], ◌∷◌, ◌++◌, length, codes}
+use Rattle.std.specs.Prelude.{Option, Some, None, List, [], ◌∷◌, ◌++◌, length, codes, is_some}
 use Rattle.std.specs.Char.{is_ascii_alphabetic, is_ascii_alphanumeric, is_ascii_digit}
 use Rattle.std.specs.List.{list_all}
 use Rattle.std.specs.Str.{byte, bytes_eq}
@@ -11,6 +11,7 @@ use Rattle.sql_text.specs.declared.token.TokenKind.{TokenKind}
 use Rattle.sql_text.specs.declared.token.TokenKind.TheVariants as kind
 use Rattle.sql_text.specs.Words.{word_kind}
 use Rattle.sql_text.specs.Values.{opened, quoted, is_small}
+use Rattle.sql_text.specs.Numerals.{IsNumeral, numeral_of}
 use Rattle.sql_text.specs.Symbols.{symbols, symbol_in}
 
 -- ---- bytes
@@ -46,6 +47,7 @@ pub data Form : Type 0 where
   string : Form
   unclosed : Form
   digits : Form
+  numeral : Form
   mark : Symbol → Form
 
 -- the bytes, all of them, are such a piece
@@ -61,6 +63,7 @@ SpellsPiece string bytes = (value : List ℕ) × (bytes ≡ quoted (byte "'") va
 SpellsPiece unclosed bytes =
     (quote : ℕ) × (value : List ℕ) × IsTrue (is_quote quote) × (bytes ≡ opened quote value)
 SpellsPiece digits bytes = (bytes ≢ []) × IsTrue (list_all is_ascii_digit bytes)
+SpellsPiece numeral bytes = IsNumeral bytes
 SpellsPiece (mark s) bytes = symbol_in symbols bytes ≡ Some s
 
 -- a piece of a text: its form, and its bytes
@@ -89,6 +92,7 @@ abbrev pub is_sound : Form → List ℕ → Bool
 is_sound unclosed text = false
 is_sound delimited_name text = not (bytes_eq text (codes "\"\""))
 is_sound digits text = is_small text
+is_sound numeral text = is_some (numeral_of text)
 is_sound form text = true
 
 -- which token it is; none, where it separates tokens
@@ -100,6 +104,7 @@ kind_of delimited_name text = Some kind.DelimitedName
 kind_of string text = Some kind.String
 kind_of unclosed text = None
 kind_of digits text = Some kind.Digits
+kind_of numeral text = Some kind.Numeral
 kind_of (mark s) text = Some (kind.Symbol s)
 
 -- the same of a piece

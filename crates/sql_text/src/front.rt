@@ -8,8 +8,11 @@ ghost use Rattle.sql_text.specs.Standard.{begins_word, continues_word, is_separa
 ghost use Rattle.sql_text.specs.Standard.{continues_comment};
 ghost use Rattle.sql_text.specs.Reading.{closed_at, string_front, delimited_front, word_front};
 ghost use Rattle.sql_text.specs.Reading.{digits_front, mark_front, front_at, space, front_token};
+ghost use Rattle.sql_text.specs.Reading.{exponent_len, fraction_len, sign_len, signed_len, tail_len};
+ghost use Rattle.sql_text.specs.Reading.{numeral_front, number_front};
 
 use crate::number::number;
+use crate::numeral::numeral;
 use crate::symbol::Symbol;
 use crate::token::TokenKind;
 use crate::word::word_kind;
@@ -50,7 +53,8 @@ fn word_len(bytes: &[u8]) -> usize
 }
 
 fn digits_len(bytes: &[u8]) -> usize
-    ensures { result ≡ prefix_len is_ascii_digit bytes.now }
+    ensures len { result ≡ prefix_len is_ascii_digit bytes.now }
+    ensures within { result ≤ length bytes.now }
 {
     bytes.iter().take_while(|b| b.is_ascii_digit()).count()
 }
@@ -115,6 +119,88 @@ fn digits_front(text: &str) -> Option<Front>
     Front::token(TokenKind::Digits, len)
 }
 
+// How many bytes of a fraction stand at the front.
+fn fraction_len(bytes: &[u8]) -> usize
+    ensures len { result ≡ fraction_len bytes.now }
+    ensures within { result ≤ length bytes.now }
+{
+    match bytes {
+        [b'.', digits @ ..] => 1 + digits_len(digits),
+        _ => 0,
+    }
+}
+
+// How many bytes of a sign stand there.
+fn sign_len(bytes: &[u8]) -> usize
+    ensures len { result ≡ sign_len bytes.now }
+    ensures within { result ≤ length bytes.now }
+{
+    match bytes {
+        [b'-' | b'+', ..] => 1,
+        _ => 0,
+    }
+}
+
+// How many bytes of a sign and digits stand there: none, where no digit does.
+fn signed_len(bytes: &[u8]) -> usize
+    ensures len { result ≡ signed_len bytes.now }
+    ensures within { result ≤ length bytes.now }
+{
+    let sign = sign_len(bytes);
+    let (_, rest) = bytes.split_at(sign);
+    let digits = digits_len(rest);
+    if digits == 0 { 0 } else { sign + digits }
+}
+
+// How many bytes of an exponent stand there.
+fn exponent_len(bytes: &[u8]) -> usize
+    ensures len { result ≡ exponent_len bytes.now }
+    ensures within { result ≤ length bytes.now }
+{
+    match bytes {
+        [b'e' | b'E', rest @ ..] => {
+            let len = signed_len(rest);
+            if len == 0 { 0 } else { 1 + len }
+        }
+        _ => 0,
+    }
+}
+
+// How many bytes of a fraction, an exponent or both stand there.
+fn tail_len(bytes: &[u8]) -> usize
+    ensures len { result ≡ tail_len bytes.now }
+    ensures within { result ≤ length bytes.now }
+{
+    let fraction = fraction_len(bytes);
+    let (_, rest) = bytes.split_at(fraction);
+    fraction + exponent_len(rest)
+}
+
+fn numeral_front(text: &str, len: usize) -> Option<Front>
+    requires cut { IsCharBoundary text.now len }
+    ensures { result ≡ numeral_front text.now len }
+{
+    let (digits, _) = text.split_at(len);
+    numeral(digits)?;
+    Front::token(TokenKind::Numeral, len)
+}
+
+#[tactic(auto, using(crate::proofs::Boundaries::numeral_cut))]
+fn number_front(text: &str) -> Option<Front>
+    requires { IsTrue (is_ascii_digit (slice_index text.now 0)) }
+    ensures { result ≡ number_front text.now }
+{
+    let bytes = text.as_bytes();
+    let whole = digits_len(bytes);
+    let (_, rest) = bytes.split_at(whole);
+    let tail = tail_len(rest);
+    if tail == 0 {
+        digits_front(text)
+    } else {
+        numeral_front(text, whole + tail)
+    }
+}
+
 fn string_front(bytes: &[u8]) -> Option<Front>
     ensures { result ≡ string_front bytes.now }
 {
@@ -157,7 +243,7 @@ fn read_front(text: &str) -> Option<Front>
     };
     match *first {
         b if begins_word(b) => word_front(text),
-        b if b.is_ascii_digit() => digits_front(text),
+        b if b.is_ascii_digit() => number_front(text),
         b if is_separator(b) => Front::space(1),
         b'"' => delimited_front(bytes),
         b'\'' => string_front(bytes),

@@ -1,10 +1,11 @@
-//! The tokens of a query: words, delimited names, strings, digits and symbols.
+//! The tokens of a query: words, delimited names, strings, digits, numerals and symbols.
 #![tactic(auto)]
 
 mod front;
 pub mod laws;
 mod literal_words;
 mod number;
+mod numeral;
 mod scan;
 pub mod symbol;
 pub mod token;

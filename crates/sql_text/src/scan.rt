@@ -21,8 +21,8 @@ pub const MOST_BYTES: usize = 16_384;
 ///
 /// `Fault::LimitReached` where the text has more than `MOST_BYTES` bytes. Otherwise `Fault::BadSql`
 /// at the first byte of the first piece that is no token: a byte that begins none, a quote that is
-/// not closed, a delimited name that is empty, digits of 10^38 or more. `Fault::OutOfMemory` where
-/// memory is refused.
+/// not closed, a delimited name that is empty, digits of 10^38 or more, a numeral of more than 38
+/// digits or with an exponent above 400. `Fault::OutOfMemory` where memory is refused.
 pub fn tokens(alloc: Global, sql: &str) -> Result<Vec<Token<'_>>, Fault>
     ensures exact { GivesUnlessMemory (λ tokens. map lexeme_of tokens.items) result
         (tokens_in sql.now) }

@@ -2,12 +2,14 @@
 
 ghost use Rattle.std.specs.Prelude.{◌≡◌, IfOk, length};
 ghost use Rattle.sql_text.specs.Words.{is_left_out};
-ghost use Rattle.sql_text.specs.Calls.{numeral, said};
+ghost use Rattle.sql_text.specs.Calls.{digits_said, numeral_said, said};
 
 use crate::number::number;
+use crate::numeral::numeral;
 use crate::symbol::Symbol;
 use crate::value::{unquoted, unquoted_len};
 use crate::word::Keyword;
+use number_keys::Numeral;
 use scan_base::Text;
 use std::alloc::{AllocError, Global};
 
@@ -29,6 +31,9 @@ pub enum TokenKind {
     Digits,
     /// One or two punctuation marks.
     Symbol(Symbol),
+    /// Digits with a point, an exponent or both: at most 38 digits before the exponent, which is at
+    /// most 400.
+    Numeral,
 }
 
 impl TokenKind {
@@ -72,10 +77,20 @@ pub struct Token<'a> {
 impl<'a> Token<'a> {
     /// The value of digits, below 10^38; none, where the token is not digits.
     pub fn number(self) -> Option<i128>
-        ensures { result ≡ numeral self.entry.kind self.entry.text.now }
+        ensures { result ≡ digits_said self.entry.kind self.entry.text.now }
     {
         match self.kind {
             TokenKind::Digits => number(self.text),
+            _ => None,
+        }
+    }
+
+    /// The number of a numeral; none, where the token is none.
+    pub fn numeral(self) -> Option<Numeral>
+        ensures { result ≡ numeral_said self.entry.kind self.entry.text.now }
+    {
+        match self.kind {
+            TokenKind::Numeral => numeral(self.text),
             _ => None,
         }
     }

@@ -1,5 +1,5 @@
 -- The classes of values: only values of one class are compared. And the values of literals.
-use Rattle.std.specs.Prelude.{Bool, true, false}
+use Rattle.std.specs.Prelude.{Bool, true, false, pos}
 use Rattle.arrow_types.specs.declared.data_type.DataType.{DataType}
 use Rattle.arrow_types.specs.declared.data_type.DataType.TheVariants as type
 use Rattle.arrow_types.specs.declared.data_type.NumberType.{NumberType}
@@ -46,8 +46,10 @@ literal_class (literal.Date day) = Own number.Date
 literal_class (literal.Timestamp yoctos) = Stamp
 literal_class (literal.Time yoctos) = Clock
 literal_class (literal.Typed kind number) = number_class kind
+literal_class (literal.Numeral numeral) = Number
 
--- the value of a literal: of a date it is the day number, of a timestamp and a time the yoctoseconds
+-- The value of a literal: of a date it is the day number, of a timestamp and a time the yoctoseconds.
+-- A numeral has none here: it gets the type of a column, or is a fault.
 abbrev pub literal_value : Literal → Value
 literal_value (literal.Text bytes) = value.Text bytes
 literal_value (literal.Truth flag) = value.Bool flag
@@ -56,6 +58,7 @@ literal_value (literal.Date day) = value.Int day
 literal_value (literal.Timestamp yoctos) = value.Int yoctos
 literal_value (literal.Time yoctos) = value.Int yoctos
 literal_value (literal.Typed kind number) = value.Int number
+literal_value (literal.Numeral numeral) = value.Int (pos 0)
 
 -- the class where literals are values: a number is one, whatever it means
 abbrev pub bound_class : Class → Class

@@ -1,5 +1,5 @@
--- Literals of timestamps and times next to a column: they get its type, and the number that compares
--- with those of the column as the literal does.
+-- Literals of timestamps and times, and numerals, next to a column: they get its type, and the number
+-- that compares with those of the column as the literal does.
 use Rattle.std.specs.Prelude.{◌≡◌, ℕ, ◌^◌, ◌==◌, map, slice_get, Option, Some, None, Result}
 use Rattle.std.specs.Prelude.{Ok, Err, if◌then◌else◌, ℤ, pos, ◌+ℤ◌, ◌*ℤ◌, ◌<ℤ◌, unsigned_abs}
 use Rattle.std.specs.Prelude.{option_map}
@@ -11,6 +11,7 @@ use Rattle.arrow_types.specs.declared.data_type.NumberType.{NumberType}
 use Rattle.arrow_types.specs.declared.data_type.NumberType.TheVariants as number
 use Rattle.arrow_types.specs.declared.data_type.TimeUnit.{TimeUnit}
 use Rattle.arrow_types.specs.DataType.{yoctos_in}
+use Rattle.number_keys.specs.Places.{place_at, standing}
 use Rattle.scan_base.specs.declared.comparison.Comparison.{Comparison}
 use Rattle.scan_base.specs.declared.comparison.Comparison.TheVariants.{Equal, NotEqual, Less}
 use Rattle.scan_base.specs.declared.comparison.Comparison.TheVariants.{LessOrEqual, Greater}
@@ -53,6 +54,10 @@ typed (number.Timestamp unit zoned) comparison (literal.Timestamp yoctos) = lite
     (number.Timestamp unit zoned) (number_beside comparison (yoctos_in unit) yoctos)
 typed (number.Time unit) comparison (literal.Time yoctos) =
     literal.Typed (number.Time unit) (number_beside comparison (yoctos_in unit) yoctos)
+typed (number.Integer integer) comparison (literal.Numeral numeral) =
+    literal.Typed (number.Integer integer) (standing comparison (place_at 0 numeral))
+typed number.Decimal comparison (literal.Numeral numeral) =
+    literal.Typed number.Decimal (standing comparison (place_at 0 numeral))
 typed kind comparison written = written
 
 -- the same next to a column of a type

@@ -59,7 +59,7 @@ impl Class {
         match literal {
             Literal::Text(_) => Class::Text,
             Literal::Truth(_) => Class::Truth,
-            Literal::Number(_) => Class::Number,
+            Literal::Number(_) | Literal::Numeral(_) => Class::Number,
             Literal::Date(_) => Class::Own(NumberType::Date),
             Literal::Timestamp(_) => Class::Stamp,
             Literal::Time(_) => Class::Clock,

@@ -3,7 +3,7 @@ use Rattle.std.specs.Prelude.{ℤ, pos, ◌≤ℤ◌, if◌then◌else◌, ◌&&
 use Rattle.std.specs.Str.Parse.{digits_value}
 use Rattle.sql_text.specs.declared.token.TokenKind.{TokenKind}
 use Rattle.sql_text.specs.declared.token.TokenKind.TheVariants as kind
-use Rattle.sql_text.specs.Calls.{numeral}
+use Rattle.sql_text.specs.Calls.{digits_said}
 use Rattle.sql_text.specs.Values.{number_of, are_digits, is_small}
 use Rattle.sql_parse.proofs.operands.digits.Goals as goal
 
@@ -15,7 +15,7 @@ of_digits : (text : List ℕ) (n : ℤ) → Some n ≡ number_of text → pos 0 
 unfolding number_of
 of_digits text n e = chosen (are_digits text && is_small text) (digits_value 10 text) n e
 
-not_negative : (k : TokenKind) (text : List ℕ) (n : ℤ) → Some n ≡ numeral k text → pos 0 ≤ℤ n
+not_negative : (k : TokenKind) (text : List ℕ) (n : ℤ) → Some n ≡ digits_said k text → pos 0 ≤ℤ n
 not_negative kind.Digits text n e = of_digits text n e
 not_negative (kind.Keyword w) text n e = cc
 not_negative (kind.Symbol s) text n e = cc
@@ -23,6 +23,7 @@ not_negative kind.LeftOut text n e = cc
 not_negative kind.Name text n e = cc
 not_negative kind.DelimitedName text n e = cc
 not_negative kind.String text n e = cc
+not_negative kind.Numeral text n e = cc
 
 pub returns-in-Some-clause-positive : goal.returns-in-Some-clause-positive
 returns-in-Some-clause-positive c = let h : pos 0 ≤ℤ c.in-Some.number =

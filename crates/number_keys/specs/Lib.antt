@@ -1,0 +1,4 @@
+pub mod FloatKeys
+pub mod FloatSpans
+pub mod Numerals
+pub mod Places
