@@ -171,11 +171,11 @@ place_shift_down scale (negsuc n) shift e = absurd (omega (arith, ints, e))
 by_sides : (a b : ℤ) (s t : Bool) → int_lt a b ≡ s → int_lt b a ≡ t → int_cmp a b ≡ cond s Less (cond t Greater Equal)
 by_sides a b s t e f = λ i. cond (e i) Less (cond (f i) Greater Equal)
 
-is_so : (b : Bool) → T b → b ≡ true
+pub is_so : (b : Bool) → T b → b ≡ true
 is_so true t = refl
 is_so false t = absurd t
 
-is_not_so : (b : Bool) → (T b → ⊥) → b ≡ false
+pub is_not_so : (b : Bool) → (T b → ⊥) → b ≡ false
 is_not_so true f = absurd (f tt)
 is_not_so false f = refl
 

@@ -4,3 +4,4 @@ pub mod Again
 pub mod Between
 pub mod Floors
 pub mod Written
+pub mod Standing

@@ -2,8 +2,8 @@
 -- hundredths, and a timestamp in milliseconds is one of scale 3.
 use Rattle.std.specs.Prelude.{◌≡◌, ℕ, suc, ◌+◌, ◌^◌, ◌==◌, ◌&&◌, Bool, true, false, ℤ, pos, negsuc}
 use Rattle.std.specs.Prelude.{if◌then◌else◌, ◌*ℤ◌, ◌-ℤ◌, neg_ℤ, unsigned_abs, int_le, int_lt}
-use Rattle.std.specs.Prelude.{FitsSigned}
-use Rattle.std.specs.Int.{w128, int_div_euclid, int_rem_euclid, is_negative}
+use Rattle.std.specs.Prelude.{FitsSigned, ◌-◌, ◌<◌, ◌+ℤ◌}
+use Rattle.std.specs.Int.{w128, int_div_euclid, int_rem_euclid, int_min, is_negative}
 use Rattle.std.specs.Ordering.{int_cmp}
 use Rattle.std.specs.declared.cmp.Ordering.{Ordering}
 use Rattle.std.specs.declared.cmp.Ordering.TheVariants.{Less, Greater}
@@ -80,6 +80,32 @@ test_at comparison Below = if satisfies comparison Greater then Always else Neve
 abbrev pub IsTest : Comparison → NumberPlace → NumberTest → Type 0
 IsTest comparison place test =
     (number : ℤ) → passes test number ≡ satisfies comparison (place_cmp place number)
+
+-- the least and the greatest number of 128 bits, which no decimal of 38 digits is
+abbrev pub least : ℤ
+least = neg_ℤ (pos (2 ^ 127))
+
+abbrev pub greatest : ℤ
+greatest = pos (2 ^ 127 - 1)
+
+-- the number that stands, on the right of a comparison, for one at a place
+abbrev pub standing : Comparison → NumberPlace → ℤ
+standing comparison (At n) = n
+standing comparison.Equal (After n) = greatest
+standing comparison.NotEqual (After n) = greatest
+standing comparison.Less (After n) = int_min (n +ℤ pos 1) greatest
+standing comparison.LessOrEqual (After n) = n
+standing comparison.Greater (After n) = n
+standing comparison.GreaterOrEqual (After n) = int_min (n +ℤ pos 1) greatest
+standing comparison Above = greatest
+standing comparison Below = least
+
+-- numbers of at most 38 digits compare with it as they do with the written number, at a scale
+abbrev pub StandsExactly : Comparison → ℕ → Numeral → ℤ → Type 0
+StandsExactly comparison scale numeral stands =
+    (number : ℤ) → unsigned_abs number < 10 ^ 38 →
+    satisfies comparison (int_cmp number stands)
+    ≡ satisfies comparison (scaled_cmp scale number numeral)
 
 -- what the test of a comparison with a written number means, at a scale: the exact comparison
 abbrev pub IsExact : Comparison → ℕ → Numeral → NumberTest → Type 0

@@ -12,6 +12,6 @@ mod places;
 pub use crate::float_keys::{bits_of_f32, bits_of_f64, key_of_f32, key_of_f64};
 pub use crate::float_spans::{FloatSpans, bits_between};
 pub use crate::float_texts::{key_in_f32, key_in_f64, text_of_f32, text_of_f64};
-pub use crate::number_tests::{NumberTest, test_of};
+pub use crate::number_tests::{NumberTest, standing_of, test_of};
 pub use crate::numerals::{Numeral, key_of_numeral_f32, key_of_numeral_f64};
 pub use crate::places::{NumberPlace, place_of};

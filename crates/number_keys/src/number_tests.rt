@@ -1,7 +1,8 @@
 //! Comparisons with written numbers, as tests of whole numbers.
 
 ghost use Rattle.std.specs.Prelude.{◌≡◌, ◌≤◌, if◌then◌else◌};
-ghost use Rattle.number_keys.specs.Places.{IsExact, IsTest, place_at, test_at};
+ghost use Rattle.number_keys.specs.Places.{IsExact, IsTest, StandsExactly, place_at, standing};
+ghost use Rattle.number_keys.specs.Places.{test_at};
 ghost use Rattle.number_keys.specs.declared.places.NumberPlace.TheVariants.{After as AfterPlace};
 ghost use Rattle.number_keys.specs.declared.number_tests.NumberTest.TheVariants as test;
 
@@ -28,6 +29,32 @@ pub fn test_of(comparison: Comparison, numeral: Numeral, scale: u32) -> NumberTe
     ensures exact { IsExact comparison scale numeral result }
 {
     test_at(comparison, place_of(numeral, scale))
+}
+
+/// The number that stands, on the right of a comparison, for a written number next to whole numbers
+/// at a scale.
+pub fn standing_of(comparison: Comparison, numeral: Numeral, scale: u32) -> i128
+    requires { scale ≤ 38 }
+    ensures value { result ≡ standing comparison (place_at scale numeral) }
+    ensures exact { StandsExactly comparison scale numeral result }
+{
+    match place_of(numeral, scale) {
+        NumberPlace::At(number) => number,
+        NumberPlace::After(number) => standing_after(comparison, number),
+        NumberPlace::Above => i128::MAX,
+        NumberPlace::Below => i128::MIN,
+    }
+}
+
+// The number that stands for one after this one and before the next.
+fn standing_after(comparison: Comparison, number: i128) -> i128
+    ensures { result ≡ standing comparison (AfterPlace number) }
+{
+    match comparison {
+        Comparison::Equal | Comparison::NotEqual => i128::MAX,
+        Comparison::Less | Comparison::GreaterOrEqual => number.saturating_add(1),
+        Comparison::LessOrEqual | Comparison::Greater => number,
+    }
 }
 
 // The test that a comparison with a place is.
