@@ -154,18 +154,6 @@ lowered scale places d number digits h =
     sym (times_cmp (10 ^ scale) (tens scale) (number *ℤ pos (10 ^ d)) digits)
     ∙ ap (λ (z : ℤ). int_cmp z (digits *ℤ pos (10 ^ scale))) (sym (at_scale number scale places d h))
 
-pub small_power : (shift : ℕ) → shift ≤ 38 → 10 ^ shift ≤ 10 ^ 38
-small_power shift h = pow-le-pow_right {n = 10} (omega arith) h
-
--- the shift between places and a scale
-pub place_shift : (scale : ℕ) (places : ℤ) (shift : ℕ) → pos scale -ℤ places ≡ pos shift → tens_up places + scale ≡ tens_down places + shift
-place_shift scale (pos p) shift e = omega (arith, ints, e)
-place_shift scale (negsuc n) shift e = omega (arith, ints, e)
-
-pub place_shift_down : (scale : ℕ) (places : ℤ) (shift : ℕ) → pos scale -ℤ places ≡ negsuc shift → tens_down places ≡ tens_up places + scale + suc shift
-place_shift_down scale (pos p) shift e = omega (arith, ints, e)
-place_shift_down scale (negsuc n) shift e = absurd (omega (arith, ints, e))
-
 -- ---- what places mean
 
 by_sides : (a b : ℤ) (s t : Bool) → int_lt a b ≡ s → int_lt b a ≡ t → int_cmp a b ≡ cond s Less (cond t Greater Equal)

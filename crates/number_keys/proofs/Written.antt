@@ -1,10 +1,10 @@
 -- The float that a written number is, by its text with an exponent.
-use Rattle.std.proofs.Common.{◌≡◌, ℕ, zero, suc, ◌+◌, ◌*◌, ◌^◌, ◌<◌, Bool, true, false, cond, List, [], ◌∷◌, ◌++◌, length, ℤ, pos, negsuc, neg_ℤ, unsigned_abs, Some, decimal, refl, sym, ap, ◌∙◌, arith, append_assoc, append-nil}
+use Rattle.std.proofs.Common.{◌≡◌, ℕ, zero, suc, ◌+◌, ◌*◌, ◌^◌, ◌<◌, Bool, true, false, cond, List, [], ◌∷◌, ◌++◌, length, ℤ, pos, negsuc, neg_ℤ, unsigned_abs, FitsSigned, Some, decimal, refl, sym, ap, ◌∙◌, arith, append_assoc, append-nil}
 use Rattle.std.specs.Float.Ieee.{Format, round}
 use Rattle.std.specs.Float.Parse.{parse_float}
 use Rattle.std.specs.Float.Numeral.{Parts, text_of, exponent_text, nearest_float, IsWellFormed}
 use Rattle.std.specs.Fmt.{sign_text, signed_decimal}
-use Rattle.std.specs.Int.{is_negative}
+use Rattle.std.specs.Int.{is_negative, w32, w128}
 use Rattle.std.specs.Option.{option_map}
 use Rattle.std.specs.Str.Parse.{digits_value}
 use Rattle.std.proofs.lemmas.Fmt.{decimal_is_IsNumeral_wide}
@@ -86,3 +86,11 @@ numeral_text_reads f digits places small few =
 pub numeral_key : (f : Format) (numeral : Numeral) → unsigned_abs numeral.digits < 10 ^ 64 → unsigned_abs numeral.places < 10 ^ 64
     → key_in f (signed_decimal numeral.digits ++ (101 ∷ signed_decimal (neg_ℤ numeral.places))) ≡ Some (key_of_numeral f numeral)
 numeral_key f numeral small few = ap (option_map (key_of_float f)) (numeral_text_reads f numeral.digits numeral.places small few)
+
+pub short_digits : (z : ℤ) → FitsSigned w128 z → unsigned_abs z < 10 ^ 64
+short_digits (pos n) h = let low : n < 2 ^ 127 = h.sfits in omega (arith, low)
+short_digits (negsuc n) h = let low : n < 2 ^ 127 = h.sfits in omega (arith, low)
+
+pub short_places : (z : ℤ) → FitsSigned w32 z → unsigned_abs z < 10 ^ 64
+short_places (pos n) h = let low : n < 2 ^ 31 = h.sfits in omega (arith, low)
+short_places (negsuc n) h = let low : n < 2 ^ 31 = h.sfits in omega (arith, low)

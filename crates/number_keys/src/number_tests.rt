@@ -38,7 +38,14 @@ pub fn standing_of(comparison: Comparison, numeral: Numeral, scale: u32) -> i128
     ensures value { result ≡ standing comparison (place_at scale numeral) }
     ensures exact { StandsExactly comparison scale numeral result }
 {
-    match place_of(numeral, scale) {
+    standing_at(comparison, place_of(numeral, scale))
+}
+
+// The number that stands for one at a place.
+fn standing_at(comparison: Comparison, place: NumberPlace) -> i128
+    ensures { result ≡ standing comparison place }
+{
+    match place {
         NumberPlace::At(number) => number,
         NumberPlace::After(number) => standing_after(comparison, number),
         NumberPlace::Above => i128::MAX,

@@ -18,16 +18,40 @@ pub struct Numeral {
     pub places: i32,
 }
 
-// The number as a text with an exponent.
-fn exponent_text(numeral: Numeral) -> ArrayString<64>
-    ensures { result.bytes ≡ signed_decimal numeral.digits ++
-        (codes "e" ++ signed_decimal (neg_ℤ numeral.places)) }
+// The exponent that a number of places is.
+fn exponent_of(places: i32) -> i64
+    ensures { result ≡ neg_ℤ places }
+{
+    -i64::from(places)
+}
+
+// A number as a text with an exponent.
+fn exponent_text(digits: i128, exponent: i64) -> ArrayString<64>
+    ensures { result.bytes ≡ signed_decimal digits ++ (codes "e" ++ signed_decimal exponent) }
 {
     let mut text = ArrayString::new();
-    text.push_str(Buffer::new().format(numeral.digits));
+    text.push_str(Buffer::new().format(digits));
     text.push('e');
-    text.push_str(Buffer::new().format(-i64::from(numeral.places)));
+    text.push_str(Buffer::new().format(exponent));
     text
+}
+
+fn nearest_key_f64(digits: i128, places: i32) -> i64
+    ensures key { result
+        ≡ key_of_numeral binary64 (record { digits = digits; places = places }) }
+    ensures stands { IsKey binary64 result }
+{
+    let text = exponent_text(digits, exponent_of(places));
+    key_in_f64(text.as_str()).unwrap_or(0)
+}
+
+fn nearest_key_f32(digits: i128, places: i32) -> i32
+    ensures key { result
+        ≡ key_of_numeral binary32 (record { digits = digits; places = places }) }
+    ensures stands { IsKey binary32 result }
+{
+    let text = exponent_text(digits, exponent_of(places));
+    key_in_f32(text.as_str()).unwrap_or(0)
 }
 
 /// The key of the float of 64 bits that is nearest to the number.
@@ -35,7 +59,7 @@ pub fn key_of_numeral_f64(numeral: Numeral) -> i64
     ensures key { result ≡ key_of_numeral binary64 numeral }
     ensures stands { IsKey binary64 result }
 {
-    key_in_f64(exponent_text(numeral).as_str()).unwrap_or(0)
+    nearest_key_f64(numeral.digits, numeral.places)
 }
 
 /// The key of the float of 32 bits that is nearest to the number.
@@ -43,5 +67,5 @@ pub fn key_of_numeral_f32(numeral: Numeral) -> i32
     ensures key { result ≡ key_of_numeral binary32 numeral }
     ensures stands { IsKey binary32 result }
 {
-    key_in_f32(exponent_text(numeral).as_str()).unwrap_or(0)
+    nearest_key_f32(numeral.digits, numeral.places)
 }

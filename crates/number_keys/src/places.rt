@@ -24,6 +24,14 @@ pub fn place_of(numeral: Numeral, scale: u32) -> NumberPlace
     ensures value { result ≡ place_at scale numeral }
     ensures means { IsPlace scale numeral result }
 {
+    shifted(numeral, scale)
+}
+
+// The same, by how many places the digits are shifted.
+fn shifted(numeral: Numeral, scale: u32) -> NumberPlace
+    requires { scale ≤ 38 }
+    ensures { result ≡ place_at scale numeral }
+{
     let shift = i64::from(scale) - i64::from(numeral.places);
     if shift >= 0 {
         raised(numeral.digits, shift.unsigned_abs())
