@@ -15,7 +15,7 @@ FAR = [one for one in FAR if len(one.lower().partition("e")[0].replace(".", "").
 # A numeral is of no class but next to a column of whole numbers.
 CLASHES = [
     "1.5 < 2", "2 < 1.5", "1.5 = 1.5", "s = 1.5", "1.5 <> s", "f < 1.5", "c = 1.0", "1.5 IS NULL", "1.5 IN (1, 2)", "1.5 BETWEEN 1 AND 2", "1 BETWEEN 0.5 AND k",
-    "s IN ('a', 1.5)", "s BETWEEN 'a' AND 1.5", "i8 IN (1.5, 'a')", "i8 BETWEEN 1.5 AND 'a'", "1.5 IN (i8, s)", "1.5 BETWEEN i8 AND s", "1.5 = z", "NOT 1.5 = TRUE",
+    "s IN ('a', 1.5)", "s BETWEEN 'a' AND 1.5", "i8 IN (1.5, 'a')", "i8 BETWEEN 1.5 AND 'a'", "1.5 IN (i8, s)", "1.5 BETWEEN i8 AND s", "1.5 BETWEEN i8 AND u8", "1.5 IN (i8, u8)", "1.5 = z", "NOT 1.5 = TRUE",
 ]
 
 
@@ -52,4 +52,3 @@ def cases():
             yield f"{name} IN ({low}, 1, {high})", rows_where(values, among)
             yield f"{name} NOT IN ({low}, 1, {high})", rows_where(values, lambda value: negation(among(value)))
             yield f"({name} IN ({low}, {high})) IS UNKNOWN", [place + 1 for place, value in enumerate(values) if value is None]
-    yield "1.5 BETWEEN i8 AND u8", [place + 1 for place, (one, other) in enumerate(zip(dict((n, v) for n, _, v in SIX)["i8"], dict((n, v) for n, _, v in SIX)["u8"])) if one is not None and one <= 1.5 <= other]
