@@ -1,23 +1,23 @@
 -- The table of each type is read as it is written, and as what it says.
-use Rattle.std.proofs.Common.{◌≡◌, ℕ, ◌≤◌, ◌<◌, ◌==◌, ◌&&◌, not, Bool, true, false, List, [], length, Result, Ok, refl, arith, sym, subst}
+use Rattle.std.proofs.Common.{◌≡◌, ℕ, ◌≤◌, ◌<◌, ◌==◌, ◌&&◌, not, Bool, true, false, List, [], length, Option, None, Result, Ok, refl, arith, sym, subst}
 use Rattle.std.proofs.lemmas.Bool.{and_parts, eqb-true}
 use Rattle.scan_base.specs.declared.fault.Fault.{Fault}
 use Rattle.scan_base.specs.declared.fault.Fault.TheVariants.{UnsupportedArrow}
 use Rattle.scan_base.specs.Reading.{◌>>=◌, demand}
 use Rattle.flatbuf.specs.Layout.{TableAt, IsBytes, HasScalar, Stands}
-use Rattle.flatbuf.specs.Place.{scalar_of}
+use Rattle.flatbuf.specs.Place.{field_of, scalar_of, text_of}
 use Rattle.flatbuf.specs.Block.{IsWhole, AreWhole, table_part}
 use Rattle.flatbuf.specs.WrittenTables.{table_at}
 use Rattle.flatbuf.proofs.Written.{table_reads}
 use Rattle.flatbuf.proofs.Lengths.{whole_table, short_table, fits_table}
 use Rattle.arrow_types.specs.declared.data_type.IntegerType.{IntegerType}
 use Rattle.arrow_types.specs.declared.data_type.IntegerType.TheVariants.{Int8, Int16, Int32, Int64, UInt8, UInt16, UInt32, UInt64}
-use Rattle.arrow_types.specs.declared.data_type.NumberType.TheVariants.{Integer, Decimal, Date}
+use Rattle.arrow_types.specs.declared.data_type.NumberType.TheVariants.{Integer, Decimal, Date, Timestamp}
 use Rattle.arrow_types.specs.declared.data_type.DataType.{DataType}
 use Rattle.arrow_types.specs.declared.data_type.DataType.TheVariants.{Number, Utf8, Bool as Flags, Dictionary}
 use Rattle.arrow_types.specs.DataType.{bit_width, is_signed}
-use Rattle.arrow_schema.specs.TypeTables.{meaning_of, flag, SaysInteger, SaysDecimal, SaysDate, SaysType, signed_types, unsigned_types, integer_type, integer_of, integer_slots, integer_part, decimal_of, date_of, type_readings, type_written, type_number, type_part, type_of}
-use Rattle.arrow_schema.proofs.Readings.{bind_ok, demand_ok, HoldOf, meaning_told, says_scalar, reads_scalar}
+use Rattle.arrow_schema.specs.TypeTables.{meaning_of, flag, SaysInteger, SaysDecimal, SaysDate, SaysTimestamp, SaysType, signed_types, unsigned_types, integer_type, integer_of, integer_slots, integer_part, decimal_of, date_of, is_zone, timestamp_of, type_readings, type_written, type_number, type_part, type_of}
+use Rattle.arrow_schema.proofs.Readings.{bind_ok, demand_ok, HoldOf, meaning_told, says_scalar, reads_scalar, says_text, reads_text}
 
 -- ---- Int
 
@@ -137,6 +137,29 @@ date_row table t is e =
       record { unit = subst (λ (n : ℕ). HasScalar 2 table 0 1 n) (eqb-true a.0 0 (demand_ok (a.0 == 0) UnsupportedArrow b.0 b.1)) (says_scalar 2 table 0 1 a.0 is a.1) },
     )
 
+not_zone : (b : Bool) → not b ≡ true → b ≡ false
+not_zone true e = absurd (let no : ⊥ = cc in no)
+not_zone false e = refl
+
+timestamp_row : IsTold 10 timestamp_of
+unfolding timestamp_of
+timestamp_row table t is e =
+    let a = bind_ok (scalar_of 2 table 0 0) _ t e in
+    let b = bind_ok (text_of table 1) _ t a.2 in
+    let c = bind_ok (demand ((a.0 == 2) && not (is_zone b.0)) UnsupportedArrow) _ t b.2 in
+    let tests = and_parts (a.0 == 2) (not (is_zone b.0)) (demand_ok ((a.0 == 2) && not (is_zone b.0)) UnsupportedArrow c.0 c.1) in
+    let last = c.2 in
+    let f : Number Timestamp ≡ t = cc in
+    rw (← f) (
+      refl,
+      record {
+        unit = subst (λ (n : ℕ). HasScalar 2 table 0 0 n) (eqb-true a.0 2 tests.0) (says_scalar 2 table 0 0 a.0 is a.1);
+        zone = b.0;
+        named = says_text table 1 b.0 is b.1;
+        none = not_zone (is_zone b.0) tests.1;
+      },
+    )
+
 utf8_row : IsTold 5 (λ table. Ok Utf8)
 utf8_row table t is e = let f : Utf8 ≡ t = cc in rw (← f) (refl, tt)
 
@@ -144,7 +167,7 @@ flags_row : IsTold 6 (λ table. Ok Flags)
 flags_row table t is e = let f : Flags ≡ t = cc in rw (← f) (refl, tt)
 
 told_rows : HoldOf IsTold type_readings
-told_rows = (integer_row, (utf8_row, (flags_row, (decimal_row, (date_row, tt)))))
+told_rows = (integer_row, (utf8_row, (flags_row, (decimal_row, (date_row, (timestamp_row, tt))))))
 
 pub type_told : (kind : ℕ) (table : Result TableAt Fault) (t : DataType) → type_of kind table ≡ Ok t → (found : TableAt) × (table ≡ Ok found) × (IsBytes found.bytes → (kind ≡ type_number t) × SaysType t found)
 type_told kind table t e =
@@ -197,6 +220,24 @@ date_read : (table : TableAt) → IsBytes table.bytes → SaysDate table → dat
 unfolding date_of
 date_read table is says = rw (reads_scalar 2 table 0 1 0 is says.unit) refl
 
+absent_text : (t : TableAt) (slot : ℕ) → field_of t slot ≡ Ok None → text_of t slot ≡ Ok None
+unfolding text_of
+absent_text t slot e = rw e refl
+
+timestamp_again : (bytes : List ℕ) (at : ℕ) → Stands (type_part (Number Timestamp)).bytes bytes at → timestamp_of (table_at bytes at (type_part (Number Timestamp))) ≡ Ok (Number Timestamp)
+unfolding type_part timestamp_of
+timestamp_again bytes at s =
+    let slots = (type_written (Number Timestamp)).1 in
+    let t = table_at bytes at (table_part slots) in
+    let reads = table_reads slots bytes at (fits_table slots (omega arith) (omega arith)) tt s in
+    let unit : scalar_of 2 t 0 0 ≡ Ok 2 = reads 0 2 0 (omega arith) (omega arith) in
+    let zone : text_of t 1 ≡ Ok None = absent_text t 1 (reads 1) in
+    rw (unit, zone) refl
+
+timestamp_read : (table : TableAt) → IsBytes table.bytes → SaysTimestamp table → timestamp_of table ≡ Ok (Number Timestamp)
+unfolding timestamp_of
+timestamp_read table is says = rw (reads_scalar 2 table 0 0 2 is says.unit, reads_text table 1 says.zone is says.named, says.none) refl
+
 pub row : (t : DataType) → Row t
 unfolding type_part integer_part
 row (Number (Integer integer)) = record {
@@ -209,6 +250,7 @@ row (Number (Integer integer)) = record {
 }
 row (Number Decimal) = record { whole = tt; short = (let s = short_table (type_written (Number Decimal)).1 in omega arith); reading = decimal_of; known = refl; again = decimal_again; read = decimal_read }
 row (Number Date) = record { whole = tt; short = (let s = short_table (type_written (Number Date)).1 in omega arith); reading = date_of; known = refl; again = date_again; read = date_read }
+row (Number Timestamp) = record { whole = tt; short = (let s = short_table (type_written (Number Timestamp)).1 in omega arith); reading = timestamp_of; known = refl; again = timestamp_again; read = timestamp_read }
 row Utf8 = record { whole = tt; short = (let s = short_table [] in omega arith); reading = λ table. Ok Utf8; known = refl; again = λ bytes at s. refl; read = λ table is says. refl }
 row Flags = record { whole = tt; short = (let s = short_table [] in omega arith); reading = λ table. Ok Flags; known = refl; again = λ bytes at s. refl; read = λ table is says. refl }
 row (Dictionary encoding) = record { whole = tt; short = (let s = short_table [] in omega arith); reading = λ table. Ok Utf8; known = refl; again = λ bytes at s. refl; read = λ table is says. absurd says }
@@ -218,7 +260,7 @@ abbrev IsKind : ℕ → (TableAt → Result DataType Fault) → Type 0
 IsKind kind reading = (1 ≤ kind) × (kind < 256)
 
 pub is_kind : (t : DataType) → (1 ≤ type_number t) × (type_number t < 256)
-is_kind t = meaning_told IsKind type_readings (type_number t) (row t).reading ((omega arith, omega arith), ((omega arith, omega arith), ((omega arith, omega arith), ((omega arith, omega arith), ((omega arith, omega arith), tt))))) (row t).known
+is_kind t = meaning_told IsKind type_readings (type_number t) (row t).reading ((omega arith, omega arith), ((omega arith, omega arith), ((omega arith, omega arith), ((omega arith, omega arith), ((omega arith, omega arith), ((omega arith, omega arith), tt)))))) (row t).known
 
 pub whole_type : (t : DataType) → IsWhole (type_part t)
 unfolding type_part

@@ -1,18 +1,19 @@
 -- The table of each type in a schema, in the words of Arrow's `Schema.fbs`: what it says, how it is
 -- read, and how it is written. Each list below has one row for a type.
 use Rattle.std.specs.Prelude.{◌≡◌, ℕ, ◌==◌, ◌&&◌, not, Bool, true, false, List, [], ◌∷◌}
-use Rattle.std.specs.Prelude.{Result, Ok, Err, if◌then◌else◌}
+use Rattle.std.specs.Prelude.{Option, Some, None, length, nat_lt, Result, Ok, Err, if◌then◌else◌}
 use Rattle.scan_base.specs.declared.fault.Fault.{Fault}
 use Rattle.scan_base.specs.declared.fault.Fault.TheVariants.{UnsupportedArrow}
 use Rattle.scan_base.specs.Reading.{◌>>=◌, demand}
-use Rattle.flatbuf.specs.Layout.{TableAt, HasScalar}
-use Rattle.flatbuf.specs.Place.{scalar_of}
+use Rattle.flatbuf.specs.Layout.{TableAt, HasScalar, HasText}
+use Rattle.flatbuf.specs.Place.{scalar_of, text_of}
 use Rattle.flatbuf.specs.Block.{Part, Given, Number as Scalar, table_part}
 use Rattle.arrow_types.specs.declared.data_type.IntegerType.{IntegerType}
 use Rattle.arrow_types.specs.declared.data_type.IntegerType.TheVariants.{Int8, Int16, Int32, Int64}
 use Rattle.arrow_types.specs.declared.data_type.IntegerType.TheVariants.{UInt8, UInt16, UInt32}
 use Rattle.arrow_types.specs.declared.data_type.IntegerType.TheVariants.{UInt64}
 use Rattle.arrow_types.specs.declared.data_type.NumberType.TheVariants.{Integer, Decimal, Date}
+use Rattle.arrow_types.specs.declared.data_type.NumberType.TheVariants.{Timestamp}
 use Rattle.arrow_types.specs.declared.data_type.DataType.{DataType}
 use Rattle.arrow_types.specs.declared.data_type.DataType.TheVariants.{Number, Utf8, Bool as Flags}
 use Rattle.arrow_types.specs.declared.data_type.DataType.TheVariants.{Dictionary}
@@ -90,6 +91,27 @@ date_of table = do
   _ ← demand (unit == 0) UnsupportedArrow
   Ok (Number Date)
 
+-- ---- Timestamp
+
+-- whether a zone has a name; an empty one is none
+abbrev pub is_zone : Option (List ℕ) → Bool
+is_zone None = false
+is_zone (Some name) = nat_lt 0 (length name)
+
+-- a Timestamp table: its unit is MICROSECOND (2), where the default is SECOND (0), and no zone
+pub record SaysTimestamp (table : TableAt) : Type 0 where
+  pub unit : HasScalar 2 table 0 0 2
+  pub zone : Option (List ℕ)
+  pub named : HasText table 1 zone
+  pub none : is_zone zone ≡ false
+
+unfoldable pub timestamp_of : TableAt → Result DataType Fault
+timestamp_of table = do
+  unit ← scalar_of 2 table 0 0
+  zone ← text_of table 1
+  _ ← demand ((unit == 2) && not (is_zone zone)) UnsupportedArrow
+  Ok (Number Timestamp)
+
 -- ---- the rows
 
 -- what the table of a type says; no type's table says a dictionary
@@ -97,6 +119,7 @@ abbrev pub SaysType : DataType → TableAt → Type 0
 SaysType (Number (Integer integer)) table = SaysInteger table integer
 SaysType (Number Decimal) table = SaysDecimal table
 SaysType (Number Date) table = SaysDate table
+SaysType (Number Timestamp) table = SaysTimestamp table
 SaysType Utf8 table = Unit {0}
 SaysType Flags table = Unit {0}
 SaysType (Dictionary encoding) table = ⊥
@@ -108,6 +131,7 @@ type_readings = (2, λ table. integer_of table >>= λ integer. Ok (Number (Integ
     ∷ (6, λ table. Ok Flags)
     ∷ (7, decimal_of)
     ∷ (8, date_of)
+    ∷ (10, timestamp_of)
     ∷ []
 
 -- how a type is written: the number of its kind, and the slots of its table. Those of a dictionary
@@ -116,6 +140,7 @@ abbrev pub type_written : DataType → ℕ × List Given
 type_written (Number (Integer integer)) = (2, integer_slots integer)
 type_written (Number Decimal) = (7, Scalar 38 ∷ Scalar 0 ∷ Scalar 128 ∷ [])
 type_written (Number Date) = (8, Scalar 0 ∷ [])
+type_written (Number Timestamp) = (10, Scalar 2 ∷ [])
 type_written Utf8 = (5, [])
 type_written Flags = (6, [])
 type_written (Dictionary encoding) = (5, [])

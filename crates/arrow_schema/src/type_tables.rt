@@ -1,11 +1,12 @@
 //! The table of each type in a schema. A type has one row where tables are read, and one where they
 //! are written.
 
-ghost use Rattle.std.specs.Prelude.{◌≡◌, IfOk};
+ghost use Rattle.std.specs.Prelude.{◌≡◌, IfOk, option_map};
 ghost use Rattle.scan_base.specs.Reading.{Gives};
 ghost use Rattle.arrow_types.specs.Schema.{IsType};
 ghost use Rattle.arrow_schema.specs.Fields.{table_wanted};
 ghost use Rattle.arrow_schema.specs.TypeTables.{integer_type, integer_of, decimal_of, date_of};
+ghost use Rattle.arrow_schema.specs.TypeTables.{is_zone, timestamp_of};
 ghost use Rattle.arrow_schema.specs.TypeTables.{type_of, integer_part, type_number, type_part};
 
 use crate::header::table_wanted;
@@ -65,6 +66,30 @@ fn date(table: &Table<'_>) -> Result<DataType, Fault>
     Ok(DataType::Number(NumberType::Date))
 }
 
+// Whether a zone has a name.
+fn is_zone(zone: Option<&str>) -> bool
+    ensures { result ≡ is_zone (option_map (λ name. name.now) zone) }
+{
+    match zone {
+        Some(name) => !name.is_empty(),
+        None => false,
+    }
+}
+
+// A timestamp of microseconds without a zone.
+#[tactic(auto, unfolding(crate::specs::TypeTables::timestamp_of))]
+fn timestamp(table: &Table<'_>) -> Result<DataType, Fault>
+    ensures value { Gives (λ timestamp. timestamp) result (timestamp_of table.now) }
+    ensures valid { IfOk result IsType }
+{
+    let unit = table.scalar(0, Width::Two, 0)?;
+    let zone = table.text(1)?;
+    if unit != 2 || is_zone(zone) {
+        return Err(Fault::UnsupportedArrow);
+    }
+    Ok(DataType::Number(NumberType::Timestamp))
+}
+
 /// The type of a field's values, by the number of its kind. It refuses an unknown kind before an
 /// absent table.
 pub(crate) fn type_from(kind: u64, field: &Table<'_>) -> Result<DataType, Fault>
@@ -85,6 +110,7 @@ pub(crate) fn type_from(kind: u64, field: &Table<'_>) -> Result<DataType, Fault>
         }
         7 => decimal(&table?),
         8 => date(&table?),
+        10 => timestamp(&table?),
         _ => Err(Fault::UnsupportedArrow),
     }
 }
@@ -113,5 +139,6 @@ pub(crate) fn type_block(builder: &Builder, data_type: DataType) -> Result<(u64,
             Ok((7, builder.table(&slots)?))
         }
         DataType::Number(NumberType::Date) => Ok((8, builder.table(&[Slot::Number(0)])?)),
+        DataType::Number(NumberType::Timestamp) => Ok((10, builder.table(&[Slot::Number(2)])?)),
     }
 }

@@ -11,6 +11,7 @@ pub fn shown_reads_back(kind: NumberType, number: i128)
     ensures { ReadsBack kind number }
 {
     let _date = date_of(number);
+    let _day = date_of(number.div_euclid(86_400_000_000));
 }
 
 /// A text that reads as a day is the date that is printed of it.

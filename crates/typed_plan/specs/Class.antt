@@ -12,6 +12,7 @@ use Rattle.sql_query.specs.declared.query.Literal.TheVariants as literal
 use Rattle.typed_plan.specs.contracts.class.Class.{the_type}
 use Rattle.typed_plan.specs.declared.class.Class.{Class}
 use Rattle.typed_plan.specs.declared.class.Class.TheVariants.{Number, Text, Truth, Date}
+use Rattle.typed_plan.specs.declared.class.Class.TheVariants.{Timestamp}
 
 -- whether two classes are one
 abbrev pub same_class : Class → Class → Bool
@@ -22,6 +23,7 @@ abbrev pub number_class : NumberType → Class
 number_class (number.Integer integer) = Number
 number_class number.Decimal = Number
 number_class number.Date = Date
+number_class number.Timestamp = Timestamp
 
 -- the class of a column's values
 abbrev pub type_class : DataType → Class
@@ -47,6 +49,7 @@ literal_value (literal.Date day) = value.Int day
 -- the class where literals are values: a number is one, whatever it means
 abbrev pub bound_class : Class → Class
 bound_class Date = Number
+bound_class Timestamp = Number
 bound_class class = class
 
 -- the class of a value, which is no null

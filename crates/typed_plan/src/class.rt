@@ -18,6 +18,8 @@ pub enum Class {
     Truth,
     /// Dates.
     Date,
+    /// Timestamps.
+    Timestamp,
 }
 
 impl Class {
@@ -28,6 +30,7 @@ impl Class {
         match data_type {
             DataType::Number(NumberType::Integer(_) | NumberType::Decimal) => Class::Number,
             DataType::Number(NumberType::Date) => Class::Date,
+            DataType::Number(NumberType::Timestamp) => Class::Timestamp,
             DataType::Utf8 | DataType::Dictionary(_) => Class::Text,
             DataType::Bool => Class::Truth,
         }
