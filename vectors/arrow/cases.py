@@ -2,7 +2,8 @@
 import json
 from dataclasses import dataclass
 
-from trees import BOOL, DATE, DECIMAL, UTF8, batch, dictionary, encoding, field, headed, hexed, integer, offsets, placed, schema
+from trees import BOOL, DATE, DECIMAL, UNITS, UTF8, batch, dictionary, duration, encoding, field, headed, hexed, integer, offsets, placed
+from trees import schema, time, timestamp
 
 MESSAGES, INDEX = {}, []
 
@@ -122,6 +123,18 @@ add("schema_Date", schema(field("a", DATE)), says(("a", "Date", True)))
 add("schema_Date_full", schema(field("a", DATE, False)), says(("a", "Date", False)), layout="packed", compared=True)
 add("schema_Date_and_more", schema(field("a", integer(32, True)), field("d", DATE, False), field("s", UTF8)),
     says(("a", "Int32", True), ("d", "Date", False), ("s", "Utf8", True)), layout="spread", compared=True)
+# Times of each unit. A default unit is left out: seconds of a Timestamp, milliseconds of the others.
+for unit in UNITS:
+    add(f"schema_Timestamp_{unit}", schema(field("a", timestamp(unit))), says(("a", f"Timestamp({unit}, false)", True)))
+    add(f"schema_Time_{unit}", schema(field("a", time(unit))), says(("a", f"Time({unit})", True)))
+    add(f"schema_Duration_{unit}", schema(field("a", duration(unit))), says(("a", f"Duration({unit})", True)))
+    add(f"schema_Timestamp_{unit}_Vienna", schema(field("a", timestamp(unit, "Europe/Vienna"), False)),
+        says(("a", f"Timestamp({unit}, true)", False)), layout="packed", compared=True)
+add("schema_Timestamp_zone_empty", schema(field("a", timestamp("Nanosecond", ""))),
+    says(("a", "Timestamp(Nanosecond, false)", True)), note="an empty zone is none")
+add("schema_times", schema(field("a", timestamp("Second", "UTC")), field("b", time("Nanosecond"), False), field("c", duration("Second"))),
+    says(("a", "Timestamp(Second, true)", True), ("b", "Time(Nanosecond)", False), ("c", "Duration(Second)", True)),
+    layout="spread", compared=True)
 add("schema_64_columns", schema(*(field(f"c{n}", I64) for n in range(64))),
     says(*((f"c{n}", "Int64", True) for n in range(64))))
 add("schema_name_of_64", schema(field("ä" * 32, I64)), says(("ä" * 32, "Int64", True)), note="32 letters of 2 bytes")
@@ -173,9 +186,8 @@ add("bad_name_utf8_of_65", schema({**A, "name": "n" * 64 + "\udcff"}), "F6", lay
 add("bad_name_first", schema({"name": ""}), "F12", note="no type kind either")
 for name, table in [
     ("Null", {}), ("FloatingPoint", {"precision": "DOUBLE"}), ("Binary", {}), ("Date", {"unit": "MILLISECOND"}),
-    ("Time", {"unit": "NANOSECOND", "bitWidth": 64}), ("Timestamp", {"unit": "MICROSECOND", "timezone": "UTC"}),
     ("Interval", {"unit": "DAY_TIME"}), ("Union", {"mode": "Dense", "typeIds": [0]}),
-    ("FixedSizeBinary", {"byteWidth": 16}), ("Duration", {"unit": "SECOND"}), ("LargeBinary", {}), ("LargeUtf8", {}),
+    ("FixedSizeBinary", {"byteWidth": 16}), ("LargeBinary", {}), ("LargeUtf8", {}),
     ("RunEndEncoded", {}), ("BinaryView", {}), ("Utf8View", {}),
 ]:
     add(f"bad_type_{name}", schema(field("a", (name, table))), "F7")
@@ -185,6 +197,13 @@ for name, table in [("List", {}), ("Struct_", {}), ("FixedSizeList", {"listSize"
 add("bad_type_Date_stored", schema(field("a", ("Date", {"unit": "MILLISECOND"}))), "F7", layout="packed", compared=True,
     note="of bad_type_Date the unit is absent, which is milliseconds")
 add("bad_type_Date_unit_2", schema(field("a", ("Date", {"unit": 2}))), "F7", layout="spread")
+for name, table in [("Timestamp", {"unit": 4}), ("Time", {"unit": 4, "bitWidth": 64}), ("Duration", {"unit": -1})]:
+    add(f"bad_type_{name}_unit", schema(field("a", (name, table))), "F7", layout="packed")
+for unit, bits in [("Second", 64), ("Millisecond", 64), ("Microsecond", 32), ("Nanosecond", 32), ("Nanosecond", 8)]:
+    add(f"bad_type_Time_{unit}_{bits}", schema(field("a", time(unit, bits))), "F7", layout="spread", compared=True)
+add("bad_type_Timestamp_zone_utf8", schema(field("a", timestamp("Second", "\udcff"))), "F6", layout="packed", note="a zone that is not UTF-8")
+add("bad_type_absent_Timestamp", schema({"name": "a", "type_type": "Timestamp"}), "F6", layout="packed")
+add("bad_dictionary_Timestamp", schema(field("a", timestamp("Second"), dictionary=encoding(1))), "F7", layout="packed", compared=True)
 add("bad_type_absent_Date", schema({"name": "a", "type_type": "Date"}), "F6", layout="packed")
 add("bad_dictionary_Date", schema(field("a", DATE, dictionary=encoding(1))), "F7", layout="packed", compared=True)
 add("bad_type_absent_kind", schema({"name": "a"}), "F6")
@@ -271,6 +290,14 @@ add("batch_Date", batch(5, (1, "FD", "3E 22 00 00 A5 A5 A5 A5 C5 06 F5 FF 00 00 
     note="a day number: of 1994-01-01, of the day before 0001-01-01, the least and the greatest")
 add("batch_Date_full", batch(2, (0, "", "00 00 00 00 FF FF FF FF")), rows([0], [-1]), "schema_Date_full", layout="spread",
     compared=True)
+LONGS = "00 00 00 00 00 00 00 80 A5 A5 A5 A5 A5 A5 A5 A5 90 00 DD 39 63 17 06 00 FF FF FF FF FF FF FF 7F"
+for name in ("Timestamp_Microsecond", "Timestamp_Nanosecond_Vienna", "Time_Nanosecond", "Duration_Second"):
+    add(f"batch_{name}", batch(4, (1, "0D", LONGS)), rows([-9223372036854775808], [None], [1714564800250000], [9223372036854775807]),
+        f"schema_{name}", layout="packed", compared=True, note="every value of 64 bits is taken")
+add("batch_Time_Millisecond", batch(3, (1, "05", "00 00 00 80 A5 A5 A5 A5 FF 5B 26 05")), rows([-2147483648], [None], [86399999]),
+    "schema_Time_Millisecond", layout="spread", compared=True)
+add("bad_data_short_Timestamp", batch(2, (0, "", "00" * 15)), "F8", "schema_Timestamp_Second", layout="packed")
+add("bad_data_short_Time", batch(2, (0, "", "00" * 7)), "F8", "schema_Time_Second", layout="packed")
 add("bad_data_short_Date", batch(2, (0, "", "00" * 7)), "F8", "schema_Date", layout="packed")
 add("batch_Bool", batch(4, (1, "0D", "09")), rows([True], [None], [False], [True]), "schema_Bool")
 add("batch_Bool_null_bit", batch(4, (1, "0D", "0B")), rows([True], [None], [False], [True]), "schema_Bool")

@@ -1,6 +1,6 @@
 #!/usr/bin/env python3
 """Writes stdin and stdout of crates/format_cases: rows, and the answer of each. Run it in any folder; it always writes the
-same. The rows of messages, streams and dates are those of flight/, streams/ and dates/, and the others stand here and in
+same. The rows of messages, streams, dates and times are those of flight/, streams/, dates/ and times/, and the others stand here and in
 bits.py, with answers by hand."""
 import pathlib
 import sys
@@ -15,6 +15,7 @@ import bits  # noqa: E402
 from dates import rows as dates  # noqa: E402
 from flight import rows as flight  # noqa: E402
 from streams import rows as streams  # noqa: E402
+from times import rows as times  # noqa: E402
 from framing import stream_of  # noqa: E402  (of streams/)
 
 F4, F6, F12, F22 = "F4 BadProto", "F6 BadFlatbuffer", "F12 LimitReached", "F22 Transport"
@@ -146,7 +147,7 @@ def batches():
 
 
 def rows():
-    found = [*flight.rows(), *streams.rows(), *dates.rows()]
+    found = [*flight.rows(), *streams.rows(), *dates.rows(), *times.rows()]
     for part in (values, fields, buffers, messages, ends, bits.rows, schemas, batches):
         found += part()
     return found

@@ -1,23 +1,27 @@
 -- The table of each type in a schema, in the words of Arrow's `Schema.fbs`: what it says, how it is
 -- read, and how it is written. Each list below has one row for a type.
 use Rattle.std.specs.Prelude.{◌≡◌, ℕ, ◌==◌, ◌&&◌, not, Bool, true, false, List, [], ◌∷◌}
-use Rattle.std.specs.Prelude.{Option, Some, None, length, nat_lt, Result, Ok, Err, if◌then◌else◌}
+use Rattle.std.specs.Prelude.{Option, Some, None, codes, length, nat_lt, Result, Ok, Err}
+use Rattle.std.specs.Prelude.{if◌then◌else◌}
 use Rattle.scan_base.specs.declared.fault.Fault.{Fault}
 use Rattle.scan_base.specs.declared.fault.Fault.TheVariants.{UnsupportedArrow}
 use Rattle.scan_base.specs.Reading.{◌>>=◌, demand}
 use Rattle.flatbuf.specs.Layout.{TableAt, HasScalar, HasText}
 use Rattle.flatbuf.specs.Place.{scalar_of, text_of}
-use Rattle.flatbuf.specs.Block.{Part, Given, Number as Scalar, table_part}
+use Rattle.flatbuf.specs.Block.{Part, Given, Number as Scalar, Offset, table_part, text_part}
 use Rattle.arrow_types.specs.declared.data_type.IntegerType.{IntegerType}
 use Rattle.arrow_types.specs.declared.data_type.IntegerType.TheVariants.{Int8, Int16, Int32, Int64}
 use Rattle.arrow_types.specs.declared.data_type.IntegerType.TheVariants.{UInt8, UInt16, UInt32}
 use Rattle.arrow_types.specs.declared.data_type.IntegerType.TheVariants.{UInt64}
 use Rattle.arrow_types.specs.declared.data_type.NumberType.TheVariants.{Integer, Decimal, Date}
-use Rattle.arrow_types.specs.declared.data_type.NumberType.TheVariants.{Timestamp}
+use Rattle.arrow_types.specs.declared.data_type.NumberType.TheVariants.{Timestamp, Time, Duration}
+use Rattle.arrow_types.specs.declared.data_type.TimeUnit.{TimeUnit}
+use Rattle.arrow_types.specs.declared.data_type.TimeUnit.TheVariants.{Second, Millisecond}
+use Rattle.arrow_types.specs.declared.data_type.TimeUnit.TheVariants.{Microsecond, Nanosecond}
 use Rattle.arrow_types.specs.declared.data_type.DataType.{DataType}
 use Rattle.arrow_types.specs.declared.data_type.DataType.TheVariants.{Number, Utf8, Bool as Flags}
 use Rattle.arrow_types.specs.declared.data_type.DataType.TheVariants.{Dictionary}
-use Rattle.arrow_types.specs.DataType.{bit_width, is_signed}
+use Rattle.arrow_types.specs.DataType.{bit_width, is_signed, time_integer}
 
 -- what a number stands for, among these
 abbrev pub meaning_of : {A : Type 0} → List (ℕ × A) → ℕ → Result A Fault
@@ -91,26 +95,68 @@ date_of table = do
   _ ← demand (unit == 0) UnsupportedArrow
   Ok (Number Date)
 
--- ---- Timestamp
+-- ---- Timestamp, Time and Duration
+
+-- a TimeUnit: SECOND, MILLISECOND, MICROSECOND and NANOSECOND
+abbrev pub unit_number : TimeUnit → ℕ
+unit_number Second = 0
+unit_number Millisecond = 1
+unit_number Microsecond = 2
+unit_number Nanosecond = 3
+
+abbrev pub time_units : List (ℕ × TimeUnit)
+time_units = (0, Second) ∷ (1, Millisecond) ∷ (2, Microsecond) ∷ (3, Nanosecond) ∷ []
 
 -- whether a zone has a name; an empty one is none
 abbrev pub is_zone : Option (List ℕ) → Bool
 is_zone None = false
 is_zone (Some name) = nat_lt 0 (length name)
 
--- a Timestamp table: its unit is MICROSECOND (2), where the default is SECOND (0), and no zone
-pub record SaysTimestamp (table : TableAt) : Type 0 where
-  pub unit : HasScalar 2 table 0 0 2
+-- a Timestamp table: its unit, SECOND (0) by default, and a zone or none
+pub record SaysTimestamp (table : TableAt) (unit : TimeUnit) (zoned : Bool) : Type 0 where
+  pub unit : HasScalar 2 table 0 0 (unit_number unit)
   pub zone : Option (List ℕ)
   pub named : HasText table 1 zone
-  pub none : is_zone zone ≡ false
+  pub zoned : is_zone zone ≡ zoned
 
 unfoldable pub timestamp_of : TableAt → Result DataType Fault
 timestamp_of table = do
-  unit ← scalar_of 2 table 0 0
+  number ← scalar_of 2 table 0 0
+  unit ← meaning_of time_units number
   zone ← text_of table 1
-  _ ← demand ((unit == 2) && not (is_zone zone)) UnsupportedArrow
-  Ok (Number Timestamp)
+  Ok (Number (Timestamp unit (is_zone zone)))
+
+-- its slots: of a zone it is kept that there is one, and that is UTC
+abbrev pub timestamp_slots : TimeUnit → Bool → List Given
+timestamp_slots unit false = Scalar (unit_number unit) ∷ []
+timestamp_slots unit true = Scalar (unit_number unit) ∷ Offset (text_part (codes "UTC")) ∷ []
+
+-- the bits of a time of a day
+abbrev pub time_bits : TimeUnit → ℕ
+time_bits unit = bit_width (time_integer unit)
+
+-- a Time table: its unit, MILLISECOND (1) by default, and the bits of that, 32 by default
+pub record SaysTime (table : TableAt) (unit : TimeUnit) : Type 0 where
+  pub unit : HasScalar 2 table 0 1 (unit_number unit)
+  pub width : HasScalar 4 table 1 32 (time_bits unit)
+
+unfoldable pub time_of : TableAt → Result DataType Fault
+time_of table = do
+  number ← scalar_of 2 table 0 1
+  unit ← meaning_of time_units number
+  bits ← scalar_of 4 table 1 32
+  _ ← demand (bits == time_bits unit) UnsupportedArrow
+  Ok (Number (Time unit))
+
+-- a Duration table: its unit, MILLISECOND (1) by default
+abbrev pub SaysDuration : TableAt → TimeUnit → Type 0
+SaysDuration table unit = HasScalar 2 table 0 1 (unit_number unit)
+
+unfoldable pub duration_of : TableAt → Result DataType Fault
+duration_of table = do
+  number ← scalar_of 2 table 0 1
+  unit ← meaning_of time_units number
+  Ok (Number (Duration unit))
 
 -- ---- the rows
 
@@ -119,7 +165,9 @@ abbrev pub SaysType : DataType → TableAt → Type 0
 SaysType (Number (Integer integer)) table = SaysInteger table integer
 SaysType (Number Decimal) table = SaysDecimal table
 SaysType (Number Date) table = SaysDate table
-SaysType (Number Timestamp) table = SaysTimestamp table
+SaysType (Number (Timestamp unit zoned)) table = SaysTimestamp table unit zoned
+SaysType (Number (Time unit)) table = SaysTime table unit
+SaysType (Number (Duration unit)) table = SaysDuration table unit
 SaysType Utf8 table = Unit {0}
 SaysType Flags table = Unit {0}
 SaysType (Dictionary encoding) table = ⊥
@@ -131,7 +179,9 @@ type_readings = (2, λ table. integer_of table >>= λ integer. Ok (Number (Integ
     ∷ (6, λ table. Ok Flags)
     ∷ (7, decimal_of)
     ∷ (8, date_of)
+    ∷ (9, time_of)
     ∷ (10, timestamp_of)
+    ∷ (18, duration_of)
     ∷ []
 
 -- how a type is written: the number of its kind, and the slots of its table. Those of a dictionary
@@ -140,7 +190,9 @@ abbrev pub type_written : DataType → ℕ × List Given
 type_written (Number (Integer integer)) = (2, integer_slots integer)
 type_written (Number Decimal) = (7, Scalar 38 ∷ Scalar 0 ∷ Scalar 128 ∷ [])
 type_written (Number Date) = (8, Scalar 0 ∷ [])
-type_written (Number Timestamp) = (10, Scalar 2 ∷ [])
+type_written (Number (Timestamp unit zoned)) = (10, timestamp_slots unit zoned)
+type_written (Number (Time unit)) = (9, Scalar (unit_number unit) ∷ Scalar (time_bits unit) ∷ [])
+type_written (Number (Duration unit)) = (18, Scalar (unit_number unit) ∷ [])
 type_written Utf8 = (5, [])
 type_written Flags = (6, [])
 type_written (Dictionary encoding) = (5, [])

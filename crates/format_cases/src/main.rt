@@ -16,6 +16,7 @@ mod round_trips;
 mod row;
 mod schemas;
 mod streams;
+mod times;
 mod values;
 mod words;
 
@@ -68,6 +69,8 @@ fn answer(alloc: Global, line: &str) -> Result<String, Fault> {
         "#" => Ok(String::from_str(alloc, line)?),
         "day" => dates::day(alloc, words),
         "shown" => dates::shown(alloc, words),
+        "number" => times::number(alloc, words),
+        "literal" => times::literal(alloc, words),
         _ => answer_row(alloc, kind, &CaseRow::read(alloc, words)?),
     }
 }

@@ -5,5 +5,5 @@ pub mod Texts
 pub mod Printed
 pub mod Signs
 pub mod TypeWords
-pub mod MomentTexts
+pub mod TimeTexts
 pub mod Back

@@ -1,5 +1,6 @@
 pub mod Dates
 pub mod DateText
-pub mod Moments
+pub mod Times
+pub mod TimeText
 pub mod WholeNumbers
 pub mod NumberTexts

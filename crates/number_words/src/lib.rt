@@ -3,9 +3,9 @@
 
 mod calendar;
 pub mod laws;
-mod moment;
 mod number_text;
 mod reading;
+mod times;
 mod whole_number;
 mod words;
 

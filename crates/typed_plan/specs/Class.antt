@@ -1,29 +1,31 @@
 -- The classes of values: only values of one class are compared. And the values of literals.
 use Rattle.std.specs.Prelude.{Bool, true, false}
-use denote.Enum.Bare.{sameb}
 use Rattle.arrow_types.specs.declared.data_type.DataType.{DataType}
 use Rattle.arrow_types.specs.declared.data_type.DataType.TheVariants as type
 use Rattle.arrow_types.specs.declared.data_type.NumberType.{NumberType}
 use Rattle.arrow_types.specs.declared.data_type.NumberType.TheVariants as number
+use Rattle.arrow_types.specs.DataType.{same_number}
 use Rattle.scan_base.specs.declared.value.Value.{Value}
 use Rattle.scan_base.specs.declared.value.Value.TheVariants as value
 use Rattle.sql_query.specs.declared.query.Literal.{Literal}
 use Rattle.sql_query.specs.declared.query.Literal.TheVariants as literal
-use Rattle.typed_plan.specs.contracts.class.Class.{the_type}
 use Rattle.typed_plan.specs.declared.class.Class.{Class}
-use Rattle.typed_plan.specs.declared.class.Class.TheVariants.{Number, Text, Truth, Date}
-use Rattle.typed_plan.specs.declared.class.Class.TheVariants.{Timestamp}
+use Rattle.typed_plan.specs.declared.class.Class.TheVariants.{Number, Text, Truth, Own}
 
 -- whether two classes are one
 abbrev pub same_class : Class → Class → Bool
-same_class a b = sameb the_type a b
+same_class Number Number = true
+same_class Text Text = true
+same_class Truth Truth = true
+same_class (Own one) (Own other) = same_number one other
+same_class _ _ = false
 
--- the class of the numbers of a column
+-- the class of the numbers of a column: each type that is no integer and no decimal is a class of
+-- its own
 abbrev pub number_class : NumberType → Class
 number_class (number.Integer integer) = Number
 number_class number.Decimal = Number
-number_class number.Date = Date
-number_class number.Timestamp = Timestamp
+number_class kind = Own kind
 
 -- the class of a column's values
 abbrev pub type_class : DataType → Class
@@ -37,7 +39,7 @@ abbrev pub literal_class : Literal → Class
 literal_class (literal.Text bytes) = Text
 literal_class (literal.Truth flag) = Truth
 literal_class (literal.Number number) = Number
-literal_class (literal.Date day) = Date
+literal_class (literal.Date day) = Own number.Date
 
 -- the value of a literal: of a date it is the day number
 abbrev pub literal_value : Literal → Value
@@ -48,8 +50,7 @@ literal_value (literal.Date day) = value.Int day
 
 -- the class where literals are values: a number is one, whatever it means
 abbrev pub bound_class : Class → Class
-bound_class Date = Number
-bound_class Timestamp = Number
+bound_class (Own kind) = Number
 bound_class class = class
 
 -- the class of a value, which is no null

@@ -1,14 +1,14 @@
 //! Which values may be compared.
 
 ghost use Rattle.std.specs.Prelude.{◌≡◌};
-ghost use Rattle.typed_plan.specs.Class.{type_class, literal_class, value_class};
+ghost use Rattle.typed_plan.specs.Class.{type_class, literal_class, same_class, value_class};
 
 use arrow_types::{DataType, NumberType};
 use scan_base::Value;
 use sql_query::Literal;
 
 /// What a value is a value of. Only values of one class are compared.
-#[derive(Clone, Copy, PartialEq, Eq)]
+#[derive(Clone, Copy)]
 pub enum Class {
     /// Integers of every width, and decimals.
     Number,
@@ -16,10 +16,8 @@ pub enum Class {
     Text,
     /// Truth values.
     Truth,
-    /// Dates.
-    Date,
-    /// Timestamps.
-    Timestamp,
+    /// What is no integer and no decimal, each type by itself.
+    Own(NumberType),
 }
 
 impl Class {
@@ -29,10 +27,22 @@ impl Class {
     {
         match data_type {
             DataType::Number(NumberType::Integer(_) | NumberType::Decimal) => Class::Number,
-            DataType::Number(NumberType::Date) => Class::Date,
-            DataType::Number(NumberType::Timestamp) => Class::Timestamp,
+            DataType::Number(kind) => Class::Own(kind),
             DataType::Utf8 | DataType::Dictionary(_) => Class::Text,
             DataType::Bool => Class::Truth,
+        }
+    }
+
+    /// Whether two classes are one.
+    pub fn is_same(self, other: Class) -> bool
+        ensures { result ≡ same_class self other }
+    {
+        match (self, other) {
+            (Class::Number, Class::Number) => true,
+            (Class::Text, Class::Text) => true,
+            (Class::Truth, Class::Truth) => true,
+            (Class::Own(one), Class::Own(other)) => one.is_same(other),
+            (_, _) => false,
         }
     }
 
@@ -44,7 +54,7 @@ impl Class {
             Literal::Text(_) => Class::Text,
             Literal::Truth(_) => Class::Truth,
             Literal::Number(_) => Class::Number,
-            Literal::Date(_) => Class::Date,
+            Literal::Date(_) => Class::Own(NumberType::Date),
         }
     }
 

@@ -1,0 +1,190 @@
+//! The timestamp, or the time of a day, that a text says.
+
+ghost use Rattle.std.specs.Prelude.{◌≡◌, ◌≤◌, ◌<◌, IfSome, IsTrue, option_map, pos};
+ghost use Rattle.std.specs.Char.{is_ascii_digit};
+ghost use Rattle.std.specs.Int.{int_div_euclid, int_rem_euclid};
+ghost use Rattle.std.specs.List.{list_all};
+ghost use Rattle.number_words.specs.Times.{clock_in, digit_at, fraction_in, in_unit};
+ghost use Rattle.number_words.specs.Times.{is_clock_form, is_fraction_form, moment_in, nanos_in};
+ghost use Rattle.number_words.specs.Times.{seconds_of, stamp_in, three_digits, time_in};
+ghost use Rattle.number_words.specs.Times.{time_said, timestamp_said};
+
+use crate::calendar::{day_of_bytes, two_digits, two_stand};
+use arrow_types::TimeUnit;
+
+/// The timestamp that a text says, if it is a whole number of the unit. A zone is said by a `Z`. It
+/// takes no memory.
+pub(crate) fn timestamp_said(unit: TimeUnit, zoned: bool, text: &str) -> Option<i128>
+    ensures { result ≡ timestamp_said unit zoned text.now }
+{
+    in_unit(unit, stamp_in(zoned, text.as_bytes()))
+}
+
+/// The time of a day that a text says, if it is a whole number of the unit. It takes no memory.
+pub(crate) fn time_said(unit: TimeUnit, text: &str) -> Option<i128>
+    ensures { result ≡ time_said unit text.now }
+{
+    in_unit(unit, day_time_in(text.as_bytes()))
+}
+
+// Nanoseconds in a unit, if they are a whole number of it.
+fn in_unit(unit: TimeUnit, nanos: Option<i128>) -> Option<i128>
+    ensures { result ≡ in_unit unit nanos }
+{
+    let (whole, rest) = parted(unit, nanos?);
+    if rest == 0 { Some(whole) } else { None }
+}
+
+// How often a number of nanoseconds has a unit, and what is left.
+fn parted(unit: TimeUnit, nanos: i128) -> (i128, i128)
+    ensures whole { result.0 ≡ int_div_euclid nanos (pos (nanos_in unit)) }
+    ensures rest { result.1 ≡ int_rem_euclid nanos (pos (nanos_in unit)) }
+{
+    match unit {
+        TimeUnit::Second => (
+            nanos.div_euclid(1_000_000_000),
+            nanos.rem_euclid(1_000_000_000),
+        ),
+        TimeUnit::Millisecond => (nanos.div_euclid(1_000_000), nanos.rem_euclid(1_000_000)),
+        TimeUnit::Microsecond => (nanos.div_euclid(1_000), nanos.rem_euclid(1_000)),
+        TimeUnit::Nanosecond => (nanos.div_euclid(1), nanos.rem_euclid(1)),
+    }
+}
+
+// The nanoseconds from 1970-01-01 00:00:00 to what a text says, with or without a `Z`.
+fn stamp_in(zoned: bool, text: &[u8]) -> Option<i128>
+    ensures { result ≡ stamp_in zoned text.now }
+{
+    if !zoned {
+        return moment_in(text);
+    }
+    if text.is_empty() || text[text.len() - 1] != b'Z' {
+        return None;
+    }
+    moment_in(&text[..text.len() - 1])
+}
+
+// The same of a date, a space and a time.
+fn moment_in(text: &[u8]) -> Option<i128>
+    ensures { result ≡ moment_in text.now }
+{
+    if text.len() < 11 || text[10] != b' ' {
+        return None;
+    }
+    let day = day_of_bytes(&text[..10])?;
+    let nanos = time_in(&text[11..])?;
+    Some(i128::from(day) * 86_400_000_000_000 + i128::from(nanos))
+}
+
+// The nanoseconds since a day began.
+fn day_time_in(text: &[u8]) -> Option<i128>
+    ensures { result ≡ option_map pos (time_in text.now) }
+{
+    match time_in(text) {
+        Some(nanos) => Some(i128::from(nanos)),
+        None => None,
+    }
+}
+
+// The same, of a clock and a fraction of a second.
+fn time_in(text: &[u8]) -> Option<u64>
+    ensures value { result ≡ time_in text.now }
+    ensures small { IfSome result (λ nanos. nanos < 86400000000000) }
+{
+    if text.len() < 8 {
+        return None;
+    }
+    let seconds = clock_in(&text[..8])?;
+    let nanos = fraction_in(&text[8..])?;
+    Some(u64::from(seconds) * 1_000_000_000 + u64::from(nanos))
+}
+
+// The seconds of a day that a text says.
+fn clock_in(text: &[u8]) -> Option<u32>
+    ensures value { result ≡ clock_in text.now }
+    ensures small { IfSome result (λ seconds. seconds < 86400) }
+{
+    if !is_clock_form(text) {
+        return None;
+    }
+    seconds_of(
+        two_digits(text, 0),
+        two_digits(text, 3),
+        two_digits(text, 6),
+    )
+}
+
+// Whether two digits, :, two digits, : and two digits stand there, and no more.
+fn is_clock_form(text: &[u8]) -> bool
+    ensures { result ≡ is_clock_form text.now }
+{
+    text.len() == 8
+        && (two_stand(text, 0) && (two_stand(text, 3) && two_stand(text, 6)))
+        && (text[2] == b':' && text[5] == b':')
+}
+
+// The seconds of a day of 24 hours of 60 minutes of 60 seconds.
+fn seconds_of(hour: u8, minute: u8, second: u8) -> Option<u32>
+    ensures value { result ≡ seconds_of hour minute second }
+    ensures small { IfSome result (λ seconds. seconds < 86400) }
+{
+    if hour < 24 && minute < 60 && second < 60 {
+        Some(3_600 * u32::from(hour) + (60 * u32::from(minute) + u32::from(second)))
+    } else {
+        None
+    }
+}
+
+// The nanoseconds that a fraction of a second says.
+fn fraction_in(text: &[u8]) -> Option<u32>
+    ensures value { result ≡ fraction_in text.now }
+    ensures small { IfSome result (λ nanos. nanos < 1000000000) }
+{
+    if !is_fraction_form(text) {
+        return None;
+    }
+    let micros = 1_000 * three_digits(text, 1) + three_digits(text, 4);
+    Some(1_000 * micros + three_digits(text, 7))
+}
+
+// Whether no byte stands there, or a point and 1 to 9 digits.
+fn is_fraction_form(text: &[u8]) -> bool
+    ensures { result ≡ is_fraction_form text.now }
+{
+    if text.is_empty() {
+        return true;
+    }
+    text[0] == b'.' && (2 <= text.len() && text.len() <= 10) && are_digits(&text[1..])
+}
+
+// Whether each byte is a digit.
+fn are_digits(text: &[u8]) -> bool
+    ensures { result ≡ list_all is_ascii_digit text.now }
+{
+    text.iter().all(|byte| byte.is_ascii_digit())
+}
+
+// The number that three digits say, from one place on.
+fn three_digits(text: &[u8], at: usize) -> u32
+    requires near { at ≤ 7 }
+    requires form { IsTrue (is_fraction_form text.now) }
+    requires after { 1 ≤ at }
+    ensures value { result ≡ three_digits text.now at }
+    ensures small { result < 1000 }
+{
+    100 * digit_at(text, at) + (10 * digit_at(text, at + 1) + digit_at(text, at + 2))
+}
+
+// The digit at a place, and 0 where the text has ended.
+fn digit_at(text: &[u8], at: usize) -> u32
+    requires form { IsTrue (is_fraction_form text.now) }
+    requires after { 1 ≤ at }
+    ensures value { result ≡ digit_at text.now at }
+    ensures small { result < 10 }
+{
+    if at < text.len() {
+        u32::from(text[at] - b'0')
+    } else {
+        0
+    }
+}
