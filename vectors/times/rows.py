@@ -9,14 +9,14 @@ import re
 
 UNITS = {"s": 0, "ms": 3, "us": 6, "ns": 9}  # of each its digits after the point
 EPOCH = datetime.datetime(1970, 1, 1)
-STAMP = re.compile(r"([0-9]{4}-[0-9]{2}-[0-9]{2}) ([0-9]{2}:[0-9]{2}:[0-9]{2})(?:\.([0-9]{1,9}))?(Z?)")
-TIME = re.compile(r"([0-9]{2}:[0-9]{2}:[0-9]{2})(?:\.([0-9]{1,9}))?")
+STAMP = re.compile(r"([0-9]{4}-[0-9]{2}-[0-9]{2}) ([0-9]{2}:[0-9]{2}:[0-9]{2})(?:\.([0-9]{1,24}))?(Z?)")
+TIME = re.compile(r"([0-9]{2}:[0-9]{2}:[0-9]{2})(?:\.([0-9]{1,24}))?")
 LINES, ANSWERS = [], []
 
 
 def digits_in(unit, digits):
     """The units that a fraction of a second says, or None if it says no whole number of them."""
-    digits = (digits or "").ljust(9, "0")
+    digits = (digits or "").ljust(24, "0")
     return None if digits[UNITS[unit]:].strip("0") else int(digits[:UNITS[unit]] or 0)
 
 
@@ -119,7 +119,7 @@ def other_texts():
 def fractions():
     note("digits after the point, and the unit")
     for unit in UNITS:
-        for digits in ("", ".0", ".5", ".25", ".125", ".1250", ".000001", ".123456", ".000000001", ".123456789", ".100000000"):
+        for digits in ("", ".0", ".5", ".25", ".125", ".1250", ".000001", ".123456", ".000000001", ".123456789", ".1000000000", ".12345678900000", "." + "0" * 24, "." + "0" * 25, "." + "0" * 23 + "1"):
             read("timestamp", unit, f"2024-05-01 12:00:00{digits}")
             read("timestamptz", unit, f"1901-05-01 12:00:00{digits}Z")
             read("time", unit, f"12:00:00{digits}")

@@ -11,7 +11,7 @@ use Rattle.arrow_types.specs.declared.data_type.TimeUnit.{TimeUnit}
 use Rattle.arrow_types.specs.declared.data_type.TimeUnit.TheVariants.{Second, Millisecond, Microsecond, Nanosecond}
 use Rattle.number_words.specs.Dates.{day_in, two_digits}
 use Rattle.number_words.specs.DateText.{date_text, date_of, has_date, DayReadsBack}
-use Rattle.number_words.specs.Times.{is_clock_form, seconds_of, clock_in, is_fraction_form, fraction_in, time_of, time_in, moment_of, moment_in, stamp_in, nanos_in, per_day, in_unit, timestamp_said, time_said}
+use Rattle.number_words.specs.Times.{is_clock_form, seconds_of, clock_in, is_fraction_form, fraction_in, time_of, time_in, moment_of, moment_in, stamp_in, yoctos_in, per_day, in_unit, timestamp_said, time_said}
 use Rattle.number_words.specs.TimeText.{in_three_digits, clock_text, time_text, is_time, day_at, time_at, zone_text, timestamp_text}
 use Rattle.number_words.proofs.Parts.{from_to-parts}
 use Rattle.number_words.proofs.Texts.{all, digit_stands, said, two_stand_there}
@@ -44,62 +44,63 @@ three_stand n more h rest =
 three_said : (n : ℕ) → 100 * (48 + n / 100 - 48) + (10 * (48 + n % 100 / 10 - 48) + (48 + n % 100 % 10 - 48)) ≡ n
 three_said n = omega arith
 
-millis_back : (a : ℕ) → a < 1000 → fraction_in (byte "." ∷ in_three_digits a) ≡ Some (1000000 * a)
+millis_back : (a : ℕ) → a < 1000 → fraction_in (byte "." ∷ in_three_digits a) ≡ Some (1000000000000000000000 * a)
 millis_back a ha =
     let form : IsTrue (is_fraction_form (byte "." ∷ in_three_digits a)) = three_stand a true ha refl in
     rw (form, three_said a) (ap Some (omega arith))
 
-micros_back : (a b : ℕ) → a < 1000 → b < 1000 → fraction_in (byte "." ∷ (in_three_digits a ++ in_three_digits b)) ≡ Some (1000000 * a + 1000 * b)
+micros_back : (a b : ℕ) → a < 1000 → b < 1000 → fraction_in (byte "." ∷ (in_three_digits a ++ in_three_digits b)) ≡ Some (1000000000000000000000 * a + 1000000000000000000 * b)
 micros_back a b ha hb =
     let form : IsTrue (is_fraction_form (byte "." ∷ (in_three_digits a ++ in_three_digits b))) = three_stand a _ ha (three_stand b true hb refl) in
     rw (form, three_said a, three_said b) (ap Some (omega arith))
 
 nanos_back : (a b c : ℕ) → a < 1000 → b < 1000 → c < 1000 →
-    fraction_in (byte "." ∷ (in_three_digits a ++ (in_three_digits b ++ in_three_digits c))) ≡ Some (1000000 * a + (1000 * b + c))
+    fraction_in (byte "." ∷ (in_three_digits a ++ (in_three_digits b ++ in_three_digits c))) ≡ Some (1000000000000000000000 * a + (1000000000000000000 * b + 1000000000000000 * c))
 nanos_back a b c ha hb hc =
     let form : IsTrue (is_fraction_form (byte "." ∷ (in_three_digits a ++ (in_three_digits b ++ in_three_digits c)))) = three_stand a _ ha (three_stand b _ hb (three_stand c true hc refl)) in
-    rw (form, three_said a, three_said b, three_said c) refl
+    rw (form, three_said a, three_said b, three_said c) (ap Some (omega arith))
 
 -- ---- a time of a day
 
 time_parts : (s : ℕ) (fraction : List ℕ) → time_in (clock_text s ++ fraction) ≡ time_of (clock_in (clock_text s)) (fraction_in fraction)
 time_parts s fraction = rw (le-leb 8 (length (clock_text s ++ fraction)) (omega arith)) refl
 
-of_parts : (s nanos t : ℕ) (fraction : List ℕ) → s < 86400 → fraction_in fraction ≡ Some nanos → s * 1000000000 + nanos ≡ t → time_in (clock_text s ++ fraction) ≡ Some t
-of_parts s nanos t fraction h e f = time_parts s fraction ∙ rw (clock_back s h, e) (ap Some f)
+of_parts : (s yoctos t : ℕ) (fraction : List ℕ) → s < 86400 → fraction_in fraction ≡ Some yoctos → s * 1000000000000000000000000 + yoctos ≡ t → time_in (clock_text s ++ fraction) ≡ Some t
+of_parts s yoctos t fraction h e f = time_parts s fraction ∙ rw (clock_back s h, e) (ap Some f)
 
 whole_clock : (s : ℕ) → clock_text s ++ [] ≡ clock_text s
 whole_clock s = refl
 
-time_back : (unit : TimeUnit) (t : ℕ) → t < per_day unit → time_in (time_text unit t) ≡ Some (t * nanos_in unit)
-time_back Second t h = ap time_in (sym (whole_clock t)) ∙ of_parts t 0 (t * 1000000000) [] h refl (omega arith)
+time_back : (unit : TimeUnit) (t : ℕ) → t < per_day unit → time_in (time_text unit t) ≡ Some (t * yoctos_in unit)
+time_back Second t h = ap time_in (sym (whole_clock t)) ∙ of_parts t 0 (t * 1000000000000000000000000) [] h refl (omega arith)
 time_back Millisecond t h =
-    of_parts (t / 1000) (1000000 * (t % 1000)) (t * 1000000) _ (omega arith) (millis_back (t % 1000) (omega arith)) (omega arith)
+    of_parts (t / 1000) (1000000000000000000000 * (t % 1000)) (t * 1000000000000000000000) _ (omega arith) (millis_back (t % 1000) (omega arith)) (omega arith)
 time_back Microsecond t h =
-    of_parts (t / 1000000) (1000000 * (t / 1000 % 1000) + 1000 * (t % 1000)) (t * 1000) _ (omega arith) (micros_back (t / 1000 % 1000) (t % 1000) (omega arith) (omega arith)) (omega arith)
+    of_parts (t / 1000000) (1000000000000000000000 * (t / 1000 % 1000) + 1000000000000000000 * (t % 1000)) (t * 1000000000000000000) _ (omega arith)
+    (micros_back (t / 1000 % 1000) (t % 1000) (omega arith) (omega arith)) (omega arith)
 time_back Nanosecond t h =
-    of_parts (t / 1000000000) (1000000 * (t / 1000000 % 1000) + (1000 * (t / 1000 % 1000) + t % 1000)) (t * 1) _ (omega arith)
+    of_parts (t / 1000000000) (1000000000000000000000 * (t / 1000000 % 1000) + (1000000000000000000 * (t / 1000 % 1000) + 1000000000000000 * (t % 1000))) (t * 1000000000000000) _ (omega arith)
     (nanos_back (t / 1000000 % 1000) (t / 1000 % 1000) (t % 1000) (omega arith) (omega arith) (omega arith)) (omega arith)
 
 -- ---- a unit
 
 -- a whole number of a unit is read in it
-whole_unit : (unit : TimeUnit) (n m : ℤ) → m ≡ n *ℤ pos (nanos_in unit) → in_unit unit (Some m) ≡ Some n
+whole_unit : (unit : TimeUnit) (n m : ℤ) → m ≡ n *ℤ pos (yoctos_in unit) → in_unit unit (Some m) ≡ Some n
 whole_unit Second n m e =
-    let none : unsigned_abs (int_rem_euclid m (pos 1000000000)) ≡ 0 = omega (arith, signed_arith) in
-    let whole : int_div_euclid m (pos 1000000000) ≡ n = omega (arith, signed_arith) in
+    let none : unsigned_abs (int_rem_euclid m (pos 1000000000000000000000000)) ≡ 0 = omega (arith, signed_arith) in
+    let whole : int_div_euclid m (pos 1000000000000000000000000) ≡ n = omega (arith, signed_arith) in
     rw none (ap Some whole)
 whole_unit Millisecond n m e =
-    let none : unsigned_abs (int_rem_euclid m (pos 1000000)) ≡ 0 = omega (arith, signed_arith) in
-    let whole : int_div_euclid m (pos 1000000) ≡ n = omega (arith, signed_arith) in
+    let none : unsigned_abs (int_rem_euclid m (pos 1000000000000000000000)) ≡ 0 = omega (arith, signed_arith) in
+    let whole : int_div_euclid m (pos 1000000000000000000000) ≡ n = omega (arith, signed_arith) in
     rw none (ap Some whole)
 whole_unit Microsecond n m e =
-    let none : unsigned_abs (int_rem_euclid m (pos 1000)) ≡ 0 = omega (arith, signed_arith) in
-    let whole : int_div_euclid m (pos 1000) ≡ n = omega (arith, signed_arith) in
+    let none : unsigned_abs (int_rem_euclid m (pos 1000000000000000000)) ≡ 0 = omega (arith, signed_arith) in
+    let whole : int_div_euclid m (pos 1000000000000000000) ≡ n = omega (arith, signed_arith) in
     rw none (ap Some whole)
 whole_unit Nanosecond n m e =
-    let none : unsigned_abs (int_rem_euclid m (pos 1)) ≡ 0 = omega (arith, signed_arith) in
-    let whole : int_div_euclid m (pos 1) ≡ n = omega (arith, signed_arith) in
+    let none : unsigned_abs (int_rem_euclid m (pos 1000000000000000)) ≡ 0 = omega (arith, signed_arith) in
+    let whole : int_div_euclid m (pos 1000000000000000) ≡ n = omega (arith, signed_arith) in
     rw none (ap Some whole)
 
 -- the time since a day began is one of a day
@@ -110,13 +111,13 @@ in_day Microsecond n = omega (arith, signed_arith)
 in_day Nanosecond n = omega (arith, signed_arith)
 
 -- a day and the time since it began make the timestamp
-nanos_are : (unit : TimeUnit) (n : ℤ) → day_at unit n *ℤ pos 86400000000000 +ℤ pos (time_at unit n * nanos_in unit) ≡ n *ℤ pos (nanos_in unit)
-nanos_are Second n = omega (arith, signed_arith)
-nanos_are Millisecond n = omega (arith, signed_arith)
-nanos_are Microsecond n = omega (arith, signed_arith)
-nanos_are Nanosecond n = omega (arith, signed_arith)
+yoctos_are : (unit : TimeUnit) (n : ℤ) → day_at unit n *ℤ pos 86400000000000000000000000000 +ℤ pos (time_at unit n * yoctos_in unit) ≡ n *ℤ pos (yoctos_in unit)
+yoctos_are Second n = omega (arith, signed_arith)
+yoctos_are Millisecond n = omega (arith, signed_arith)
+yoctos_are Microsecond n = omega (arith, signed_arith)
+yoctos_are Nanosecond n = omega (arith, signed_arith)
 
-natural_is : (unit : TimeUnit) (n : ℤ) → pos 0 ≤ℤ n → pos (unsigned_abs n * nanos_in unit) ≡ n *ℤ pos (nanos_in unit)
+natural_is : (unit : TimeUnit) (n : ℤ) → pos 0 ≤ℤ n → pos (unsigned_abs n * yoctos_in unit) ≡ n *ℤ pos (yoctos_in unit)
 natural_is Second n low = omega (arith, signed_arith)
 natural_is Millisecond n low = omega (arith, signed_arith)
 natural_is Microsecond n low = omega (arith, signed_arith)
@@ -159,9 +160,9 @@ pub timestamp_reads : (unit : TimeUnit) (zoned : Bool) (n : ℤ) → DayReadsBac
     timestamp_said unit zoned (timestamp_text unit zoned n) ≡ Some n
 timestamp_reads unit zoned n day is =
     let time = time_back unit (time_at unit n) (in_day unit n) in
-    let nanos : ℤ = day_at unit n *ℤ pos 86400000000000 +ℤ pos (time_at unit n * nanos_in unit) in
-    let read : moment_of (day_in (date_of (day_at unit n))) (time_in (time_text unit (time_at unit n))) ≡ Some nanos = rw (day is, time) refl in
+    let yoctos : ℤ = day_at unit n *ℤ pos 86400000000000000000000000000 +ℤ pos (time_at unit n * yoctos_in unit) in
+    let read : moment_of (day_in (date_of (day_at unit n))) (time_in (time_text unit (time_at unit n))) ≡ Some yoctos = rw (day is, time) refl in
     let whole = zone_back zoned (date_of (day_at unit n) ++ (byte " " ∷ time_text unit (time_at unit n)))
     ∙ moment_parts _ _ _ (time_text unit (time_at unit n))
     ∙ read in
-    ap (in_unit unit) whole ∙ whole_unit unit n nanos (nanos_are unit n)
+    ap (in_unit unit) whole ∙ whole_unit unit n yoctos (yoctos_are unit n)

@@ -12,7 +12,7 @@ use Rattle.arrow_types.specs.declared.data_type.TimeUnit.TheVariants.{Second, Mi
 use Rattle.arrow_types.specs.declared.data_type.TimeUnit.TheVariants.{Microsecond, Nanosecond}
 use Rattle.number_words.specs.Dates.{day_in, two_digits, two_stand}
 
--- ---- what is read: nanoseconds
+-- ---- what is read: yoctoseconds, of which a second has 10^24
 
 -- a text of eight bytes: two digits, :, two digits, : and two digits
 abbrev pub is_clock_form : List ℕ → Bool
@@ -39,20 +39,25 @@ abbrev pub three_digits : List ℕ → ℕ → ℕ
 three_digits text at =
     100 * digit_at text at + (10 * digit_at text (at + 1) + digit_at text (at + 2))
 
--- no byte, or a point and 1 to 9 digits
+-- no byte, or a point and 1 to 24 digits
 abbrev pub is_fraction_form : List ℕ → Bool
 is_fraction_form text = (length text == 0)
-    || ((slice_index text 0 == byte ".") && ((nat_le 2 (length text) && nat_le (length text) 10)
+    || ((slice_index text 0 == byte ".") && ((nat_le 2 (length text) && nat_le (length text) 25)
     && list_all is_ascii_digit (drop 1 text)))
 
--- the nanoseconds that a fraction of a second says
-abbrev pub fraction_in : List ℕ → Option ℕ
-fraction_in text = if is_fraction_form text then Some (1000000 * three_digits text 1
-    + (1000 * three_digits text 4 + three_digits text 7)) else None
+-- the number that three digits say after a number
+abbrev pub more_digits : List ℕ → ℕ → ℕ → ℕ
+more_digits text at before = 1000 * before + three_digits text at
 
--- the nanoseconds since a day began, of its seconds and a fraction
+-- the yoctoseconds that a fraction of a second says
+abbrev pub fraction_in : List ℕ → Option ℕ
+fraction_in text = if is_fraction_form text then Some (more_digits text 22
+    (more_digits text 19 (more_digits text 16 (more_digits text 13 (more_digits text 10
+    (more_digits text 7 (more_digits text 4 (three_digits text 1)))))))) else None
+
+-- the yoctoseconds since a day began, of its seconds and a fraction
 abbrev pub time_of : Option ℕ → Option ℕ → Option ℕ
-time_of (Some seconds) (Some nanos) = Some (seconds * 1000000000 + nanos)
+time_of (Some seconds) (Some yoctos) = Some (seconds * 1000000000000000000000000 + yoctos)
 time_of _ _ = None
 
 -- the same that a text says: a clock and a fraction
@@ -60,9 +65,10 @@ abbrev pub time_in : List ℕ → Option ℕ
 time_in text = if nat_le 8 (length text)
     then time_of (clock_in (take 8 text)) (fraction_in (drop 8 text)) else None
 
--- the nanoseconds from 1970-01-01 00:00:00 to a time of a day
+-- the yoctoseconds from 1970-01-01 00:00:00 to a time of a day
 abbrev pub moment_of : Option ℤ → Option ℕ → Option ℤ
-moment_of (Some day) (Some nanos) = Some (day *ℤ pos 86400000000000 +ℤ pos nanos)
+moment_of (Some day) (Some yoctos) =
+    Some (day *ℤ pos 86400000000000000000000000000 +ℤ pos yoctos)
 moment_of _ _ = None
 
 -- the same to the moment that a text says: a date, a space and a time
@@ -78,12 +84,12 @@ stamp_in true text = if slice_index text (length text - 1) == byte "Z"
 
 -- ---- units
 
--- how many nanoseconds a unit has
-abbrev pub nanos_in : TimeUnit → ℕ
-nanos_in Second = 1000000000
-nanos_in Millisecond = 1000000
-nanos_in Microsecond = 1000
-nanos_in Nanosecond = 1
+-- how many yoctoseconds a unit has
+abbrev pub yoctos_in : TimeUnit → ℕ
+yoctos_in Second = 1000000000000000000000000
+yoctos_in Millisecond = 1000000000000000000000
+yoctos_in Microsecond = 1000000000000000000
+yoctos_in Nanosecond = 1000000000000000
 
 -- how many of a unit a day has
 abbrev pub per_day : TimeUnit → ℕ
@@ -92,11 +98,11 @@ per_day Millisecond = 86400000
 per_day Microsecond = 86400000000
 per_day Nanosecond = 86400000000000
 
--- nanoseconds in a unit, if they are a whole number of it
+-- yoctoseconds in a unit, if they are a whole number of it
 abbrev pub in_unit : TimeUnit → Option ℤ → Option ℤ
 in_unit unit None = None
-in_unit unit (Some nanos) = if unsigned_abs (int_rem_euclid nanos (pos (nanos_in unit))) == 0
-    then Some (int_div_euclid nanos (pos (nanos_in unit))) else None
+in_unit unit (Some yoctos) = if unsigned_abs (int_rem_euclid yoctos (pos (yoctos_in unit))) == 0
+    then Some (int_div_euclid yoctos (pos (yoctos_in unit))) else None
 
 -- the number of a unit that the text of a timestamp says, and that of a time of a day
 abbrev pub timestamp_said : TimeUnit → Bool → List ℕ → Option ℤ

@@ -5,12 +5,21 @@ ghost use Rattle.std.specs.Char.{is_ascii_digit};
 ghost use Rattle.std.specs.Int.{int_div_euclid, int_rem_euclid};
 ghost use Rattle.std.specs.List.{list_all};
 ghost use Rattle.number_words.specs.Times.{clock_in, digit_at, fraction_in, in_unit};
-ghost use Rattle.number_words.specs.Times.{is_clock_form, is_fraction_form, moment_in, nanos_in};
+ghost use Rattle.number_words.specs.Times.{is_clock_form, is_fraction_form, moment_in, yoctos_in};
 ghost use Rattle.number_words.specs.Times.{seconds_of, stamp_in, three_digits, time_in};
 ghost use Rattle.number_words.specs.Times.{time_said, timestamp_said};
 
 use crate::calendar::{day_of_bytes, two_digits, two_stand};
 use arrow_types::TimeUnit;
+
+// How many yoctoseconds the units have.
+const SECOND: i128 = 1_000_000_000_000_000_000_000_000;
+
+const MILLI: i128 = 1_000_000_000_000_000_000_000;
+
+const MICRO: i128 = 1_000_000_000_000_000_000;
+
+const NANO: i128 = 1_000_000_000_000_000;
 
 /// The timestamp that a text says, if it is a whole number of the unit. A zone is said by a `Z`. It
 /// takes no memory.
@@ -27,31 +36,28 @@ pub(crate) fn time_said(unit: TimeUnit, text: &str) -> Option<i128>
     in_unit(unit, day_time_in(text.as_bytes()))
 }
 
-// Nanoseconds in a unit, if they are a whole number of it.
-fn in_unit(unit: TimeUnit, nanos: Option<i128>) -> Option<i128>
-    ensures { result ≡ in_unit unit nanos }
+// Yoctoseconds in a unit, if they are a whole number of it.
+fn in_unit(unit: TimeUnit, yoctos: Option<i128>) -> Option<i128>
+    ensures { result ≡ in_unit unit yoctos }
 {
-    let (whole, rest) = parted(unit, nanos?);
+    let (whole, rest) = parted(unit, yoctos?);
     if rest == 0 { Some(whole) } else { None }
 }
 
-// How often a number of nanoseconds has a unit, and what is left.
-fn parted(unit: TimeUnit, nanos: i128) -> (i128, i128)
-    ensures whole { result.0 ≡ int_div_euclid nanos (pos (nanos_in unit)) }
-    ensures rest { result.1 ≡ int_rem_euclid nanos (pos (nanos_in unit)) }
+// How often a number of yoctoseconds has a unit, and what is left.
+fn parted(unit: TimeUnit, yoctos: i128) -> (i128, i128)
+    ensures whole { result.0 ≡ int_div_euclid yoctos (pos (yoctos_in unit)) }
+    ensures rest { result.1 ≡ int_rem_euclid yoctos (pos (yoctos_in unit)) }
 {
     match unit {
-        TimeUnit::Second => (
-            nanos.div_euclid(1_000_000_000),
-            nanos.rem_euclid(1_000_000_000),
-        ),
-        TimeUnit::Millisecond => (nanos.div_euclid(1_000_000), nanos.rem_euclid(1_000_000)),
-        TimeUnit::Microsecond => (nanos.div_euclid(1_000), nanos.rem_euclid(1_000)),
-        TimeUnit::Nanosecond => (nanos.div_euclid(1), nanos.rem_euclid(1)),
+        TimeUnit::Second => (yoctos.div_euclid(SECOND), yoctos.rem_euclid(SECOND)),
+        TimeUnit::Millisecond => (yoctos.div_euclid(MILLI), yoctos.rem_euclid(MILLI)),
+        TimeUnit::Microsecond => (yoctos.div_euclid(MICRO), yoctos.rem_euclid(MICRO)),
+        TimeUnit::Nanosecond => (yoctos.div_euclid(NANO), yoctos.rem_euclid(NANO)),
     }
 }
 
-// The nanoseconds from 1970-01-01 00:00:00 to what a text says, with or without a `Z`.
+// The yoctoseconds from 1970-01-01 00:00:00 to what a text says, with or without a `Z`.
 fn stamp_in(zoned: bool, text: &[u8]) -> Option<i128>
     ensures { result ≡ stamp_in zoned text.now }
 {
@@ -72,31 +78,31 @@ fn moment_in(text: &[u8]) -> Option<i128>
         return None;
     }
     let day = day_of_bytes(&text[..10])?;
-    let nanos = time_in(&text[11..])?;
-    Some(i128::from(day) * 86_400_000_000_000 + i128::from(nanos))
+    let time = time_in(&text[11..])?;
+    Some(i128::from(day) * (86_400 * SECOND) + time as i128)
 }
 
-// The nanoseconds since a day began.
+// The yoctoseconds since a day began.
 fn day_time_in(text: &[u8]) -> Option<i128>
     ensures { result ≡ option_map pos (time_in text.now) }
 {
     match time_in(text) {
-        Some(nanos) => Some(i128::from(nanos)),
+        Some(yoctos) => Some(yoctos as i128),
         None => None,
     }
 }
 
 // The same, of a clock and a fraction of a second.
-fn time_in(text: &[u8]) -> Option<u64>
+fn time_in(text: &[u8]) -> Option<u128>
     ensures value { result ≡ time_in text.now }
-    ensures small { IfSome result (λ nanos. nanos < 86400000000000) }
+    ensures small { IfSome result (λ yoctos. yoctos < 86400000000000000000000000000) }
 {
     if text.len() < 8 {
         return None;
     }
     let seconds = clock_in(&text[..8])?;
-    let nanos = fraction_in(&text[8..])?;
-    Some(u64::from(seconds) * 1_000_000_000 + u64::from(nanos))
+    let yoctos = fraction_in(&text[8..])?;
+    Some(u128::from(seconds) * 1_000_000_000_000_000_000_000_000 + yoctos)
 }
 
 // The seconds of a day that a text says.
@@ -135,26 +141,30 @@ fn seconds_of(hour: u8, minute: u8, second: u8) -> Option<u32>
     }
 }
 
-// The nanoseconds that a fraction of a second says.
-fn fraction_in(text: &[u8]) -> Option<u32>
+// The yoctoseconds that a fraction of a second says.
+fn fraction_in(text: &[u8]) -> Option<u128>
     ensures value { result ≡ fraction_in text.now }
-    ensures small { IfSome result (λ nanos. nanos < 1000000000) }
+    ensures small { IfSome result (λ yoctos. yoctos < 1000000000000000000000000) }
 {
     if !is_fraction_form(text) {
         return None;
     }
-    let micros = 1_000 * three_digits(text, 1) + three_digits(text, 4);
-    Some(1_000 * micros + three_digits(text, 7))
+    let nanos = 1_000_000 * three_digits(text, 1)
+        + (1_000 * three_digits(text, 4) + three_digits(text, 7));
+    let attos = 1_000_000 * three_digits(text, 10)
+        + (1_000 * three_digits(text, 13) + three_digits(text, 16));
+    let yoctos = 1_000 * three_digits(text, 19) + three_digits(text, 22);
+    Some((nanos * 1_000_000_000 + attos) * 1_000_000 + yoctos)
 }
 
-// Whether no byte stands there, or a point and 1 to 9 digits.
+// Whether no byte stands there, or a point and 1 to 24 digits.
 fn is_fraction_form(text: &[u8]) -> bool
     ensures { result ≡ is_fraction_form text.now }
 {
     if text.is_empty() {
         return true;
     }
-    text[0] == b'.' && (2 <= text.len() && text.len() <= 10) && are_digits(&text[1..])
+    text[0] == b'.' && (2 <= text.len() && text.len() <= 25) && are_digits(&text[1..])
 }
 
 // Whether each byte is a digit.
@@ -165,8 +175,8 @@ fn are_digits(text: &[u8]) -> bool
 }
 
 // The number that three digits say, from one place on.
-fn three_digits(text: &[u8], at: usize) -> u32
-    requires near { at ≤ 7 }
+fn three_digits(text: &[u8], at: usize) -> u128
+    requires near { at ≤ 22 }
     requires form { IsTrue (is_fraction_form text.now) }
     requires after { 1 ≤ at }
     ensures value { result ≡ three_digits text.now at }
@@ -176,14 +186,14 @@ fn three_digits(text: &[u8], at: usize) -> u32
 }
 
 // The digit at a place, and 0 where the text has ended.
-fn digit_at(text: &[u8], at: usize) -> u32
+fn digit_at(text: &[u8], at: usize) -> u128
     requires form { IsTrue (is_fraction_form text.now) }
     requires after { 1 ≤ at }
     ensures value { result ≡ digit_at text.now at }
     ensures small { result < 10 }
 {
     if at < text.len() {
-        u32::from(text[at] - b'0')
+        u128::from(text[at] - b'0')
     } else {
         0
     }
