@@ -42,6 +42,13 @@ per_second Millisecond = 1000
 per_second Microsecond = 1000000
 per_second Nanosecond = 1000000000
 
+-- how many yoctoseconds a unit has; a second has 10^24
+abbrev pub yoctos_in : TimeUnit → ℕ
+yoctos_in Second = 1000000000000000000000000
+yoctos_in Millisecond = 1000000000000000000000
+yoctos_in Microsecond = 1000000000000000000
+yoctos_in Nanosecond = 1000000000000000
+
 -- the numbers that the times of a day lie in
 abbrev pub time_integer : TimeUnit → IntegerType
 time_integer Second = Int32

@@ -3,7 +3,9 @@
 ghost use Rattle.std.specs.Prelude.{◌≡◌};
 ghost use Rattle.arrow_types.specs.Answer.{answered_at, copied_type};
 ghost use Rattle.arrow_types.specs.DataType.{bit_width, cell_of, is_signed, same_number};
-ghost use Rattle.arrow_types.specs.DataType.{per_second, time_integer};
+ghost use Rattle.std.specs.Prelude.{pos};
+ghost use Rattle.std.specs.Int.{int_div_euclid, int_rem_euclid};
+ghost use Rattle.arrow_types.specs.DataType.{per_second, time_integer, yoctos_in};
 
 /// The whole numbers of fixed width.
 #[derive(Clone, Copy, Debug, PartialEq, Eq)]
@@ -25,6 +27,15 @@ pub struct DictionaryEncoding {
     pub id: u64,
     pub index: IntegerType,
 }
+
+// How many yoctoseconds the units have.
+const SECOND: i128 = 1_000_000_000_000_000_000_000_000;
+
+const MILLI: i128 = 1_000_000_000_000_000_000_000;
+
+const MICRO: i128 = 1_000_000_000_000_000_000;
+
+const NANO: i128 = 1_000_000_000_000_000;
 
 /// What times are counted in.
 #[derive(Clone, Copy, Debug, PartialEq, Eq)]
@@ -103,6 +114,20 @@ impl TimeUnit {
             TimeUnit::Millisecond => 1_000,
             TimeUnit::Microsecond => 1_000_000,
             TimeUnit::Nanosecond => 1_000_000_000,
+        }
+    }
+
+    /// How often a number of yoctoseconds, of which a second has 10^24, has this unit, rounded down,
+    /// and what is left.
+    pub fn parts(self, yoctos: i128) -> (i128, i128)
+        ensures whole { result.0 ≡ int_div_euclid yoctos (pos (yoctos_in self)) }
+        ensures rest { result.1 ≡ int_rem_euclid yoctos (pos (yoctos_in self)) }
+    {
+        match self {
+            TimeUnit::Second => (yoctos.div_euclid(SECOND), yoctos.rem_euclid(SECOND)),
+            TimeUnit::Millisecond => (yoctos.div_euclid(MILLI), yoctos.rem_euclid(MILLI)),
+            TimeUnit::Microsecond => (yoctos.div_euclid(MICRO), yoctos.rem_euclid(MICRO)),
+            TimeUnit::Nanosecond => (yoctos.div_euclid(NANO), yoctos.rem_euclid(NANO)),
         }
     }
 

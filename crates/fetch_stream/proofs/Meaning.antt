@@ -6,8 +6,7 @@ use Rattle.arrow_types.specs.declared.schema.Schema.{Schema}
 use Rattle.sql_text.specs.Standard.{Lexeme}
 use Rattle.sql_text.specs.Reading.{tokens_in}
 use Rattle.sql_query.specs.Sentence.{Sentence}
-use Rattle.sql_parse.specs.Parse.{Refuses, Parsed}
-use Rattle.sql_parse.specs.Tokens.{mark_of}
+use Rattle.sql_parse.specs.Parse.{Refuses, Parsed, marks_of}
 use Rattle.sql_parse.proofs.OneAnswer.{not_both}
 use Rattle.table_versions.specs.Table.{Row, Table}
 use Rattle.table_versions.specs.Database.{Database}
@@ -24,11 +23,11 @@ use Rattle.flight_info.proofs.Meaning.{Says, same_ok, one_sentence}
 refused_says_none : (text : List ℕ) (fault : Fault) (s : Sentence) → fault ≢ OutOfMemory → Parsed {X = Sentence} (λ s. s) text (Err fault) → Says text s → ⊥
 refused_says_none text fault s other parsed says = by (parsed other)
   where
-    by : (tokens_in text ≡ Err fault) ⊎ ((lexemes : List Lexeme) × (tokens_in text ≡ Ok lexemes) × Refuses (map mark_of lexemes) (length text) fault) → ⊥
+    by : (tokens_in text ≡ Err fault) ⊎ ((lexemes : List Lexeme) × (tokens_in text ≡ Ok lexemes) × Refuses (marks_of lexemes) (length text) fault) → ⊥
     by (inl e) = let both = sym says.1 ∙ e in cc
     by (inr q) =
         let same : says.0 ≡ q.0 = same_ok (tokens_in text) says.0 q.0 says.1 q.1 in
-        not_both (map mark_of says.0) (length text) s fault says.2 (rw (← same) at q.2)
+        not_both (marks_of says.0) (length text) s fault says.2 (rw (← same) at q.2)
 
 -- a text that is refused by the rules of parsing and binding means nothing
 pub misses_mean_nothing : (database : Database) (from to : ℕ) (text : List ℕ) (fault : Fault) → fault ≢ OutOfMemory → Misses database (rows_of text) fault

@@ -13,8 +13,7 @@ use Rattle.sql_query.specs.declared.query.Place.{Place}
 use Rattle.sql_query.specs.declared.query.Query.{Query as ParsedQuery}
 use Rattle.sql_query.specs.Names.{IsName as IsQueryName, ItemHasNames, SelectHasNames}
 use Rattle.sql_query.specs.Sentence.{Sentence, sentence_of, is_grouped}
-use Rattle.sql_parse.specs.Parse.{Parsed}
-use Rattle.sql_parse.specs.Tokens.{mark_of}
+use Rattle.sql_parse.specs.Parse.{Parsed, marks_of}
 use Rattle.sql_parse.proofs.Printed.{sentence_of_shallow}
 use Rattle.table_versions.specs.Table.{Name}
 use Rattle.table_versions.specs.Database.{Database, table_at}
@@ -40,7 +39,7 @@ pub one_sentence : (text : List ℕ) (s other : Sentence) → Says text s → Sa
 one_sentence text s other a b =
     let same : a.0 ≡ b.0 = same_ok (tokens_in text) a.0 b.0 a.1 b.1 in
     let shallow = rw (← same) at b.2.shallow in
-    sym (a.2.only other (sentence_of_shallow (map mark_of a.0) other shallow))
+    sym (a.2.only other (sentence_of_shallow (marks_of a.0) other shallow))
 
 -- ---- what is planned
 

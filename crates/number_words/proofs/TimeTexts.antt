@@ -9,10 +9,11 @@ use Rattle.std.proofs.lemmas.List.{length-append}
 use Rattle.jiff_core.proofs.SignedLemmas.{signed_arith}
 use Rattle.arrow_types.specs.declared.data_type.TimeUnit.{TimeUnit}
 use Rattle.arrow_types.specs.declared.data_type.TimeUnit.TheVariants.{Second, Millisecond, Microsecond, Nanosecond}
+use Rattle.arrow_types.specs.DataType.{yoctos_in}
 use Rattle.number_words.specs.Dates.{day_in, two_digits}
 use Rattle.number_words.specs.DateText.{date_text, date_of, has_date, DayReadsBack}
-use Rattle.number_words.specs.Times.{is_clock_form, seconds_of, clock_in, is_fraction_form, fraction_in, time_of, time_in, moment_of, moment_in, stamp_in, yoctos_in, per_day, in_unit, timestamp_said, time_said}
-use Rattle.number_words.specs.TimeText.{in_three_digits, clock_text, time_text, is_time, day_at, time_at, zone_text, timestamp_text}
+use Rattle.number_words.specs.Times.{is_clock_form, seconds_of, clock_in, is_fraction_form, fraction_in, time_of, time_in, moment_of, moment_in, stamp_in, per_day, in_unit, timestamp_said, time_said}
+use Rattle.number_words.specs.TimeText.{in_three_digits, clock_text, time_text, is_time, day_at, time_in_day, zone_text, timestamp_text}
 use Rattle.number_words.proofs.Parts.{from_to-parts}
 use Rattle.number_words.proofs.Texts.{all, digit_stands, said, two_stand_there}
 
@@ -104,14 +105,14 @@ whole_unit Nanosecond n m e =
     rw none (ap Some whole)
 
 -- the time since a day began is one of a day
-in_day : (unit : TimeUnit) (n : ℤ) → time_at unit n < per_day unit
+in_day : (unit : TimeUnit) (n : ℤ) → time_in_day unit n < per_day unit
 in_day Second n = omega (arith, signed_arith)
 in_day Millisecond n = omega (arith, signed_arith)
 in_day Microsecond n = omega (arith, signed_arith)
 in_day Nanosecond n = omega (arith, signed_arith)
 
 -- a day and the time since it began make the timestamp
-yoctos_are : (unit : TimeUnit) (n : ℤ) → day_at unit n *ℤ pos 86400000000000000000000000000 +ℤ pos (time_at unit n * yoctos_in unit) ≡ n *ℤ pos (yoctos_in unit)
+yoctos_are : (unit : TimeUnit) (n : ℤ) → day_at unit n *ℤ pos 86400000000000000000000000000 +ℤ pos (time_in_day unit n * yoctos_in unit) ≡ n *ℤ pos (yoctos_in unit)
 yoctos_are Second n = omega (arith, signed_arith)
 yoctos_are Millisecond n = omega (arith, signed_arith)
 yoctos_are Microsecond n = omega (arith, signed_arith)
@@ -159,10 +160,10 @@ zone_back true xs = rw (without_last xs 90, last_byte xs 90, front_bytes xs 90) 
 pub timestamp_reads : (unit : TimeUnit) (zoned : Bool) (n : ℤ) → DayReadsBack (day_at unit n) → IsTrue (has_date (day_at unit n)) →
     timestamp_said unit zoned (timestamp_text unit zoned n) ≡ Some n
 timestamp_reads unit zoned n day is =
-    let time = time_back unit (time_at unit n) (in_day unit n) in
-    let yoctos : ℤ = day_at unit n *ℤ pos 86400000000000000000000000000 +ℤ pos (time_at unit n * yoctos_in unit) in
-    let read : moment_of (day_in (date_of (day_at unit n))) (time_in (time_text unit (time_at unit n))) ≡ Some yoctos = rw (day is, time) refl in
-    let whole = zone_back zoned (date_of (day_at unit n) ++ (byte " " ∷ time_text unit (time_at unit n)))
-    ∙ moment_parts _ _ _ (time_text unit (time_at unit n))
+    let time = time_back unit (time_in_day unit n) (in_day unit n) in
+    let yoctos : ℤ = day_at unit n *ℤ pos 86400000000000000000000000000 +ℤ pos (time_in_day unit n * yoctos_in unit) in
+    let read : moment_of (day_in (date_of (day_at unit n))) (time_in (time_text unit (time_in_day unit n))) ≡ Some yoctos = rw (day is, time) refl in
+    let whole = zone_back zoned (date_of (day_at unit n) ++ (byte " " ∷ time_text unit (time_in_day unit n)))
+    ∙ moment_parts _ _ _ (time_text unit (time_in_day unit n))
     ∙ read in
     ap (in_unit unit) whole ∙ whole_unit unit n yoctos (yoctos_are unit n)

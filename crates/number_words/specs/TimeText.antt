@@ -43,8 +43,8 @@ time_within unit number =
 abbrev pub day_at : TimeUnit → ℤ → ℤ
 day_at unit number = int_div_euclid number (pos (per_day unit))
 
-abbrev pub time_at : TimeUnit → ℤ → ℕ
-time_at unit number = unsigned_abs (int_rem_euclid number (pos (per_day unit)))
+abbrev pub time_in_day : TimeUnit → ℤ → ℕ
+time_in_day unit number = unsigned_abs (int_rem_euclid number (pos (per_day unit)))
 
 abbrev pub zone_text : Bool → List ℕ
 zone_text true = codes "Z"
@@ -53,7 +53,7 @@ zone_text false = []
 -- a timestamp as a date, a space, a time and its zone
 abbrev pub timestamp_text : TimeUnit → Bool → ℤ → List ℕ
 timestamp_text unit zoned number = (date_of (day_at unit number)
-    ++ (byte " " ∷ time_text unit (time_at unit number))) ++ zone_text zoned
+    ++ (byte " " ∷ time_text unit (time_in_day unit number))) ++ zone_text zoned
 
 -- the same, where its day is of the years 1 to 9999
 abbrev pub timestamp_within : TimeUnit → Bool → ℤ → Option (List ℕ)

@@ -10,6 +10,7 @@ use Rattle.std.specs.Str.{byte}
 use Rattle.arrow_types.specs.declared.data_type.TimeUnit.{TimeUnit}
 use Rattle.arrow_types.specs.declared.data_type.TimeUnit.TheVariants.{Second, Millisecond}
 use Rattle.arrow_types.specs.declared.data_type.TimeUnit.TheVariants.{Microsecond, Nanosecond}
+use Rattle.arrow_types.specs.DataType.{yoctos_in}
 use Rattle.number_words.specs.Dates.{day_in, two_digits, two_stand}
 
 -- ---- what is read: yoctoseconds, of which a second has 10^24
@@ -82,14 +83,15 @@ stamp_in false text = moment_in text
 stamp_in true text = if slice_index text (length text - 1) == byte "Z"
     then moment_in (take (length text - 1) text) else None
 
--- ---- units
+-- the same of a literal's text, with or without Z
+abbrev pub literal_stamp : List ℕ → Option ℤ
+literal_stamp text = stamp_in (slice_index text (length text - 1) == byte "Z") text
 
--- how many yoctoseconds a unit has
-abbrev pub yoctos_in : TimeUnit → ℕ
-yoctos_in Second = 1000000000000000000000000
-yoctos_in Millisecond = 1000000000000000000000
-yoctos_in Microsecond = 1000000000000000000
-yoctos_in Nanosecond = 1000000000000000
+-- the yoctoseconds since a day began, of a literal's text
+abbrev pub literal_time : List ℕ → Option ℤ
+literal_time text = option_map pos (time_in text)
+
+-- ---- units
 
 -- how many of a unit a day has
 abbrev pub per_day : TimeUnit → ℕ
@@ -109,4 +111,4 @@ abbrev pub timestamp_said : TimeUnit → Bool → List ℕ → Option ℤ
 timestamp_said unit zoned text = in_unit unit (stamp_in zoned text)
 
 abbrev pub time_said : TimeUnit → List ℕ → Option ℤ
-time_said unit text = in_unit unit (option_map pos (time_in text))
+time_said unit text = in_unit unit (literal_time text)

@@ -12,4 +12,5 @@ mod words;
 pub use crate::calendar::day_in;
 pub use crate::number_text::NumberText;
 pub use crate::reading::read;
+pub use crate::times::{literal_stamp, literal_time};
 pub use crate::words::{TYPES_TRIED, keyword, type_named, word};

@@ -22,7 +22,10 @@ use Rattle.sql_query.specs.Sentence.{place_name}
 use Rattle.table_versions.specs.Table.{Table}
 use Rattle.table_versions.specs.Database.{Database, table_at}
 use Rattle.typed_plan.specs.declared.class.Class.{Class}
-use Rattle.typed_plan.specs.Class.{literal_class, literal_value, bound_class, value_class}
+use Rattle.typed_plan.specs.Class.{literal_class, literal_value, bound_class, number_class, value_class}
+use Rattle.typed_plan.specs.declared.class.Class.TheVariants.{Number}
+use Rattle.arrow_types.specs.declared.data_type.NumberType.{NumberType}
+use Rattle.arrow_types.specs.declared.data_type.NumberType.TheVariants as number
 use Rattle.typed_plan.specs.Scope.{Scope, ScopeColumn, stands_for, named_numbers, the_only, column_of, numbered, number_in}
 use Rattle.typed_plan.specs.Scope.{term_operand}
 use Rattle.typed_plan.specs.Faults.{fault_in, operand_class}
@@ -99,12 +102,24 @@ class_follows scope name class = of_result (column_of scope name) (meant_within 
         ∙ sym (ap (λ (column : Option ScopeColumn). Ok (bound_class (class_at column))) there)
         ∙ ap (λ (found : Class). Ok (bound_class found)) meant
 
+-- a number has the class that is left of its type's
+number_bound : (kind : NumberType) → Number ≡ bound_class (number_class kind)
+number_bound (number.Integer integer) = refl
+number_bound number.Decimal = refl
+number_bound number.Date = refl
+number_bound (number.Timestamp unit zoned) = refl
+number_bound (number.Time unit) = refl
+number_bound (number.Duration unit) = refl
+
 -- the value of a literal has its class
 literal_bound : (l : Literal) → value_class (literal_value l) ≡ bound_class (literal_class l)
 literal_bound (literal.Text bytes) = refl
 literal_bound (literal.Truth flag) = refl
 literal_bound (literal.Number number) = refl
 literal_bound (literal.Date day) = refl
+literal_bound (literal.Timestamp yoctos) = refl
+literal_bound (literal.Time yoctos) = refl
+literal_bound (literal.Typed kind number) = number_bound kind
 
 -- the class of a term is that of what stands for it
 pub term_follows : (scope : Scope) (written : Term) →

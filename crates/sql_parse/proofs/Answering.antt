@@ -24,6 +24,8 @@ use Rattle.sql_parse.proofs.Told.{Told}
 use Rattle.sql_parse.specs.Parse.{Answered, Parsed}
 use Rattle.sql_text.specs.Reading.{tokens_in}
 use Rattle.sql_text.specs.Calls.{lexeme_of}
+use Rattle.sql_text.specs.LiteralWords.{with_literals}
+use Rattle.sql_text.specs.Standard.{Lexeme}
 use Rattle.std.proofs.Common.{zero, suc, append_assoc}
 use Rattle.std.proofs.lemmas.List.{take-take, take-append-drop, length-take-le}
 use Rattle.sql_parse.specs.Tokens.{Mark, mark, mark_of, marks}
@@ -276,15 +278,15 @@ marks_same : (xs : List Token) → map mark_of (map lexeme_of xs) ≡ marks xs
 marks_same [] = refl
 marks_same (x ∷ xs) = ap (λ (z : List Mark). mark x ∷ z) (marks_same xs)
 
-pub parsed_by : {X : Type 0} (view : X → Sentence) (text : List ℕ) (xs : List Token) (r : Result X Fault) →
-    tokens_in text ≡ Ok (map lexeme_of xs) → Answered view (marks xs) (length text) r → Parsed view text r
-parsed_by view text xs (Ok x) e a =
-    (map lexeme_of xs, e, subst (λ (z : List Mark). Accepts z (view x)) (sym (marks_same xs)) a)
-parsed_by view text xs (Err fault) e a =
+pub parsed_by : {X : Type 0} (view : X → Sentence) (text : List ℕ) (lexemes : List Lexeme) (xs : List Token) (r : Result X Fault) →
+    tokens_in text ≡ Ok lexemes → map lexeme_of xs ≡ with_literals lexemes → Answered view (marks xs) (length text) r → Parsed view text r
+parsed_by view text lexemes xs (Ok x) e begun a =
+    (lexemes, e, subst (λ (z : List Mark). Accepts z (view x)) (sym (marks_same xs) ∙ ap (map mark_of) begun) a)
+parsed_by view text lexemes xs (Err fault) e begun a =
     λ ne. inr (
-      map lexeme_of xs,
+      lexemes,
       e,
-      subst (λ (z : List Mark). Refuses z (length text) fault) (sym (marks_same xs)) (a ne),
+      subst (λ (z : List Mark). Refuses z (length text) fault) (sym (marks_same xs) ∙ ap (map mark_of) begun) (a ne),
     )
 
 pub fits : (n : ℕ) → n ≤ 16384 → Fits w32 n

@@ -35,7 +35,7 @@ use Rattle.sql_parse.specs.Answers.{seen}
 use Rattle.sql_parse.specs.QuerySteps.{whole_at, ended}
 use Rattle.sql_parse.specs.FactoredGrammar.{compared, nulled, ranged, among, tail, forms, primary, test, factor_by_operand}
 use Rattle.sql_parse.specs.Limits.{counted, is_past, is_long_name, passes}
-use Rattle.sql_parse.specs.Parse.{IsSentence, IsShallow, fault_or, Refuses, Answered, Parsed}
+use Rattle.sql_parse.specs.Parse.{IsSentence, IsShallow, fault_or, Refuses, Answered, Parsed, marks_of}
 use Rattle.sql_parse.specs.Productions.{name, column, minus, digits, date, number, string, literal, operand}
 use Rattle.sql_parse.specs.Productions.{compare, negated}
 use Rattle.sql_parse.specs.PredicateProductions.{conj}
@@ -77,7 +77,7 @@ answered end ts (Err refusal.OutOfMemory) = Err OutOfMemory
 -- the same, of a text whose tokens are these
 abbrev answer_of : ℕ → Result (List Lexeme) Fault → Result Sentence Fault
 answer_of end (Err fault) = Err fault
-answer_of end (Ok lexemes) = answered end (map mark_of lexemes) (outcome (map mark_of lexemes))
+answer_of end (Ok lexemes) = answered end (marks_of lexemes) (outcome (marks_of lexemes))
 
 answer : List ℕ → Result Sentence Fault
 unfolding tokens_in tokens_from tokens_within front_at mark_front pair single word_kind number_of unquoted same_word
@@ -148,14 +148,14 @@ unfolding whole_at
 outcome_told ts = subst (λ a. Told (λ s. s) ts (ended a)) (sym (query_same 64 ts)) (whole_told ts)
 
 of_text : (text : List ℕ) (lexemes : List Lexeme) (r : Result Sentence Fault) → tokens_in text ≡ Ok lexemes →
-    Answered (λ s. s) (map mark_of lexemes) (length text) r → Parsed (λ s. s) text r
+    Answered (λ s. s) (marks_of lexemes) (length text) r → Parsed (λ s. s) text r
 of_text text lexemes (Ok s) e a = (lexemes, e, a)
 of_text text lexemes (Err fault) e a = λ ne. inr (lexemes, e, a ne)
 
 of_tokens : (text : List ℕ) (tokens : Result (List Lexeme) Fault) → tokens_in text ≡ tokens →
     Parsed (λ s. s) text (answer_of (length text) tokens)
 of_tokens text (Ok lexemes) e =
-    let ts = map mark_of lexemes in
+    let ts = marks_of lexemes in
     of_text text lexemes (answered (length text) ts (outcome ts)) e
     (answers ts (length text) (outcome ts) (outcome_told ts))
 of_tokens text (Err fault) e = λ ne. inl e
@@ -221,6 +221,20 @@ year_0 = worked refl
 no_string : Means (codes "SELECT d FROM t WHERE d = DATE 5") (Err (BadSql 31))
 unfolding answer
 no_string = worked refl
+
+-- ---- timestamps and times: words in front of a string, and names elsewhere
+
+no_hour : Means (codes "SELECT d FROM t WHERE d < TIME '24:00:00'") (Err (BadSql 31))
+unfolding answer
+no_hour = worked refl
+
+no_day : Means (codes "SELECT d FROM t WHERE d < timestamp '2024-02-30 12:00:00'") (Err (BadSql 36))
+unfolding answer
+no_day = worked refl
+
+no_literal_here : Means (codes "SELECT d FROM t GROUP BY TIME '12:00:00'") (Err NotInSubset)
+unfolding answer
+no_literal_here = worked refl
 
 -- where no operand may stand the word is left out
 no_operand : Means (codes "SELECT d FROM DATE") (Err NotInSubset)

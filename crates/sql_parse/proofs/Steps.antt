@@ -18,14 +18,14 @@ use Rattle.scan_base.specs.Predicate.{conjunction, disjunction, negation}
 use Rattle.grammar.specs.Rule.{many, make}
 use Rattle.grammar.proofs.Deep.{flat_alike}
 use Rattle.sql_query.specs.declared.query.Term.{Term}
-use Rattle.sql_parse.specs.Productions.{name, column, minus, digits, date, number, string, literal, operand}
+use Rattle.sql_parse.specs.Productions.{name, column, minus, digits, date, timestamp, time, number, string, literal, operand}
 use Rattle.sql_parse.specs.Productions.{compare}
 use Rattle.sql_parse.specs.Notation.{Condition}
 use Rattle.sql_parse.specs.Productions.{negated}
 use Rattle.sql_parse.specs.PredicateProductions.{truth_value, conj, pred, inner}
 use Rattle.sql_parse.specs.Notation.{a_word, a_symbol, ◌⊳◌, ◌⊲◌}
 use Rattle.sql_parse.specs.FactoredGrammar.{compared, nulled, ranged, among, tail, forms, primary, test, factor_by_operand}
-use Rattle.sql_parse.specs.Steps.{at, token_at, name_at, column_at, minus_at, numbered, digits_at, date_at, number_at}
+use Rattle.sql_parse.specs.Steps.{at, token_at, name_at, column_at, minus_at, numbered, digits_at, date_at, timestamp_at, time_at, number_at}
 use Rattle.sql_parse.specs.Steps.{literal_at, operand_at, compare_at}
 use Rattle.sql_parse.specs.PredicateSteps.{negated_at, truth_at, compared_at, nulled_at, ranged_at}
 use Rattle.sql_parse.specs.PredicateSteps.{operands_at, among_at, tail_at, factor_at, ands_at, conj_at, ors_at, pred_at}
@@ -92,6 +92,14 @@ date_same : (D : Nest) (ts : List Mark) → seen (reads D date ts) ≡ date_at t
 unfolding date date_at token_at
 date_same D ts = simp (flat, seen_kept, then_same)
 
+timestamp_same : (D : Nest) (ts : List Mark) → seen (reads D timestamp ts) ≡ timestamp_at ts
+unfolding timestamp_at token_at
+timestamp_same D ts = simp (flat, seen_kept, then_same)
+
+time_same : (D : Nest) (ts : List Mark) → seen (reads D time ts) ≡ time_at ts
+unfolding time_at token_at
+time_same D ts = simp (flat, seen_kept, then_same)
+
 number_same : (D : Nest) (ts : List Mark) → seen (reads D number ts) ≡ number_at ts
 unfolding number number_at token_at
 number_same D ts = simp (flat, minus_same, digits_same)
@@ -104,9 +112,17 @@ date_starts : (ts : List Mark) → begins (starts date) ts ≡ at (is_word word.
 unfolding date at
 date_starts ts = refl
 
+timestamp_starts : (ts : List Mark) → begins (starts timestamp) ts ≡ at (is_word word.Timestamp) ts
+unfolding at
+timestamp_starts ts = refl
+
+time_starts : (ts : List Mark) → begins (starts time) ts ≡ at (is_word word.Time) ts
+unfolding at
+time_starts ts = refl
+
 literal_same : (D : Nest) (ts : List Mark) → seen (reads D literal ts) ≡ literal_at ts
 unfolding literal literal_at token_at at string
-literal_same D ts = simp (flat, date_starts, date_same, number_same)
+literal_same D ts = simp (flat, date_starts, date_same, timestamp_starts, timestamp_same, time_starts, time_same, number_same)
 
 pub operand_same : (D : Nest) (ts : List Mark) → seen (reads D operand ts) ≡ operand_at ts
 unfolding operand operand_at

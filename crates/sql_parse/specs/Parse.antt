@@ -7,6 +7,7 @@ use Rattle.scan_base.specs.declared.fault.Fault.TheVariants.{OutOfMemory, LimitR
 use Rattle.scan_base.specs.declared.fault.Fault.TheVariants.{BadSql}
 use Rattle.sql_text.specs.Standard.{Lexeme}
 use Rattle.sql_text.specs.Reading.{tokens_in}
+use Rattle.sql_text.specs.LiteralWords.{with_literals}
 use Rattle.sql_text.specs.Words.{is_left_out}
 use Rattle.grammar.specs.Rule.{Language, Spells, Nested, Any}
 use Rattle.grammar.specs.Sentence.{Begins, Offends}
@@ -72,11 +73,15 @@ abbrev pub Answered : {X : Type 0} → (X → Sentence) → List Mark → ℕ �
 Answered view ts end (Ok x) = Accepts ts (view x)
 Answered view ts end (Err fault) = fault ≢ OutOfMemory → Refuses ts end fault
 
+-- the tokens of a text as the grammar sees them, with the words of literals
+abbrev pub marks_of : List Lexeme → List Mark
+marks_of lexemes = map mark_of (with_literals lexemes)
+
 -- what parsing a text gave: a fault of its tokens, or what its tokens say
 abbrev pub Parsed : {X : Type 0} → (X → Sentence) → List ℕ → Result X Fault → Type 0
 Parsed view text (Ok x) =
-    (lexemes : List Lexeme) × (tokens_in text ≡ Ok lexemes) × Accepts (map mark_of lexemes) (view x)
+    (lexemes : List Lexeme) × (tokens_in text ≡ Ok lexemes) × Accepts (marks_of lexemes) (view x)
 Parsed view text (Err fault) =
     fault ≢ OutOfMemory → (tokens_in text ≡ Err fault)
     ⊎ ((lexemes : List Lexeme) × (tokens_in text ≡ Ok lexemes)
-    × Refuses (map mark_of lexemes) (length text) fault)
+    × Refuses (marks_of lexemes) (length text) fault)

@@ -10,12 +10,15 @@ use Rattle.grammar.specs.Rule.{one, empty, both, either, make}
 use Rattle.sql_query.specs.declared.query.ColumnName.{ColumnName}
 use Rattle.sql_query.specs.declared.query.Literal.{Literal}
 use Rattle.sql_query.specs.declared.query.Literal.TheVariants.{Text, Truth, Number, Date}
+use Rattle.sql_query.specs.declared.query.Literal.TheVariants.{Timestamp, Time}
 use Rattle.sql_query.specs.declared.query.Term.{Term}
 use Rattle.sql_query.specs.declared.query.Term.TheVariants as term
 use Rattle.number_words.specs.Dates.{day_in}
+use Rattle.number_words.specs.Times.{literal_stamp, literal_time}
 use Rattle.sql_text.specs.Words.{is_name}
 use Rattle.sql_parse.specs.Tokens.{is_string, is_digits}
 use Rattle.sql_parse.specs.Tokens.{name_token, string_token, digits_token, date_token}
+use Rattle.sql_parse.specs.Tokens.{timestamp_token, time_token}
 use Rattle.sql_text.specs.Calls.{said, numeral}
 use Rattle.sql_parse.specs.Notation.{Of, a_word, a_symbol, word_for, symbol_for, ◌⊳◌}
 use Rattle.sql_parse.specs.Notation.{maybe}
@@ -60,11 +63,20 @@ string = one is_string (λ t. Some (said t.0 t.1.1)) string_token
 unfoldable pub date : Of ℤ
 date = a_word word.Date ⊳ one is_string (λ t. day_in (said t.0 t.1.1)) date_token
 
--- DATE string | string | TRUE | FALSE | number
+-- TIMESTAMP string, where the string is a timestamp: its yoctoseconds
+abbrev pub timestamp : Of ℤ
+timestamp = a_word word.Timestamp
+    ⊳ one is_string (λ t. literal_stamp (said t.0 t.1.1)) timestamp_token
+
+-- TIME string, where the string is a time of a day: its yoctoseconds
+abbrev pub time : Of ℤ
+time = a_word word.Time ⊳ one is_string (λ t. literal_time (said t.0 t.1.1)) time_token
+
+-- DATE string | TIMESTAMP string | TIME string | string | TRUE | FALSE | number
 unfoldable pub literal : Of Literal
-literal = either (make Date date) (either (make Text string)
-    (either (word_for word.True (Truth true)) (either (word_for word.False (Truth false))
-    (make Number number))))
+literal = either (make Date date) (either (make Timestamp timestamp) (either (make Time time)
+    (either (make Text string) (either (word_for word.True (Truth true))
+    (either (word_for word.False (Truth false)) (make Number number))))))
 
 -- column | literal
 unfoldable pub operand : Of (Operand Term)

@@ -12,10 +12,12 @@ use Rattle.grammar.specs.Reading.{begins, token}
 use Rattle.sql_query.specs.declared.query.ColumnName.{ColumnName}
 use Rattle.sql_query.specs.declared.query.Literal.{Literal}
 use Rattle.sql_query.specs.declared.query.Literal.TheVariants.{Text, Truth, Number, Date}
+use Rattle.sql_query.specs.declared.query.Literal.TheVariants.{Timestamp, Time}
 use Rattle.sql_query.specs.declared.query.Term.{Term}
 use Rattle.sql_query.specs.declared.query.Term.TheVariants as term
 use Rattle.sql_parse.specs.declared.refusal.Refusal.TheVariants as refusal
 use Rattle.number_words.specs.Dates.{day_in}
+use Rattle.number_words.specs.Times.{literal_stamp, literal_time}
 use Rattle.sql_text.specs.Words.{is_name}
 use Rattle.sql_parse.specs.Tokens.{Mark, is_word, is_symbol, is_string, is_digits, value_of}
 use Rattle.sql_parse.specs.Tokens.{number_in}
@@ -73,19 +75,35 @@ date_at ts = do
   t ← token_at is_string w.1
   numbered (day_in (value_of t.0)) w.1 t.1
 
+unfoldable pub timestamp_at : List Mark → Answer ℤ
+timestamp_at ts = do
+  w ← token_at (is_word word.Timestamp) ts
+  t ← token_at is_string w.1
+  numbered (literal_stamp (value_of t.0)) w.1 t.1
+
+unfoldable pub time_at : List Mark → Answer ℤ
+time_at ts = do
+  w ← token_at (is_word word.Time) ts
+  t ← token_at is_string w.1
+  numbered (literal_time (value_of t.0)) w.1 t.1
+
 unfoldable pub literal_at : List Mark → Answer Literal
 literal_at ts =
     if at (is_word word.Date) ts then (do
       d ← date_at ts
-      Ok (Date d.0, d.1)) else (if at is_string ts then (do
-        t ← token_at is_string ts
-        Ok (Text (value_of t.0), t.1)) else (if at (is_word word.True) ts then (do
-          t ← token_at (is_word word.True) ts
-          Ok (Truth true, t.1)) else (if at (is_word word.False) ts then (do
-            t ← token_at (is_word word.False) ts
-            Ok (Truth false, t.1)) else (do
-              n ← number_at ts
-              Ok (Number n.0, n.1)))))
+      Ok (Date d.0, d.1)) else (if at (is_word word.Timestamp) ts then (do
+        s ← timestamp_at ts
+        Ok (Timestamp s.0, s.1)) else (if at (is_word word.Time) ts then (do
+          s ← time_at ts
+          Ok (Time s.0, s.1)) else (if at is_string ts then (do
+            t ← token_at is_string ts
+            Ok (Text (value_of t.0), t.1)) else (if at (is_word word.True) ts then (do
+              t ← token_at (is_word word.True) ts
+              Ok (Truth true, t.1)) else (if at (is_word word.False) ts then (do
+                t ← token_at (is_word word.False) ts
+                Ok (Truth false, t.1)) else (do
+                  n ← number_at ts
+                  Ok (Number n.0, n.1)))))))
 
 unfoldable pub operand_at : List Mark → Answer (Operand Term)
 operand_at ts =

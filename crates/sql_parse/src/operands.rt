@@ -7,7 +7,7 @@ ghost use Rattle.sql_parse.specs.Steps as steps;
 
 use crate::refusal::Refusal;
 use crate::tokens::{Class, Rest};
-use number_words::day_in;
+use number_words::{day_in, literal_stamp, literal_time};
 use scan_base::{Comparison, Operand, Text};
 use sql_query::{ColumnName, Literal, Term};
 use sql_text::{Keyword, Symbol};
@@ -104,7 +104,48 @@ fn date<'t>(alloc: Global, tokens: Rest<'t>) -> Result<(i32, Rest<'t>), Refusal>
     }
 }
 
-// DATE string | string | TRUE | FALSE | number
+// The number, where the tokens before and after it are these.
+fn numbered<'t>(
+    number: Option<i128>,
+    all: Rest<'t>,
+    rest: Rest<'t>,
+) -> Result<(i128, Rest<'t>), Refusal>
+    ensures exact { Gives (λ x. (x.0, unread x.1)) result
+        (steps.numbered number (unread all.entry) (unread rest.entry)) }
+    ensures same { IfOk result (λ x. x.1 ≡ rest.entry) }
+{
+    match number {
+        Some(number) => Ok((number, rest)),
+        None => Err(Refusal::Offends(all.tokens.len())),
+    }
+}
+
+// TIMESTAMP string, where the string is a timestamp: its yoctoseconds
+#[tactic(auto, unfolding(crate::specs::Steps::timestamp_at))]
+fn timestamp<'t>(alloc: Global, tokens: Rest<'t>) -> Result<(i128, Rest<'t>), Refusal>
+    ensures exact { Gives (λ x. (x.0, unread x.1)) result
+        (steps.timestamp_at (unread tokens.entry)) }
+    ensures shorter { IfOk result (λ x. remaining x.1 < remaining tokens.entry) }
+{
+    let (_, behind) = tokens.take(Class::Word(Keyword::Timestamp))?;
+    let (token, rest) = behind.take(Class::String)?;
+    let text = token.value(alloc)?;
+    numbered(literal_stamp(text.as_str()), behind, rest)
+}
+
+// TIME string, where the string is a time of a day: its yoctoseconds
+#[tactic(auto, unfolding(crate::specs::Steps::time_at))]
+fn time<'t>(alloc: Global, tokens: Rest<'t>) -> Result<(i128, Rest<'t>), Refusal>
+    ensures exact { Gives (λ x. (x.0, unread x.1)) result (steps.time_at (unread tokens.entry)) }
+    ensures shorter { IfOk result (λ x. remaining x.1 < remaining tokens.entry) }
+{
+    let (_, behind) = tokens.take(Class::Word(Keyword::Time))?;
+    let (token, rest) = behind.take(Class::String)?;
+    let text = token.value(alloc)?;
+    numbered(literal_time(text.as_str()), behind, rest)
+}
+
+// DATE string | TIMESTAMP string | TIME string | string | TRUE | FALSE | number
 #[tactic(auto, unfolding(crate::specs::Steps::literal_at))]
 fn literal<'t>(alloc: Global, tokens: Rest<'t>) -> Result<(Literal, Rest<'t>), Refusal>
     ensures exact { Gives (λ x. (x.0, unread x.1)) result (steps.literal_at (unread tokens.entry)) }
@@ -113,6 +154,12 @@ fn literal<'t>(alloc: Global, tokens: Rest<'t>) -> Result<(Literal, Rest<'t>), R
     if tokens.at(Class::Word(Keyword::Date)) {
         let (day, rest) = date(alloc, tokens)?;
         Ok((Literal::Date(day), rest))
+    } else if tokens.at(Class::Word(Keyword::Timestamp)) {
+        let (yoctos, rest) = timestamp(alloc, tokens)?;
+        Ok((Literal::Timestamp(yoctos), rest))
+    } else if tokens.at(Class::Word(Keyword::Time)) {
+        let (yoctos, rest) = time(alloc, tokens)?;
+        Ok((Literal::Time(yoctos), rest))
     } else if tokens.at(Class::String) {
         let (token, rest) = tokens.take(Class::String)?;
         Ok((Literal::Text(token.value(alloc)?), rest))

@@ -16,7 +16,7 @@ use crate::refusal::Refusal;
 use crate::tokens::Rest;
 use scan_base::Fault;
 use sql_query::Query;
-use sql_text::Token;
+use sql_text::{Token, with_literals};
 use std::alloc::Global;
 
 /// At most so many parentheses of predicates and prefix NOTs are open at once.
@@ -112,6 +112,7 @@ pub fn parse(alloc: Global, sql: &str) -> Result<Query, Fault>
     ensures first { RefusesFirst result
         (demand (nat_le (length sql.now) most_query_bytes) LimitReached) }
 {
-    let tokens = sql_text::tokens(alloc, sql)?;
+    let found = sql_text::tokens(alloc, sql)?;
+    let tokens = with_literals(alloc, &found)?;
     parse_tokens(alloc, &tokens, sql.len() as u32)
 }

@@ -7,6 +7,7 @@ ghost use Rattle.sql_query.specs.Sentence.{sentence_of, is_aggregate, has_aggreg
 ghost use Rattle.sql_query.specs.Sentence.{place_name};
 ghost use Rattle.sql_query.specs.Sentence.{is_left_out_whole};
 
+use arrow_types::NumberType;
 use scan_base::{Items, Predicate, Text};
 
 /// A column, by its name, or by the name of its place and its own.
@@ -33,6 +34,12 @@ pub enum Literal {
     Number(i128),
     /// The day number of the date after `DATE`, where 1970-01-01 is 0.
     Date(i32),
+    /// The yoctoseconds from 1970-01-01 00:00:00 to what stands after `TIMESTAMP`.
+    Timestamp(i128),
+    /// The yoctoseconds since a day began of what stands after `TIME`.
+    Time(i128),
+    /// A number of a type: what binding makes of the two before next to a column.
+    Typed(NumberType, i128),
 }
 
 /// A side of a comparison as it is written.

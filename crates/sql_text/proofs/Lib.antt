@@ -13,3 +13,4 @@ pub mod Cutting
 pub mod Kept
 pub mod Rows
 pub mod Names
+pub mod LiteralNames

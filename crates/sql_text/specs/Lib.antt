@@ -4,4 +4,5 @@ pub mod Standard
 pub mod Symbols
 pub mod Reading
 pub mod Calls
+pub mod LiteralWords
 pub mod Laws

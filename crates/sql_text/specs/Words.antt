@@ -54,11 +54,14 @@ is_name kind.DelimitedName = true
 is_name _ = false
 
 -- Whether SQL has the token where this server leaves it out: such a token offends with a fault of
--- its own. `NULL` and `DATE` have their place in the grammar, and are left out elsewhere.
+-- its own. `NULL` and the words of literals have their place in the grammar, and are left out
+-- elsewhere.
 abbrev pub is_left_out : TokenKind → Bool
 is_left_out kind.LeftOut = true
 is_left_out (kind.Keyword word.Null) = true
 is_left_out (kind.Keyword word.Date) = true
+is_left_out (kind.Keyword word.Timestamp) = true
+is_left_out (kind.Keyword word.Time) = true
 is_left_out (kind.Symbol symbol.Plus) = true
 is_left_out (kind.Symbol symbol.Minus) = true
 is_left_out (kind.Symbol symbol.Asterisk) = true

@@ -3,6 +3,7 @@
 
 mod front;
 pub mod laws;
+mod literal_words;
 mod number;
 mod scan;
 pub mod symbol;
@@ -10,6 +11,7 @@ pub mod token;
 mod value;
 pub mod word;
 
+pub use crate::literal_words::with_literals;
 pub use crate::scan::{MOST_BYTES, tokens};
 pub use crate::symbol::Symbol;
 pub use crate::token::{Token, TokenKind};

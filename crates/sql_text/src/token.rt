@@ -14,8 +14,8 @@ use std::alloc::{AllocError, Global};
 /// What a token is.
 #[derive(Clone, Copy, Debug, PartialEq, Eq)]
 pub enum TokenKind {
-    /// A word of the grammar, in any case. `NULL` and `DATE` are such words, and left out
-    /// elsewhere.
+    /// A word of the grammar, in any case. `NULL` and `DATE` are such words, and left out elsewhere.
+    /// `TIMESTAMP` and `TIME` are names until [`with_literals`](crate::with_literals).
     Keyword(Keyword),
     /// A word of SQL, in any case, that this server leaves out.
     LeftOut,
@@ -33,14 +33,17 @@ pub enum TokenKind {
 
 impl TokenKind {
     /// Whether SQL has such a token where this server leaves it out: a word that is left out, or an
-    /// operator of arithmetic or `||`. The words `NULL` and `DATE` are left out but for their place
-    /// in the grammar.
+    /// operator of arithmetic or `||`. `NULL`, and the words of literals, are left out but for their
+    /// place in the grammar.
     pub fn is_left_out(self) -> bool
         ensures { result ≡ is_left_out self }
     {
         match self {
             TokenKind::LeftOut => true,
-            TokenKind::Keyword(word) => matches!(word, Keyword::Null | Keyword::Date),
+            TokenKind::Keyword(word) => matches!(
+                word,
+                Keyword::Null | Keyword::Date | Keyword::Timestamp | Keyword::Time
+            ),
             TokenKind::Symbol(mark) => matches!(
                 mark,
                 Symbol::Plus

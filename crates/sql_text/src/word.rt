@@ -31,6 +31,10 @@ pub enum Keyword {
     Count,
     Sum,
     Date,
+    /// `TIMESTAMP` in front of a string; elsewhere it is a name.
+    Timestamp,
+    /// `TIME` in front of a string; elsewhere it is a name.
+    Time,
 }
 
 // A word and what it is.

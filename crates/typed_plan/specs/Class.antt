@@ -11,6 +11,7 @@ use Rattle.sql_query.specs.declared.query.Literal.{Literal}
 use Rattle.sql_query.specs.declared.query.Literal.TheVariants as literal
 use Rattle.typed_plan.specs.declared.class.Class.{Class}
 use Rattle.typed_plan.specs.declared.class.Class.TheVariants.{Number, Text, Truth, Own}
+use Rattle.typed_plan.specs.declared.class.Class.TheVariants.{Stamp, Clock}
 
 -- whether two classes are one
 abbrev pub same_class : Class → Class → Bool
@@ -18,6 +19,8 @@ same_class Number Number = true
 same_class Text Text = true
 same_class Truth Truth = true
 same_class (Own one) (Own other) = same_number one other
+same_class Stamp Stamp = true
+same_class Clock Clock = true
 same_class _ _ = false
 
 -- the class of the numbers of a column: each type that is no integer and no decimal is a class of
@@ -40,17 +43,25 @@ literal_class (literal.Text bytes) = Text
 literal_class (literal.Truth flag) = Truth
 literal_class (literal.Number number) = Number
 literal_class (literal.Date day) = Own number.Date
+literal_class (literal.Timestamp yoctos) = Stamp
+literal_class (literal.Time yoctos) = Clock
+literal_class (literal.Typed kind number) = number_class kind
 
--- the value of a literal: of a date it is the day number
+-- the value of a literal: of a date it is the day number, of a timestamp and a time the yoctoseconds
 abbrev pub literal_value : Literal → Value
 literal_value (literal.Text bytes) = value.Text bytes
 literal_value (literal.Truth flag) = value.Bool flag
 literal_value (literal.Number number) = value.Int number
 literal_value (literal.Date day) = value.Int day
+literal_value (literal.Timestamp yoctos) = value.Int yoctos
+literal_value (literal.Time yoctos) = value.Int yoctos
+literal_value (literal.Typed kind number) = value.Int number
 
 -- the class where literals are values: a number is one, whatever it means
 abbrev pub bound_class : Class → Class
 bound_class (Own kind) = Number
+bound_class Stamp = Number
+bound_class Clock = Number
 bound_class class = class
 
 -- the class of a value, which is no null

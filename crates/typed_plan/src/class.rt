@@ -18,6 +18,10 @@ pub enum Class {
     Truth,
     /// What is no integer and no decimal, each type by itself.
     Own(NumberType),
+    /// Timestamps of literals, next to no column.
+    Stamp,
+    /// Times of literals, next to no column.
+    Clock,
 }
 
 impl Class {
@@ -42,6 +46,8 @@ impl Class {
             (Class::Text, Class::Text) => true,
             (Class::Truth, Class::Truth) => true,
             (Class::Own(one), Class::Own(other)) => one.is_same(other),
+            (Class::Stamp, Class::Stamp) => true,
+            (Class::Clock, Class::Clock) => true,
             (_, _) => false,
         }
     }
@@ -55,6 +61,9 @@ impl Class {
             Literal::Truth(_) => Class::Truth,
             Literal::Number(_) => Class::Number,
             Literal::Date(_) => Class::Own(NumberType::Date),
+            Literal::Timestamp(_) => Class::Stamp,
+            Literal::Time(_) => Class::Clock,
+            Literal::Typed(kind, _) => Class::of_type(DataType::Number(*kind)),
         }
     }
 

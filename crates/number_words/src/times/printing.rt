@@ -3,7 +3,7 @@
 ghost use Rattle.std.specs.Prelude.{◌≡◌, ◌<◌, ◌≤◌, ◌+◌, ◌-◌, ◌++◌, option_map, pos};
 ghost use Rattle.arrayvec.specs.ArrayString.{array_string_len};
 ghost use Rattle.number_words.specs.Times.{per_day};
-ghost use Rattle.number_words.specs.TimeText.{clock_text, day_at, in_three_digits, time_at};
+ghost use Rattle.number_words.specs.TimeText.{clock_text, day_at, in_three_digits, time_in_day};
 ghost use Rattle.number_words.specs.TimeText.{time_text, time_within, timestamp_within};
 
 use crate::calendar::{FORM_BYTES, date_of, push_two_digits};
@@ -21,7 +21,7 @@ pub(crate) fn timestamp_of(
 {
     let mut text = date_of(day_at(unit, number))?;
     text.push(' ');
-    push_time(&mut text, unit, time_at(unit, number));
+    push_time(&mut text, unit, time_in_day(unit, number));
     if zoned {
         text.push('Z');
     }
@@ -66,8 +66,8 @@ pub(crate) fn day_at(unit: TimeUnit, number: i128) -> i128
 }
 
 // The time since the day of a timestamp began.
-fn time_at(unit: TimeUnit, number: i128) -> u64
-    ensures value { result ≡ time_at unit number }
+fn time_in_day(unit: TimeUnit, number: i128) -> u64
+    ensures value { result ≡ time_in_day unit number }
     ensures small { result < per_day unit }
 {
     let time = match unit {

@@ -1,13 +1,15 @@
 //! The timestamp, or the time of a day, that a text says.
 
-ghost use Rattle.std.specs.Prelude.{◌≡◌, ◌≤◌, ◌<◌, IfSome, IsTrue, option_map, pos};
+ghost use Rattle.std.specs.Prelude.{◌≡◌, ◌≤◌, ◌<◌, ◌-◌, ◌==◌, IfSome, IsTrue, length, pos};
+ghost use Rattle.std.specs.Prelude.{slice_index};
 ghost use Rattle.std.specs.Char.{is_ascii_digit};
-ghost use Rattle.std.specs.Int.{int_div_euclid, int_rem_euclid};
 ghost use Rattle.std.specs.List.{list_all};
+ghost use Rattle.std.specs.Str.{byte};
 ghost use Rattle.number_words.specs.Times.{clock_in, digit_at, fraction_in, in_unit};
-ghost use Rattle.number_words.specs.Times.{is_clock_form, is_fraction_form, moment_in, yoctos_in};
+ghost use Rattle.number_words.specs.Times.{is_clock_form, is_fraction_form, moment_in};
 ghost use Rattle.number_words.specs.Times.{seconds_of, stamp_in, three_digits, time_in};
-ghost use Rattle.number_words.specs.Times.{time_said, timestamp_said};
+ghost use Rattle.number_words.specs.Times.{literal_stamp, literal_time, time_said};
+ghost use Rattle.number_words.specs.Times.{timestamp_said};
 
 use crate::calendar::{day_of_bytes, two_digits, two_stand};
 use arrow_types::TimeUnit;
@@ -33,27 +35,33 @@ pub(crate) fn timestamp_said(unit: TimeUnit, zoned: bool, text: &str) -> Option<
 pub(crate) fn time_said(unit: TimeUnit, text: &str) -> Option<i128>
     ensures { result ≡ time_said unit text.now }
 {
-    in_unit(unit, day_time_in(text.as_bytes()))
+    in_unit(unit, literal_time(text))
 }
 
 // Yoctoseconds in a unit, if they are a whole number of it.
 fn in_unit(unit: TimeUnit, yoctos: Option<i128>) -> Option<i128>
     ensures { result ≡ in_unit unit yoctos }
 {
-    let (whole, rest) = parted(unit, yoctos?);
+    let (whole, rest) = unit.parts(yoctos?);
     if rest == 0 { Some(whole) } else { None }
 }
 
-// How often a number of yoctoseconds has a unit, and what is left.
-fn parted(unit: TimeUnit, yoctos: i128) -> (i128, i128)
-    ensures whole { result.0 ≡ int_div_euclid yoctos (pos (yoctos_in unit)) }
-    ensures rest { result.1 ≡ int_rem_euclid yoctos (pos (yoctos_in unit)) }
+/// The yoctoseconds from 1970-01-01 00:00:00, of which a second has 10^24, to what a text says. A
+/// `Z` may end it. It takes no memory.
+pub fn literal_stamp(text: &str) -> Option<i128>
+    ensures { result ≡ literal_stamp text.now }
 {
-    match unit {
-        TimeUnit::Second => (yoctos.div_euclid(SECOND), yoctos.rem_euclid(SECOND)),
-        TimeUnit::Millisecond => (yoctos.div_euclid(MILLI), yoctos.rem_euclid(MILLI)),
-        TimeUnit::Microsecond => (yoctos.div_euclid(MICRO), yoctos.rem_euclid(MICRO)),
-        TimeUnit::Nanosecond => (yoctos.div_euclid(NANO), yoctos.rem_euclid(NANO)),
+    let text = text.as_bytes();
+    stamp_in(ends_with_zone(text), text)
+}
+
+// Whether a text ends with a `Z`.
+fn ends_with_zone(text: &[u8]) -> bool
+    ensures { result ≡ (slice_index text.now (length text.now - 1) == byte "Z") }
+{
+    match text.last() {
+        Some(last) => *last == b'Z',
+        None => false,
     }
 }
 
@@ -79,14 +87,15 @@ fn moment_in(text: &[u8]) -> Option<i128>
     }
     let day = day_of_bytes(&text[..10])?;
     let time = time_in(&text[11..])?;
-    Some(i128::from(day) * (86_400 * SECOND) + time as i128)
+    Some(i128::from(day) * DAY + time as i128)
 }
 
-// The yoctoseconds since a day began.
-fn day_time_in(text: &[u8]) -> Option<i128>
-    ensures { result ≡ option_map pos (time_in text.now) }
+/// The yoctoseconds since a day began, of which a second has 10^24, that a text says. It takes no
+/// memory.
+pub fn literal_time(text: &str) -> Option<i128>
+    ensures { result ≡ literal_time text.now }
 {
-    match time_in(text) {
+    match time_in(text.as_bytes()) {
         Some(yoctos) => Some(yoctos as i128),
         None => None,
     }
