@@ -23,7 +23,7 @@ conj    = factor {AND factor}
 factor  = NOT factor | test
 test    = primary [IS [NOT] (TRUE | FALSE | UNKNOWN)]
 primary = "(" pred ")" | operand compare operand | operand [NOT] BETWEEN operand AND operand | operand [NOT] IN "(" operand {"," operand} ")" | operand IS [NOT] NULL
-operand = column | ["+" | "-"] digits | string | date | TRUE | FALSE | DATE date
+operand = column | ["+" | "-"] digits | string | date | stamp | time | TRUE | FALSE | DATE date | TIMESTAMP stamp | TIME time
 column  = name ["." name]
 compare = "=" | "<>" | "!=" | "<" | "<=" | ">" | ">="
 """
@@ -74,7 +74,7 @@ class Grammar:
                     symbols.append(name)
             elif word.startswith('"'):
                 symbols.append(("t", word.strip('"')))
-            elif word.isupper() or word in ("name", "digits", "string", "date"):
+            elif word.isupper() or word in ("name", "digits", "string", "date", "stamp", "time"):
                 symbols.append(("t", word))
             else:
                 symbols.append(word)
@@ -93,6 +93,32 @@ def is_date(piece):
         return False
 
 
+def is_time(piece):
+    """Whether a text is hh:mm:ss of a day, with digits after a point."""
+    found = re.fullmatch(r"([0-9]{2}):([0-9]{2}):([0-9]{2})(\.[0-9]{1,24})?", piece)
+    return bool(found) and int(found[1]) < 24 and int(found[2]) < 60 and int(found[3]) < 60
+
+
+def called_of_string(piece):
+    """What the grammar calls a string: what its text says."""
+    if is_date(piece):
+        return "date"
+    day, _, time = piece[1:-1].removesuffix("Z").partition(" ")
+    if is_date(f"'{day}'") and is_time(time):
+        return "stamp"
+    return "time" if is_time(piece[1:-1]) else "string"
+
+
+def with_literals(tokens):
+    """The tokens, in which TIMESTAMP and TIME are words of the grammar in front of a string."""
+    for (called, start, piece, kind), behind in zip(tokens, [*tokens[1:], (None, 0, "", "")]):
+        word = piece.upper()
+        if kind == "Name" and word in ("TIMESTAMP", "TIME") and behind[3] == "String":
+            yield word, start, piece, f"Keyword({word.capitalize()})"
+        else:
+            yield called, start, piece, kind
+
+
 def tokens_of(query):
     """A fault's text, or a list of tokens: what the grammar calls it, where, its text, and its kind."""
     told = lexer.lex(query)
@@ -109,15 +135,15 @@ def tokens_of(query):
             called = {"Name": "name", "DelimitedName": "name", "String": "string", "Digits": "digits"}.get(kind, piece)
         if kind == "LeftOut":
             called = None
-        elif kind == "String" and is_date(piece):
-            called = "date"
+        elif kind == "String":
+            called = called_of_string(piece)
         tokens.append((called, int(start), piece, kind))
-    return tokens
+    return list(with_literals(tokens))
 
 
 def is_left_out(token):
     called, _, _, kind = token
-    return kind == "LeftOut" or called in ("NULL", "DATE", "+", "-", "*", "/", "%", "||")
+    return kind == "LeftOut" or called in ("NULL", "DATE", "TIMESTAMP", "TIME", "+", "-", "*", "/", "%", "||")
 
 
 def name_bytes(token):
@@ -370,6 +396,24 @@ DATES = [
 ]
 
 
+TIMES = [
+    # sentences
+    "SELECT a FROM t WHERE a = TIMESTAMP '2024-05-01 12:00:00'", "SELECT a FROM t WHERE TIME '12:00:00.5' < a", "select a from t where a = timestamp '0001-01-01 00:00:00Z';",
+    "SELECT a FROM t WHERE a BETWEEN TIMESTAMP'2024-05-01 12:00:00.25' AND Time '23:59:59'", "SELECT a FROM t WHERE a IN (TIME '00:00:00', timestamp, TIMESTAMP '9999-12-31 23:59:59.000000000000000000000001')",
+    "SELECT a FROM t WHERE a = TIMESTAMP -- c\n '2024-05-01 12:00:00'",
+    # names
+    "SELECT timestamp, time FROM time timestamp WHERE timestamp = time", "SELECT a time FROM t", "SELECT time.timestamp FROM t time", "SELECT a FROM t WHERE \"time\" = TIME '12:00:00'",
+    "SELECT a FROM timestamp JOIN time ON time.a = timestamp.a", "SELECT COUNT(time) FROM t GROUP BY timestamp", "SELECT a FROM t WHERE time = 'x'", "SELECT a FROM t WHERE time IS NULL",
+    # the string offends
+    "SELECT a FROM t WHERE a = TIMESTAMP '2024-05-01'", "SELECT a FROM t WHERE a = TIMESTAMP '2024-05-01T12:00:00'", "SELECT a FROM t WHERE a = TIMESTAMP '2024-02-30 12:00:00'", "SELECT a FROM t WHERE a = TIMESTAMP ''",
+    "SELECT a FROM t WHERE a = TIMESTAMP '2024-05-01 24:00:00'", "SELECT a FROM t WHERE a = TIMESTAMP '2024-05-01 12:00:00.'", "SELECT a FROM t WHERE a = TIMESTAMP '2024-05-01 12:00:00.0000000000000000000000001'",
+    "SELECT a FROM t WHERE a = TIME '24:00:00'", "SELECT a FROM t WHERE a = TIME '12:00'", "SELECT a FROM t WHERE a = TIME '12:00:00Z'", "SELECT a FROM t WHERE a = TIME '2024-05-01 12:00:00'", "SELECT a FROM t WHERE a = DATE '12:00:00'",
+    # the word offends, or is a name
+    "SELECT TIME '12:00:00' FROM t", "SELECT a FROM t WHERE a TIME '12:00:00'", "SELECT a FROM t GROUP BY TIMESTAMP '2024-05-01 12:00:00'", "SELECT a FROM TIME 'x'", "SELECT a FROM t WHERE a = TIME 5", "SELECT a FROM t WHERE a = TIMESTAMP",
+    "SELECT a FROM t WHERE a = TIME TIME '12:00:00'", "SELECT a FROM t WHERE a = -TIME '12:00:00'", "SELECT a FROM t WHERE a = \"TIME\" '12:00:00'", "SELECT a FROM t JOIN u ON a = TIME '12:00:00'",
+]
+
+
 def place_list(count, tail=""):
     return "SELECT * FROM t0" + "".join(f" JOIN t{i} ON a = b" for i in range(1, count)) + tail
 
@@ -449,4 +493,4 @@ def changed(count):
 
 
 def queries():
-    return list(dict.fromkeys(SENTENCES + OTHERS + DATES + list(limits()) + list(changed(400))))
+    return list(dict.fromkeys(SENTENCES + OTHERS + DATES + TIMES + list(limits()) + list(changed(400))))

@@ -23,6 +23,10 @@ and of dates:
 
 days    a nullable column d of dates, and a number k
 history a column d of dates and a number i, in two batches of two rows
+
+and of times:
+
+times   timestamps s and u in seconds, m in microseconds with a zone, times c in milliseconds, and a number k
 """
 import json
 import pathlib
@@ -34,7 +38,7 @@ sys.path.append(str(HERE.parent / "arrow"))
 import layout
 from cases import INTS
 from reader import Reader
-from trees import BOOL, DATE, DECIMAL, UTF8, batch, bits, dictionary, encoding, field, integer, schema, texts, validity
+from trees import BOOL, DATE, DECIMAL, UTF8, batch, bits, dictionary, encoding, field, integer, schema, texts, time, timestamp, validity
 
 MOST = 10**38 - 1  # of a decimal of 38 digits
 WHOLE = [(("i" if signed else "u") + str(bits), integer(bits, signed)) for _, bits, signed, *_ in INTS]
@@ -81,7 +85,8 @@ def column(of, values, slots, under="a"):
         return *nulls, *texts_of(values, under)
     if of is BOOL:
         return *nulls, bits([value in (True, None) for value in values])
-    return *nulls, numbers(4 if of is DATE else of[1].get("bitWidth", 128) // 8, values)
+    width = {"Date": 4, "Timestamp": 8}.get(of[0]) or of[1].get("bitWidth", 128) // 8
+    return *nulls, numbers(width, values)
 
 
 def fields(columns):
@@ -184,6 +189,13 @@ def for_dates():
         yield few_rows("history", ("d", DATE, days), ("i", i64, rows))
 
 
+def for_times():
+    """Timestamps in seconds and, with a zone, in microseconds, and times in milliseconds."""
+    yield few_rows("times", ("s", timestamp("Second"), [1714564800, -1, None, 1714564801]), ("u", timestamp("Second"), [1714564800, 0, 5, 1714564802]),
+                   ("m", timestamp("Microsecond", "Europe/Vienna"), [1714564800250000, -1, 0, None]), ("c", time("Millisecond"), [43200000, 86399999, None, 0]),
+                   ("k", integer(64, True), [1, 2, 3, 4]))
+
+
 def for_skipping():
     """Tables whose batches are apart in their least and greatest values, or in their nulls."""
     i64 = integer(64, True)
@@ -236,4 +248,4 @@ def put(name, columns, messages, periods=()):
 
 
 def puts():
-    return [put(*one) for one in [*two_columns(), six_rows(), many_rows(), *for_joins_and_groups(), *for_skipping(), *for_dates()]]
+    return [put(*one) for one in [*two_columns(), six_rows(), many_rows(), *for_joins_and_groups(), *for_skipping(), *for_dates(), *for_times()]]

@@ -414,6 +414,48 @@ CLASHES_OF_DATES = [
     "k NOT IN (1, DATE '1994-01-01')",
 ]
 
+# Over `times`, of which the rows k have 1 2024-05-01 12:00:00 in s and u, a quarter of a second later in m, and noon in c;
+# 2 the second before 1970 in s, 1970 in u, the microsecond before it in m, and the last millisecond of a day in c; 3 null,
+# 00:00:05 of 1970, 1970, null; 4 a second after 1, two seconds after 1, null, midnight.
+NOON = "TIMESTAMP '2024-05-01 12:00:00"
+TIMES = [
+    (f"s = {NOON}'", [1]),
+    (f"s = {NOON}.000000000000000000000000Z'", [1]),
+    (f"s = {NOON}.5'", []),
+    (f"s <> {NOON}.5'", [1, 2, 4]),
+    (f"s < {NOON}.5'", [1, 2]),
+    (f"s <= {NOON}.5'", [1, 2]),
+    (f"s > {NOON}.5'", [4]),
+    (f"s >= {NOON}.5'", [4]),
+    (f"{NOON}.5' > s", [1, 2]),
+    (f"{NOON}.5' <= s", [4]),
+    (f"s < {NOON}.000000000000000000000001'", [1, 2]),
+    ("s < TIMESTAMP '1969-12-31 23:59:59'", []),
+    ("s <= TIMESTAMP '1969-12-31 23:59:59'", [2]),
+    ("s < TIMESTAMP '1969-12-31 23:59:59.1'", [2]),
+    (f"s BETWEEN TIMESTAMP '2024-05-01 11:59:59.1' AND {NOON}.9'", [1]),
+    (f"s NOT BETWEEN {NOON}.1' AND {NOON}.9'", [1, 2, 4]),
+    (f"s IN ({NOON}.5', TIMESTAMP '2024-05-01 12:00:01')", [4]),
+    (f"s NOT IN ({NOON}.5')", [1, 2, 4]),
+    (f"m = {NOON}.25'", [1]),
+    (f"m >= {NOON}.2500001'", []),
+    ("m < TIMESTAMP '1970-01-01 00:00:00'", [2]),
+    ("c = TIME '12:00:00'", [1]),
+    ("c > TIME '23:59:59.9989'", [2]),
+    ("TIME '00:00:00.0001' > c", [4]),
+    ("s = u", [1]),
+    ("s < u", [2, 4]),
+    ("s IS NULL", [3]),
+    ("m IS NOT NULL", [1, 2, 3]),
+    (f"{NOON}' < {NOON}.000000000000000000000001'", [1, 2, 3, 4]),
+]
+
+# A type of times is of a class of its own, and so is a literal next to no column.
+CLASHES_OF_TIMES = [
+    "s = m", "s = c", "s = k", "s = 1714564800", "s = '2024-05-01 12:00:00'", "s = DATE '2024-05-01'", "s = TIME '12:00:00'", f"c = {NOON}'", f"k = {NOON}'",
+    f"{NOON}' = TIME '12:00:00'", f"{NOON}' BETWEEN s AND u", f"{NOON}' IN (s)", f"s IN ({NOON}', 1)", f"s BETWEEN {NOON}' AND m",
+]
+
 # Two classes in one comparison, over `types`.
 CLASHES_OF_TYPES = [
     "i8 = 'x'",
@@ -688,6 +730,7 @@ def refused():
     yield from ((f"rows {query}", fault) for fault, query in OF_JOINS_AND_GROUPS)
     yield from ((f"rows SELECT k FROM types WHERE {predicate}", CLASH) for predicate in CLASHES_OF_TYPES)
     yield from ((f"rows SELECT k FROM days WHERE {predicate}", CLASH) for predicate in CLASHES_OF_DATES)
+    yield from ((f"rows SELECT k FROM times WHERE {predicate}", CLASH) for predicate in CLASHES_OF_TIMES)
 
 
 def large():
@@ -723,6 +766,8 @@ def cases():
         yield rows(f"SELECT k FROM types WHERE {predicate}", wanted)
     for predicate, wanted in DATES:
         yield rows(f"SELECT k FROM days WHERE {predicate}", wanted)
+    for predicate, wanted in TIMES:
+        yield rows(f"SELECT k FROM times WHERE {predicate}", wanted)
     yield from (rows(query, wanted) for query, wanted in JOINED_OR_GROUPED)
     yield from ((f"merged {first}/{second}", "".join(map(shown, wanted))) for first, second, wanted in MERGED)
     yield from ((f"whole {first}/{second}", "".join(map(shown, wanted))) for first, second, wanted in MERGED_WHOLE)
