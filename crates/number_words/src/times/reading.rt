@@ -59,10 +59,7 @@ pub fn literal_stamp(text: &str) -> Option<i128>
 fn ends_with_zone(text: &[u8]) -> bool
     ensures { result ≡ (slice_index text.now (length text.now - 1) == byte "Z") }
 {
-    match text.last() {
-        Some(last) => *last == b'Z',
-        None => false,
-    }
+    !text.is_empty() && text[text.len() - 1] == b'Z'
 }
 
 // The yoctoseconds from 1970-01-01 00:00:00 to what a text says, with or without a `Z`.
@@ -72,7 +69,7 @@ fn stamp_in(zoned: bool, text: &[u8]) -> Option<i128>
     if !zoned {
         return moment_in(text);
     }
-    if text.is_empty() || text[text.len() - 1] != b'Z' {
+    if !ends_with_zone(text) {
         return None;
     }
     moment_in(&text[..text.len() - 1])
