@@ -14,14 +14,8 @@ ghost use Rattle.number_words.specs.Times.{timestamp_said};
 use crate::calendar::{day_of_bytes, two_digits, two_stand};
 use arrow_types::TimeUnit;
 
-// How many yoctoseconds the units have.
-const SECOND: i128 = 1_000_000_000_000_000_000_000_000;
-
-const MILLI: i128 = 1_000_000_000_000_000_000_000;
-
-const MICRO: i128 = 1_000_000_000_000_000_000;
-
-const NANO: i128 = 1_000_000_000_000_000;
+// How many yoctoseconds a day has.
+const DAY: i128 = 86_400_000_000_000_000_000_000_000_000;
 
 /// The timestamp that a text says, if it is a whole number of the unit. A zone is said by a `Z`. It
 /// takes no memory.
@@ -57,7 +51,8 @@ pub fn literal_stamp(text: &str) -> Option<i128>
 
 // Whether a text ends with a `Z`.
 fn ends_with_zone(text: &[u8]) -> bool
-    ensures { result ≡ (slice_index text.now (length text.now - 1) == byte "Z") }
+    ensures value { result ≡ (slice_index text.now (length text.now - 1) == byte "Z") }
+    ensures some { IsTrue result → 1 ≤ length text.now }
 {
     !text.is_empty() && text[text.len() - 1] == b'Z'
 }
