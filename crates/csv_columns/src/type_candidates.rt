@@ -78,7 +78,9 @@ impl TypeCandidates {
         let mut numbers = self.numbers;
         for place in 0..KINDS {
             let data_type = DataType::Number(TYPES_TRIED[place]);
-            numbers[place] = still_takes(numbers[place], data_type, field);
+            let before = numbers[place];
+            let fits = still_takes(before, data_type, field);
+            numbers[place] = fits;
         }
         numbers
     }

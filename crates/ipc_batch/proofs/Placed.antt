@@ -24,7 +24,7 @@ use Rattle.arrays.specs.Decimals.{decimals_of}
 use Rattle.arrays.specs.Bools.{bools_of}
 use Rattle.arrays.specs.Texts.{TextsAt, texts_of, texts_stand}
 use Rattle.arrays.specs.Indices.{IndicesAt, indices_of, index_stands}
-use Rattle.arrays.specs.Buffers.{buffer_count, values_layout}
+use Rattle.arrays.specs.Buffers.{buffer_count, numbers_layout, values_layout}
 use Rattle.arrays.specs.Column.{ColumnAt}
 use Rattle.ipc_batch.specs.declared.parts.FieldNode.{FieldNode}
 use Rattle.ipc_batch.specs.declared.parts.BufferPlace.{BufferPlace}

@@ -84,3 +84,6 @@ number_chain-loop-side-preserved t c =
       side_fault f done right side.connective clean ∙ c.in_ok-right.ensures.0,
       bound_more g side.connective done right _ _ _ c.in_ok-bound-2.ensures made c.in_ok-right.ensures.1,
     )
+
+pub number_predicate-returns-in-In : goal.number_predicate-returns-in-In
+number_predicate-returns-in-In t c = rw c.in-In.is (rw c.as_slice.ensures at c.number_in.ensures)
