@@ -29,11 +29,9 @@ fn look_for_another(number: &AtomicUsize, seen: usize) {
 // What the threads share, and who of them waits.
 struct WindowState<K: Truth<A>, A> {
     slots: Slots<K, A>,
-    // How many workers wait for something to do, how many of those sleep, and how many of these
-    // were woken and do not go on yet.
+    // How many workers wait for something to do, and how many of those sleep.
     waiting: usize,
     asleep: usize,
-    woken: usize,
     // Whether the reader sleeps.
     sleeps: bool,
 }
@@ -52,16 +50,12 @@ struct News {
 
 impl<K: Truth<A>, A> WindowState<K, A> {
     // Whom a thread tells, where there is something of the reader's morsel or not. It wakes a
-    // worker only where all that wait sleep, and one of these was not woken yet.
-    fn news(&mut self, reader: bool) -> News {
+    // worker only where all that wait sleep.
+    fn news(&self, reader: bool) -> News {
         let worker = self.waiting > 0 && (self.slots.is_over() || self.slots.has_task());
-        let wakes_worker = worker && self.waiting == self.asleep && self.woken < self.asleep;
-        if wakes_worker {
-            self.woken = self.woken.saturating_add(1);
-        }
         News {
             worker,
-            wakes_worker,
+            wakes_worker: worker && self.waiting == self.asleep,
             reader,
             wakes_reader: reader && self.sleeps,
         }
@@ -110,7 +104,6 @@ impl<K: Truth<A>, A> Window<K, A> {
                 slots,
                 waiting: 0,
                 asleep: 0,
-                woken: 0,
                 sleeps: false,
             }),
             offers: AtomicUsize::new(0),
@@ -187,7 +180,6 @@ impl<K: Truth<A>, A> Window<K, A> {
                 shared.asleep = shared.asleep.saturating_add(1);
                 shared = self.offered.wait(rt, shared);
                 shared.asleep = shared.asleep.saturating_sub(1);
-                shared.woken = shared.woken.saturating_sub(1);
             }
             match shared.task() {
                 None if !shared.slots.is_over() => seen = self.offers.load(Ordering::Acquire),
@@ -258,7 +250,6 @@ impl<K: Truth<A>, A> Window<K, A> {
     pub fn close(&self, rt: &impl Wait) {
         let mut shared = self.shared.lock(rt);
         shared.slots.close();
-        shared.woken = shared.asleep;
         self.offers.fetch_add(1, Ordering::AcqRel);
         drop(shared);
         self.offered.notify_all();
@@ -279,7 +270,6 @@ impl<K: Truth<A>, A: Drop> Window<K, A> {
             slots,
             waiting: _,
             asleep: _,
-            woken: _,
             sleeps: _,
         } = shared.into_inner();
         slots.discard();
