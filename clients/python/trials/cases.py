@@ -10,7 +10,7 @@ from typing import Any
 
 import flightscan
 import numpy as np
-from loopback import Server
+import served.cases
 from random_calls.answers import Difference, same
 
 TOWNS = ["Utrecht", "Delft", "Leiden", "Den Haag", "'s-Hertogenbosch", "Jørgensby", ""]
@@ -20,20 +20,8 @@ class PassedOver(Exception):
     """A package that is not there."""
 
 
-@dataclass
-class Run:
-    """How servers are run."""
-
-    path: str
-    seeds: int
-
-    @contextmanager
-    def serving(self, *options: str) -> Iterator[Server]:
-        """A server, which has to be there at the end and to have printed nothing more."""
-        with Server(self.path, *options) as server:
-            yield server
-            same("the server's exit status", None, server.process.poll())
-            same("what the server printed as faults", b"", server.said())
+class Run(served.cases.Run):
+    """How servers are run, and connections to them."""
 
     @contextmanager
     def connected(self, *options: str) -> Iterator[flightscan.Connection]:
