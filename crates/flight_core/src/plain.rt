@@ -144,7 +144,8 @@ impl Plain {
     {
         let entry = Entry::put(snapshot::Snapshot::of(&put));
         let newest = self.newest();
-        let catalog = apply(alloc, self.current().catalog(), newest - self.floor, put)?;
+        let above = newest - self.floor();
+        let catalog = apply(alloc, self.current().catalog(), above, put)?;
         let number = newest + 1;
         if number == u64::MAX {
             return Err(Fault::OutOfMemory);
