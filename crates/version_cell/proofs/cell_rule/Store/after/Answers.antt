@@ -16,7 +16,7 @@ with-requires c =
     let kept : IsIndexOf c.deref.result.now log = rw c.deref.ensures c.args.self.now.kept in
     let there = c.newest-newest.ensures in
     let accepts : after_log log (put_of c.args.put) ≡ Ok (tables_of c.in_ok-catalog.catalog) =
-    rw (c.catalog.ensures, there.tables, c.number-above.ensures, there.number, c.floor-above.ensures) at c.in_ok-catalog.ensures.rows in
+    rw (c.catalog.ensures, there.tables, c.number.ensures, there.number, c.floor.ensures) at c.in_ok-catalog.ensures.rows in
     let few = few_before log (put_of c.args.put) (tables_of c.in_ok-catalog.catalog) accepts in
     let small : length entries < 2 ^ 62 = search rules in
     record {
@@ -30,7 +30,7 @@ returns-clause-ok c =
     let kept : IsIndexOf c.deref.result.now log = rw c.deref.ensures c.args.self.now.kept in
     let there = c.newest-newest.ensures in
     let accepts : after_log log (put_of c.args.put) ≡ Ok (tables_of c.in_ok-catalog.catalog) =
-    rw (c.catalog.ensures, there.tables, c.number-above.ensures, there.number, c.floor-above.ensures) at c.in_ok-catalog.ensures.rows in
+    rw (c.catalog.ensures, there.tables, c.number.ensures, there.number, c.floor.ensures) at c.in_ok-catalog.ensures.rows in
     rw (c.in_ok-new.ensures.ok, c.in_ok-longer.ensures)
     (kept_more c.deref.result.now log kept (put_of c.args.put) c.in_ok-catalog.catalog there.kept accepts)
 
@@ -39,7 +39,7 @@ returns-in_err-catalog-clause-first c =
     let p = err_from_is_err_and c.from_residual.result c.from_residual.ensures.1 in
     let there = c.newest-newest.ensures in
     rw (p.1, p.2) (first_for _ _ c.in_err-catalog.field-0.0 _
-    (rw (c.catalog.ensures, there.tables, c.number-above.ensures, there.number, c.floor-above.ensures) at c.in_err-catalog.ensures.refused))
+    (rw (c.catalog.ensures, there.tables, c.number.ensures, there.number, c.floor.ensures) at c.in_err-catalog.ensures.refused))
 
 -- there is no room for one entry more
 pub returns-then-is_full-clause-first : goal.returns-then-is_full-clause-first
@@ -47,5 +47,5 @@ returns-then-is_full-clause-first c =
     let log = log_of c.args.self.now.history.seen.log in
     let there = c.newest-newest.ensures in
     let accepts : after_log log (put_of c.args.put) ≡ Ok (tables_of c.in_ok-catalog.catalog) =
-    rw (c.catalog.ensures, there.tables, c.number-above.ensures, there.number, c.floor-above.ensures) at c.in_ok-catalog.ensures.rows in
+    rw (c.catalog.ensures, there.tables, c.number.ensures, there.number, c.floor.ensures) at c.in_ok-catalog.ensures.rows in
     rw accepts tt
