@@ -1,5 +1,5 @@
 -- Tallies of rows of one group that stand next to each other.
-use Rattle.std.proofs.Common.{◌≡◌, ◌≤◌, ◌<◌, ℕ, zero, suc, ◌+◌, ◌-◌, ℤ, pos, Bool, true, false, not, List, [], ◌∷◌, ◌++◌, length, map, get_or, slice_set, replicate, cond, ◌+ℤ◌, refl, sym, ap, ◌∙◌, subst, arith}
+use Rattle.std.proofs.Common.{◌≡◌, ◌≤◌, ◌<◌, ℕ, zero, suc, ◌+◌, ◌-◌, ℤ, pos, Bool, true, false, not, List, [], ◌∷◌, ◌++◌, length, map, get_or, slice_set, replicate, cond, refl, sym, ap, ◌∙◌, subst, arith}
 use Rattle.std.specs.List.{filter, fold, range_with_len}
 use Rattle.std.proofs.Math.IntN.{+ℤ_idl}
 use Rattle.std.proofs.lemmas.Int.{ints}
@@ -17,7 +17,7 @@ use Rattle.arrays.specs.Layout.{layout_slot}
 use Rattle.arrays.specs.Nulls.{null_count}
 use Rattle.table_versions.specs.Table.{Row}
 use Rattle.typed_plan.specs.declared.plan.Aggregate.{Aggregate}
-use Rattle.typed_plan.specs.declared.plan.Aggregate.TheVariants.{Key, CountRows, Count, Sum}
+use Rattle.typed_plan.specs.declared.plan.Aggregate.TheVariants.{Key, CountRows, Count}
 use Rattle.group_slots.specs.declared.tally.Tally.{Tally}
 use Rattle.group_slots.specs.Adding.{IsAdded}
 use Rattle.group_slots.specs.Counting.{AreWithin, IsSmall, stepped}
@@ -253,13 +253,6 @@ values_tally item column columns from n count tally is made counted few =
       small = subst IsSmall (sym made) (count_small count);
     })
 
--- what sums nothing has the sum 0
-pub only_counts : (item : Aggregate) (rows : List Row) → ((column : ℕ) → item ≡ Sum column → ⊥) → (tally_of item rows).sum ≡ pos 0
-only_counts (Key place) rows other = ap (λ (t : Tally). t.sum) (key_rows place no_rows rows)
-only_counts CountRows rows other = ap (λ (t : Tally). t.sum) (all_rows 0 rows)
-only_counts (Count column) rows other = ap (λ (t : Tally). t.sum) (counted_rows column 0 rows)
-only_counts (Sum column) rows other = absurd (other column refl)
-
 -- ---- the only tally, with those of the rows
 
 -- the rows are added, where the tally of them is
@@ -294,8 +287,8 @@ count_made (a ∷ []) new more one is none =
     ap count_tallies is
     ∙ ap (λ (sum : ℤ). tally_at (a + more.count) sum ∷ []) (sym (+ℤ_idl more.sum ∙ none))
 
--- the only count is no more than all
-pub count_few : (fed : ℕ) (counts : List ℕ) → length counts ≡ 1 → AreWithin fed (count_tallies counts) → get_or counts 0 0 ≤ fed
-count_few fed [] one within = absurd (omega (arith, one))
-count_few fed (a ∷ b ∷ counts) one within = absurd (omega (arith, one))
-count_few fed (a ∷ []) one within = omega (arith, within.few)
+-- the only count
+pub the_count : (counts : List ℕ) → length counts ≡ 1 → (get_or (count_tallies counts) 0 no_rows).count ≡ get_or counts 0 0
+the_count [] one = absurd (omega (arith, one))
+the_count (a ∷ b ∷ counts) one = absurd (omega (arith, one))
+the_count (a ∷ []) one = refl

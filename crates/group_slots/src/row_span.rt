@@ -82,6 +82,30 @@ fn add_tally(tallies: &mut [Tally], more: Tally)
     tallies[0] = tallies[0].with(more);
 }
 
+// Adds to the only tally. Only counts are held until a sum is other than 0.
+fn add_more(tallies: &mut ItemTallies, more: Tally) -> Result<(), AllocError>
+    requires one { length (tallies_in tallies.old) ≡ 1 }
+    requires few { (get_or (tallies_in tallies.old) 0 no_rows).count + more.count ≤ most_rows }
+    requires small { IsSmall (get_or (tallies_in tallies.old) 0 no_rows) }
+    requires more { IsSmall more }
+    ensures { OnOk result (tallies_in tallies.new
+        ≡ both (get_or (tallies_in tallies.old) 0 no_rows) more ∷ []) }
+{
+    match tallies {
+        ItemTallies::Sums(sums) => add_tally(sums.as_mut_slice(), more),
+        ItemTallies::Counts(counts) => {
+            if more.sum == 0 {
+                add_count(counts.as_mut_slice(), more.count);
+            } else {
+                let mut sums = widened(*counts.allocator(), counts.as_slice())?;
+                add_tally(sums.as_mut_slice(), more);
+                *tallies = ItemTallies::Sums(sums);
+            }
+        }
+    }
+    Ok(())
+}
+
 // How many slots of a column have a value. Their nulls were counted when it was made.
 #[tactic(auto, using(crate::proofs::RangeTallies::nulls_within))]
 fn values_in(column: &Column) -> u64
@@ -104,18 +128,7 @@ impl<'p> RowSpan<'p> {
             (tallies_in tallies.new)) }
     {
         let more = self.tally(item)?;
-        match tallies {
-            ItemTallies::Counts(counts) => match item {
-                Aggregate::Sum(_) => {
-                    let mut sums = widened(*counts.allocator(), counts.as_slice())?;
-                    add_tally(sums.as_mut_slice(), more);
-                    *tallies = ItemTallies::Sums(sums);
-                }
-                _ => add_count(counts.as_mut_slice(), more.count),
-            },
-            ItemTallies::Sums(sums) => add_tally(sums.as_mut_slice(), more),
-        }
-        Ok(())
+        add_more(tallies, more)
     }
 
     // The tally of the rows.

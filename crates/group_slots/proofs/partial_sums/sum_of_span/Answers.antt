@@ -1,9 +1,7 @@
-use Rattle.std.proofs.Common.{◌≡◌, ◌≤◌, ◌+◌, ◌-◌, FitsSigned, ◌∙◌, length, map, arith, ap, rules, refl}
+use Rattle.std.proofs.Common.{◌+◌, ◌-◌, FitsSigned, arith, ap, rules}
 use Rattle.std.specs.Int.{w64}
-use Rattle.std.specs.List.{range_with_len}
 use Rattle.std.proofs.lemmas.Bool.{and_parts}
 use Rattle.std.proofs.lemmas.Int.{to_z-of_z}
-use Rattle.arrays.specs.Batch.{row_of}
 use Rattle.typed_plan.specs.declared.plan.Aggregate.TheVariants.{Sum}
 use Rattle.group_slots.specs.Pieces.{piece_tally}
 use Rattle.group_slots.proofs.RangeTallies.{tally_more, tally_none}
