@@ -337,7 +337,7 @@ def closed_connections(run: Run) -> None:
         refused("a stream of a connection that was closed", flightscan.OperationalError,
                 "F22 Transport (the connection was closed)", lambda: list(stream))
         refused("the same stream", flightscan.InterfaceError, "the stream is closed", lambda: next(stream))
-        with flightscan.connect(server.port, timeout=5) as third:
+        with flightscan.connect(server.port, timeout=20) as third:
             same("the seat is free", ["t"], third.tables())
             stream = third.stream(endpoint)
             stream.close()

@@ -100,7 +100,7 @@ def workers_that_die(run: Run) -> str:
 
 def no_rows(number: int) -> Any:
     """A partition that can't be computed."""
-    raise KeyError(number)
+    raise KeyError("a partition")
 
 
 @case("put_table of rows that can't be had: no server makes its put, and the reason is raised")
@@ -109,17 +109,16 @@ def rows_that_fail(run: Run) -> None:
     frame = several.dask.dataframe.from_pandas(pandas.DataFrame({"id": range(9)}), npartitions=3)
 
     def fail() -> None:
-        raise KeyError("the third part")
+        raise KeyError("a part that is lost")
 
     with run.several(2) as servers:
         bad = several.dask.dataframe.from_map(no_rows, range(3), meta={"id": "int64"})
-        for what, source, interrupt, reason in (("a partition", bad, lambda: None, "0"),
-                                                ("a part that is lost", frame, fail, "'the third part'")):
+        for what, source, interrupt in (("a partition", bad, lambda: None), ("a part that is lost", frame, fail)):
             with unittest.mock.patch.object(several, "fetched", interrupted(several.fetched, interrupt)):
                 try:
                     several.put_table(source, servers, "id", "t")
                 except KeyError as failed:
-                    same(what, reason, str(failed))
+                    same("the reason", repr(what), str(failed))
                 else:
                     raise Difference(f"{what} was put")
             for server in servers:
