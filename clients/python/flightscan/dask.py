@@ -213,7 +213,7 @@ def added_sums(column: JoinedColumn, numbers: Array, groups: int) -> Array:
 class PartPut(OperationalError):
     """Some servers made the put, and some did not. `rows` has of each server its rows, or None, and `failures` why not.
 
-    A server whose failure is F22 may have made it.
+    A server whose connection was lost, as by F22, may have made it.
     """
 
     def __init__(self, text: str, rows: Sequence[int | None] = (), failures: Sequence[Exception] = ()):
@@ -233,7 +233,7 @@ def put_table(frame: pandas.DataFrame | dask.dataframe.DataFrame, servers: Seque
     """
     look_at_spread(frame, servers, by)
     if isinstance(frame, pandas.DataFrame):
-        schema, parts = schema or schema_of_frame(frame), iter([split(frame, by, len(servers))])
+        schema, parts = schema_of_frame(frame) if schema is None else schema, iter([split(frame, by, len(servers))])
     else:
         schema, parts = computed(frame, by, len(servers), schema)
     made = put_parts(parts, servers, table, mode, schema)
@@ -317,9 +317,9 @@ def put_parts(parts: Iterable[list[pandas.DataFrame]], servers: Sequence[Address
     """One put for each server, all at once, as the parts come. If a part can't be had, no put is made."""
     handovers = [Handover() for _ in servers]
     with ThreadPoolExecutor(len(servers)) as pool:
-        puts = [pool.submit(put_pieces, server, table, pieces, mode, schema) for server, pieces in zip(servers, handovers)]
         is_whole = False
         try:
+            puts = [pool.submit(put_pieces, server, table, pieces, mode, schema) for server, pieces in zip(servers, handovers)]
             for part in parts:
                 for handover, piece in zip(handovers, part):
                     handover.give(piece)
