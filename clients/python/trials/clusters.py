@@ -83,7 +83,7 @@ def workers_that_die(run: Run) -> str:
             same("the second server's put waits", False, put.done())
             kill_workers(cluster)
             seat.close()
-            counts = put.result(120)
+            counts = put.result(300)
             wait_for_workers(cluster)
         rows = []
         for server, count in zip(servers, counts):
