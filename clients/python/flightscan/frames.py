@@ -106,10 +106,9 @@ def values_of_series(name: Any, series: pandas.Series[Any], field: Field | None)
 
 
 def values_of_categories(name: str, series: pandas.Series[Any], field: Field | None) -> Values:
-    categories = series.cat.categories
-    if not all(isinstance(value, str) for value in categories):
-        return values_of_series(name, series.astype(categories.dtype), field)
-    codes = series.cat.codes.to_numpy()
+    categories, codes = series.cat.categories, series.cat.codes.to_numpy()
     nulls = codes == -1
+    if not all(isinstance(value, str) for value in categories):
+        return of_array(name, categories.to_numpy()[codes], nulls if nulls.any() else None, field)
     field = field or Field(name, dictionary_of(codes.dtype))
     return with_codes(field, codes, nulls if nulls.any() else None, tuple(categories))

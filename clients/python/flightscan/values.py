@@ -93,13 +93,16 @@ def of_objects(name: str, data: Array, mask: Array | None, field: Field | None) 
 
 
 def is_null(value: object) -> bool:
-    """Whether an object stands for a null: None, or what is not equal to itself, as NaN and pandas' NA and NaT."""
+    """Whether an object stands for a null: None, or what is not equal to itself, as NaN and pandas' NA and NaT. A Decimal
+    never does: as NaN it is refused."""
     if value is None:
         return True
     try:
-        return bool(value != value)
+        return bool(value != value) and not isinstance(value, Decimal)
     except TypeError:
         return True
+    except ArithmeticError:  # a NaN of Decimal that signals
+        return False
 
 
 def guessed_type(name: str, values: list[Any]) -> DataType:
@@ -118,11 +121,15 @@ def guessed_type(name: str, values: list[Any]) -> DataType:
 
 
 def whole_number(name: str, value: Any) -> int:
-    if value != int(value):
-        raise refused(name, "a decimal with a fraction")
+    """A number as an int, where 128 bits hold it."""
+    if isinstance(value, Decimal) and not value.is_finite():
+        raise refused(name, f"the decimal {value}")
     if not -(2**127) <= value < 2**127:
-        raise DataError(f"column {name}: {value} does not fit into 128 bits")
-    return int(value)
+        raise DataError(f"column {name}: {Decimal(value):.6g} does not fit into 128 bits")
+    whole = int(value)
+    if value != whole:
+        raise refused(name, "a decimal with a fraction")
+    return whole
 
 
 def coded(field: Field, data: Array, nulls: Array) -> Values:
