@@ -75,11 +75,11 @@ none_seen picker none = by picker.filters.items none
     by (filter ∷ filters) none = let some : nat_eq (length (filter ∷ filters)) 0 ≡ false = ne_eqb _ _ (λ (h : length (filter ∷ filters) ≡ 0). omega arith) in cc
 
 -- where there is no filter, all rows of the slice are fed
-pub fed_whole : (pick : PickAt) (part : BatchSlice) (batch : BatchAt) (before after : GroupsAt) (result : Result (Unit {0}) Fault) → pick.filters ≡ [] → batch ≡ part.batch.now →
+pub fed_unfiltered : (pick : PickAt) (part : BatchSlice) (batch : BatchAt) (before after : GroupsAt) (result : Result (Unit {0}) Fault) → pick.filters ≡ [] → batch ≡ part.batch.now →
     before.refused ≡ None → Feeds before result after (map (row_of batch.columns) (rows_of_part part)) →
     OnOk result (HasFed before after (map (row_of part.batch.now.columns) (chosen_rows pick part)))
-fed_whole pick part batch before after (Err fault) open_all is none fed = tt
-fed_whole pick part batch before after (Ok done) open_all is none fed =
+fed_unfiltered pick part batch before after (Err fault) open_all is none fed = tt
+fed_unfiltered pick part batch before after (Ok done) open_all is none fed =
     let now : HasFed (record before { refused = None }) after (map (row_of batch.columns) (rows_of_part part)) =
     subst (λ (refused : Option Fault). Feeds (record before { refused = refused }) (Ok done) after (map (row_of batch.columns) (rows_of_part part))) none fed in
     let same : map (row_of batch.columns) (rows_of_part part) ≡ map (row_of part.batch.now.columns) (chosen_rows pick part) =

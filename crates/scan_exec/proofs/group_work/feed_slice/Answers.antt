@@ -3,7 +3,7 @@ use Rattle.arrays.specs.Batch.{BatchAt, row_of}
 use Rattle.row_sources.specs.Picking.{holds, pick_of}
 use Rattle.row_sources.proofs.Selecting.{chosen_below}
 use Rattle.grouping.specs.FedRows.{batch_at}
-use Rattle.scan_exec.proofs.Feeding.{chosen_few, fed_whole, none_seen}
+use Rattle.scan_exec.proofs.Feeding.{chosen_few, fed_unfiltered, none_seen}
 use Rattle.scan_exec.proofs.group_work.feed_slice.Goals as goal
 
 pub feed-requires-clause-within : goal.feed-requires-clause-within
@@ -26,8 +26,8 @@ feed_span-requires-clause-within c = subst (λ (batch : BatchAt). c.args.feeding
 pub feed_span-requires-clause-few : goal.feed_span-requires-clause-few
 feed_span-requires-clause-few c ready = c.requires.few
 
-pub returns-then-is_empty+then-has_one_group : goal.returns-then-is_empty+then-has_one_group
-returns-then-is_empty+then-has_one_group c =
+pub returns-then-has_one_group : goal.returns-then-has_one_group
+returns-then-has_one_group c =
     let feeding = c.args.feeding.now in
-    fed_whole (pick_of feeding.picker.now) feeding.slice (batch_at c.args.groups.now.batches feeding.number) c.args.groups.now c.feed_span.new.self c.feed_span.result
+    fed_unfiltered (pick_of feeding.picker.now) feeding.slice (batch_at c.args.groups.now.batches feeding.number) c.args.groups.now c.feed_span.new.self c.feed_span.result
     (none_seen feeding.picker.now (sym c.is_empty.ensures ∙ c.if-is_empty.true)) c.requires.is c.requires.ready c.feed_span.ensures
