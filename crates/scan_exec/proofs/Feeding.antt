@@ -67,8 +67,8 @@ module _ (pick : PickAt) (batch : BatchAt) where
       omega (arith, passing_few (λ row. holds pick (row_of batch.columns row)) (range_with_len from (end - from)), length-range_with_len from (end - from))
 
 -- no filter is seen where there is none
-pub none_seen : (picker : Picker) → nat_eq (length picker.filters.items) 0 ≡ true → (pick_of picker).filters ≡ []
-none_seen picker none = by picker.filters.items none
+pub none_seen : (picker : Picker) → nat_eq picker.filters.len 0 ≡ true → (pick_of picker).filters ≡ []
+none_seen picker none = by picker.filters.items (subst (λ (n : ℕ). nat_eq n 0 ≡ true) picker.filters.ok.0 none)
   where
     by : (filters : List (Predicate ℕ)) → nat_eq (length filters) 0 ≡ true → map pred_of filters ≡ []
     by [] none = refl
