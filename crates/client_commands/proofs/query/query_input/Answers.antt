@@ -30,8 +30,16 @@ returns-in-Ok-read_text g c =
 pub returns : goal.returns
 returns g c =
     let none = no_text _ (BadSql 0) _ (rw c.as_slice.ensures at c.in-Err-read_text.ensures) in
-    inr (c.in-Ok.text, c.in-Ok.ensures, inl (none.0, refl, record {
-      nothing = refl;
-      status_is = c.end_by_fault-in-Err-read_text.ensures.status;
-      says = rw none.1 at c.end_by_fault-in-Err-read_text.ensures.line;
-    }))
+    inr (
+      c.in-Ok.text,
+      c.in-Ok.ensures,
+      inl (
+        none.0,
+        refl,
+        record {
+          nothing = refl;
+          status_is = c.end_by_fault-in-Err-read_text.ensures.status;
+          says = rw none.1 at c.end_by_fault-in-Err-read_text.ensures.line;
+        },
+      ),
+    )
