@@ -253,6 +253,8 @@ def look_at_spread(frame: Any, servers: Sequence[Address], by: By) -> None:
         raise InterfaceError(f"the frame has no column {name!r}")
     if bounds is not None and len(bounds) != len(servers) - 1:
         raise InterfaceError(f"{len(bounds)} bounds for {len(servers)} servers")
+    if bounds is not None and not pandas.Index(bounds).is_monotonic_increasing:
+        raise InterfaceError(f"the bounds fall: {list(bounds)}")
 
 
 def schema_of_frame(frame: pandas.DataFrame) -> Schema:
