@@ -8,6 +8,7 @@ from __future__ import annotations
 
 import datetime
 import threading
+import uuid
 from collections import deque
 from collections.abc import Iterable, Iterator, Sequence
 from concurrent.futures import ThreadPoolExecutor
@@ -59,11 +60,13 @@ class Infos:
     def frame(self, parts: int | None = None, decimals: str = "objects", dates: str = "datetime64") -> dask.dataframe.DataFrame:
         """The rows of all servers, in their order. Each endpoint is a partition; with `parts`, neighbours are joined, so
         that each server has at most so many. Each partition is fetched by the worker that computes it.
+
+        Its keys in Dask are of this call only: a ticket from a server's next life may be equal, and of other rows.
         """
         runs = [run for info in self.infos for run in runs_of(info.endpoints, parts)]
         meta = clear_known_categories(frame_of(Table(self.schema, ()), decimals, dates))
         return dask.dataframe.from_map(read_endpoints, runs, meta=meta, enforce_metadata=False, label="flightscan",
-                                       choices=(decimals, dates), timeout=self.timeout)
+                                       token=uuid.uuid4().hex, choices=(decimals, dates), timeout=self.timeout)
 
     def grouped(self, dates: str = "datetime64") -> pandas.DataFrame:
         """The groups over all servers: counts and sums are added. Groups come in the order of their first appearance.
@@ -253,6 +256,8 @@ def look_at_spread(frame: Any, servers: Sequence[Address], by: By) -> None:
         raise InterfaceError(f"the frame has no column {name!r}")
     if bounds is not None and len(bounds) != len(servers) - 1:
         raise InterfaceError(f"{len(bounds)} bounds for {len(servers)} servers")
+    if bounds is not None and not pandas.Index(bounds).is_monotonic_increasing:
+        raise InterfaceError(f"the bounds fall: {list(bounds)}")
 
 
 def schema_of_frame(frame: pandas.DataFrame) -> Schema:

@@ -3,13 +3,14 @@
 from __future__ import annotations
 
 import datetime
+from collections.abc import Iterable, Mapping, Set
 from decimal import Decimal
 from typing import Any
 
 import numpy as np
 
 from .columns import EPOCH, Array
-from .errors import DataError, NotSupportedError
+from .errors import DataError, InterfaceError, NotSupportedError
 from .rows import Values
 from .schema import DAY, INTEGERS, NUMBER, TEXT, TRUTH, DataType, Field
 
@@ -29,6 +30,8 @@ def values_of(name: str, found: Any, field: Field | None = None) -> Values:
         mask, found = np.ma.getmaskarray(found), found.data  # type: ignore[no-untyped-call]
     if isinstance(found, np.ndarray):
         data = found
+    elif isinstance(found, (str, bytes, Mapping, Set)) or not isinstance(found, Iterable):
+        raise InterfaceError(f"column {name}: {type(found).__name__} is no list of values")
     else:
         listed = list(found)
         data = np.empty(len(listed), object)
@@ -101,6 +104,8 @@ def is_null(value: object) -> bool:
         return bool(value != value) and not isinstance(value, Decimal)
     except TypeError:
         return True
+    except ValueError:  # an array
+        return False
     except ArithmeticError:  # a NaN of Decimal that signals
         return False
 
@@ -158,6 +163,11 @@ def with_codes(field: Field, codes: Array, mask: Array | None, categories: tuple
 def class_of(of: DataType) -> str:
     """The types of one class hold the same values, if they are large enough."""
     return "number" if of.is_integer or of == NUMBER else of.name
+
+
+def look_at_name(name: object) -> None:
+    if not isinstance(name, str):
+        raise InterfaceError(f"a column is named {name!r}, and a name must be a string")
 
 
 def look_at_nulls(field: Field, mask: Array | None) -> None:

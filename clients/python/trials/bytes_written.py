@@ -139,10 +139,17 @@ def refused_values(run: Run) -> None:
         ("other names", flightscan.InterfaceError, "the columns are ['a']", {"a": [1]}, "b:int64"),
         ("other columns in a later part", flightscan.InterfaceError, "the columns are", [{"a": [1]}, {"b": [1]}], None),
         ("no type", flightscan.InterfaceError, "'a:float'", {"a": [1]}, "a:float"),
+        *(("no list", flightscan.InterfaceError, f"column a: {type(one).__name__} is no list of values", {"a": one}, None)
+          for one in ("Delft", b"ab", 5, {1, 2}, {1: 2})),
+        ("arrays as values", flightscan.NotSupportedError, "column a: ndarray", {"a": [np.arange(2), np.arange(3)]}, None),
+        ("a number as name", flightscan.InterfaceError, "a column is named 1", {1: [1]}, None),
     ]
     for what, kind, text, source, schema in lists:
         refused(what, kind, text, lambda source=source, schema=schema: made(source, schema))
     refused("half of a pair", flightscan.InterfaceError, "'\\ud800' is no text", lambda: messages.statement("\ud800"))
+    for rows in (0, -1):
+        refused("no rows in a batch", flightscan.InterfaceError, f"a batch of at most {rows} rows",
+                lambda rows=rows: list(Put("t", "create", {"a": [1]}, rows=rows).messages()))
     refused("no mode", flightscan.InterfaceError, "'add' is no mode", lambda: messages.ingest("t", "add"))
 
 

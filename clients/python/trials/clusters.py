@@ -126,6 +126,8 @@ def rows_that_fail(run: Run) -> None:
         for by, text in (("town", "the frame has no column 'town'"), (("town", [1]), "the frame has no column 'town'"),
                          (("id", [1, 2]), "2 bounds for 2 servers")):
             refused(text, flightscan.InterfaceError, text, lambda by=by: several.put_table(frame, servers, by, "t"))
+        refused("bounds that fall", flightscan.InterfaceError, "the bounds fall: [5, 2]",
+                lambda: several.put_table(frame, [*servers, servers[0]], ("id", [5, 2]), "t"))
         refused("no server", flightscan.InterfaceError, "there is no server", lambda: several.put_table(frame, [], "id", "t"))
 
 

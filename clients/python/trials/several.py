@@ -112,6 +112,15 @@ def look_at_objects(pandas: Any, several: Any, wanted: list[int]) -> None:
         same(f"the ranges of {values}", [0, 0, 2, 1], places.tolist())
 
 
+@case("each frame has keys of its own: what Dask holds of an earlier server's life does not pass for new rows")
+def keys_of_frames(run: Run) -> None:
+    _, several = modules()
+    server = "127.0.0.1:1"
+    info = flightscan.Info(flightscan.Schema.spelled("a:int64"), (flightscan.Endpoint(b"ticket", server),), server)
+    keys = [several.Infos("SELECT a FROM t", (info,)).frame().__dask_keys__() for _ in range(2)]
+    same("equal keys", False, keys[0] == keys[1])
+
+
 @case("rows spread by a category of numbers with nulls, and by early dates; groups by early dates")
 def spread_by_categories(run: Run) -> None:
     pandas, several = modules()
