@@ -166,7 +166,8 @@ STEPS = [Script("pages", ["--check"], of_program=False), Script("session"), Scri
          Script("expiries", ["--puts", "2000"]), Script("expiries", ["--puts", "600", "--keep", "1"]),
          Script("descriptors", ["--seconds", "10"]),
          Gateway(), PythonClient("test_flightscan", "numpy"),
-         PythonClient("many_servers", "numpy, pandas, dask.dataframe, distributed", ["--rows", "400000", "--turns", "1"]),
+         PythonClient("many_servers", "numpy, pandas, dask.dataframe, distributed",
+                      ["--rows", "400000", "--turns", "1", "--least", "0"]),
          ColumnAnswers(), FirstRun(), Vectors()]
 
 

@@ -1,19 +1,22 @@
 #!/usr/bin/env python3
 """Replaces a table of 1 MB again and again, with an expiry behind each put, and looks whether the server's memory stays flat.
 
-    python3 scripts/expiries.py [--puts N] [--keep K] [--program PATH]
+    python3 scripts/expiries.py [--puts N] [--rows R] [--keep K] [--seats S] [--most TIMES] [--program PATH]
 
-Behind each of 10,000 puts the versions below it are expired, over one connection. Each put and each floor has to be answered as
-docs/PROTOCOL.md says. Of the newest version the table is fetched now and then, and the version before it has to be expired. What the
-server holds is read behind the first hundred puts and at the end: it may not have grown by more than 4 MB. It ends with 1 at the first
-difference. Build the program first, as for bench/pipe.py.
+Behind each of 10,000 puts the versions below it are expired. Each put and each floor has to be answered as docs/PROTOCOL.md says. Of
+the newest version the table is fetched now and then, and the version before it has to be expired. What the server holds is read behind
+the first hundred puts and at the end: it may not have grown by more than 4 MB. It ends with 1 at the first difference. Build the
+program first, as for bench/pipe.py.
 
-With --keep K the server keeps the newest K versions, and is asked for no expiry.
+With --keep K the server keeps the newest K versions, and is asked for no expiry. With --seats S the puts go over S connections in turn.
+So `--puts 200000 --rows 1 --keep 10` is beyond the most versions that a server keeps.
+With --most TIMES the server may not hold more than so many times the tables that are kept, beyond what it held before the first put.
 """
 
 from __future__ import annotations
 
 import argparse
+import contextlib
 import pathlib
 import sys
 
@@ -27,48 +30,55 @@ from loopback import Connection, Server  # noqa: E402
 from random_calls.answers import Difference, PutCount, same  # noqa: E402
 from served.cases import A, expire, fetch_of, replaced  # noqa: E402
 
-ROWS = 125_000  # of eight bytes: 1 MB
 FIRST = 100  # puts before memory is read
 SLACK = 4_000_000
 
 
-def look_at_versions(connection: Connection, newest: int, kept: int) -> None:
+def look_at_versions(connection: Connection, rows: int, newest: int, kept: int) -> None:
     """The newest version and the oldest of those that are kept are fetched, and the one before that is expired."""
     for version in {newest, newest + 1 - kept}:
-        connection.send(fetch_of(version, 0, ROWS, "SELECT * FROM large"))
+        connection.send(fetch_of(version, 0, rows, "SELECT * FROM large"))
         same(f"the status of a fetch of version {version}", 0, connection.answer().code)
-    connection.send(fetch_of(newest - kept, 0, ROWS, "SELECT * FROM large"))
+    connection.send(fetch_of(newest - kept, 0, rows, "SELECT * FROM large"))
     answer = connection.answer()
     same("a fetch of an expired version", (5, "F19 VersionExpired"), (answer.code, answer.text))
 
 
-def carry_out(server: Server, puts: int, keep: int) -> str:
-    put, begin = replaced("large", A, [(row,) for row in range(ROWS)]), 0
-    with Connection(server.port) as connection:
+def carry_out(server: Server, given: argparse.Namespace) -> str:
+    puts, rows, keep, seats, most = given.puts, given.rows, given.keep, given.seats, given.most
+    put, begin, empty = replaced("large", A, [(row,) for row in range(rows)]), 0, server.held()
+    with contextlib.ExitStack() as stack:
+        connections = [stack.enter_context(Connection(server.port)) for _ in range(seats)]
         for version in range(1, puts + 1):
+            connection = connections[version % seats]
             connection.send(put)
-            PutCount(ROWS).look(connection.answer())
+            PutCount(rows).look(connection.answer())
             if keep == 0:
                 expire(connection, version)
             if version == FIRST:
                 begin = server.held()
             if version % 1_000 == 0:
-                look_at_versions(connection, version, keep or 1)
+                look_at_versions(connection, rows, version, keep or 1)
         end = server.held()
-    said = f"{puts} puts of {len(put):,} bytes, of which {keep or 1} are kept: {begin:,} bytes held behind {FIRST}, {end:,} at the end"
-    same(f"memory: {said}", True, end < begin + SLACK)
+    times = (end - empty) / (len(put) * (keep or 1))
+    said = (f"{puts} puts of {len(put):,} bytes over {seats} seats, of which {keep or 1} are kept: {begin:,} bytes held behind {FIRST}, "
+            f"{end:,} at the end, {times:.2f} times the tables")
+    same(f"memory: {said}", True, end < begin + SLACK and (most is None or times <= most))
     return said
 
 
 def main() -> int:
     words = argparse.ArgumentParser(description="looks whether expired versions give their memory back")
     words.add_argument("--puts", type=int, default=10_000)
+    words.add_argument("--rows", type=int, default=125_000, help="rows of eight bytes of each put: 1 MB")
     words.add_argument("--keep", type=int, default=0, help="how many versions the server keeps by itself (it is asked to)")
+    words.add_argument("--seats", type=int, default=1, help="over how many connections the puts go")
+    words.add_argument("--most", type=float, help="how many times the tables that are kept the server may hold")
     words.add_argument("--program")
     given = words.parse_args()
-    with Server(program(given.program), "--keep", str(given.keep)) as server:
+    with Server(program(given.program), "--keep", str(given.keep), "--seats", str(given.seats)) as server:
         try:
-            print(carry_out(server, given.puts, given.keep))
+            print(carry_out(server, given))
         except (Difference, wire.Unreadable, OSError) as found:
             print(f"a difference:\n{found}")
             return 1

@@ -2,7 +2,7 @@
 """Four servers and a Dask cluster of four workers on one machine, next to one server that holds all rows.
 
     /usr/bin/python3 clients/python/many_servers.py [--rows N] [--servers S] [--workers W] [--parts P] [--turns T]
-                                                    [--program PATH]
+                                                    [--least RATIO] [--program PATH]
 
 The rows follow from their numbers by numpy, so each row that comes is looked at by its number, and each must come once. They
 are spread over the servers, and the one server has them in as few tables as hold them. Then, in order:
@@ -13,14 +13,16 @@ are spread over the servers, and the one server has them in as few tables as hol
 - the same while a writer appends named puts to all servers: each server's rows are those of the version that its info named,
   and a query for no later put than a complete one has the rows of the one server, which gets these puts too
 
-It ends with 1 at the first difference. With 32,000,000 rows it takes some minutes and 3 GB of memory, and its speeds say
-something only on a machine that does nothing else.
+It ends with 1 at the first difference. Where there are 4 workers and 4 processors, it also ends with 1 if all workers read
+less than 2.5 times as fast as one, or less than `--least` says; 0 asks for nothing. With 32,000,000 rows it takes some minutes
+and 3 GB of memory, and its speeds say something only on a machine that does nothing else, and not for few rows.
 """
 
 from __future__ import annotations
 
 import argparse
 import logging
+import os
 import pathlib
 import sys
 import threading
@@ -51,6 +53,7 @@ TOWNS = [f"town {number:02}" for number in range(50)]
 ALL = "SELECT id, town, km, put FROM rides"
 GROUPS = "SELECT town, COUNT(*) AS rides, COUNT(km) AS measured, SUM(km) AS km FROM {} GROUP BY town"
 MOST_TURNS = 10
+WORKERS, LEAST = 4, 2.5  # so many workers, each with a processor, read so many times as fast as one
 
 
 # ---- rows by their numbers
@@ -214,6 +217,16 @@ def timed(drive: Drive, workers: int) -> float:
     return rate
 
 
+def look_at_ratio(rates: list[float], least: float, workers: int, processors: int) -> None:
+    """Whether so many workers read fast enough next to one, where there are processors for them."""
+    ratio = rates[-1] / rates[0]
+    print(f"{workers} workers read {ratio:.2f} times as fast as one", flush=True)
+    if least > 0 and min(workers, processors) < WORKERS:
+        print(f"{workers} workers on {processors} processors: the ratio is not looked at", flush=True)
+    elif ratio < least:
+        raise Difference(f"{workers} workers read {ratio:.2f} times as fast as one, and must do so {least:g} times")
+
+
 def cluster_of(workers: int) -> distributed.LocalCluster:
     return distributed.LocalCluster(n_workers=workers, threads_per_worker=1, processes=True, dashboard_address=None,
                                     memory_limit=0, silence_logs=logging.ERROR)
@@ -312,6 +325,7 @@ def main() -> int:
     parser.add_argument("--workers", type=int, default=4, help="how many workers (4)")
     parser.add_argument("--parts", type=int, default=8, help="the endpoints of each server (8)")
     parser.add_argument("--turns", type=int, default=3, help="how often each thing is done (3)")
+    parser.add_argument("--least", type=float, default=LEAST, help="how many times as fast as one all workers read (2.5)")
     words = parser.parse_args()
     path, options = program(words.program), ["--parts", str(words.parts), "--seats", "32"]
     try:
@@ -322,11 +336,11 @@ def main() -> int:
             drive.fill()
             print(f"{2 * words.rows} rows put in {time.time() - began:.1f} s", flush=True)
             rates = [timed(drive, count) for count in sorted({1, words.workers})]
-            print(f"{words.workers} workers read {rates[-1] / rates[0]:.2f} times as fast as one", flush=True)
             with cluster_of(words.workers) as cluster, distributed.Client(cluster) as client:
                 client.run(sys.path.extend, PATHS)
                 look_at_all(drive)
                 look_meanwhile(drive)
+            look_at_ratio(rates, words.least, words.workers, len(os.sched_getaffinity(0)))
     except Difference as found:
         print(f"DIFFERENCE: {found}", flush=True)
         return 1

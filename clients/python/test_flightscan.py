@@ -26,9 +26,11 @@ sys.path += [str(ROOT / "vectors" / folder) for folder in ("arrow", "flight", "q
 import trials.bytes_read  # noqa: E402, F401  (its cases)
 import trials.bytes_written  # noqa: E402, F401
 import trials.calls  # noqa: E402, F401
+import trials.clusters  # noqa: E402, F401
 import trials.cursors  # noqa: E402, F401
 import trials.frames  # noqa: E402, F401
 import trials.gateways  # noqa: E402, F401
+import trials.names  # noqa: E402, F401
 import trials.pages  # noqa: E402, F401
 import trials.several  # noqa: E402, F401
 from built import program  # noqa: E402

@@ -30,6 +30,12 @@ from trips import STREAM
 
 TRIPS = STREAM.read_bytes()
 TRANSPORT = b"fault: F22 Transport\n"
+NAMES = "a name stands for no column, or for several; its case counts"
+UNREACHED = "no put has made this version yet"
+EXISTS = "--mode append adds to the table, and --mode replace replaces it"
+NO_OUTPUT = b"cannot write the output\n"
+ENDED = b"the connection or the output failed; `head` ends the output early\n"
+STRANGE = "what listens at this port is no flightscan server"
 
 
 def typed(run: Run, *words: str, data: bytes = b"", out: int = subprocess.PIPE) -> tuple[int, bytes, bytes]:
@@ -59,14 +65,14 @@ def printed(*lines: str) -> tuple[int, bytes, bytes]:
     return 0, "".join(line + "\n" for line in lines).encode(), b""
 
 
-def answered(fault: str) -> tuple[int, bytes, bytes]:
-    """A fault that the server answered."""
-    return 1, b"", f"fault: {fault}\n".encode()
+def answered(fault: str, *more: str) -> tuple[int, bytes, bytes]:
+    """A fault that the server answered, and what is said of it."""
+    return 1, b"", "".join(line + "\n" for line in (f"fault: {fault}", *more)).encode()
 
 
-def found(fault: str) -> tuple[int, bytes, bytes]:
-    """A fault found at this end."""
-    return 3, b"", f"fault: {fault}\n".encode()
+def found(fault: str, *more: str) -> tuple[int, bytes, bytes]:
+    """A fault found at this end, and what is said of it."""
+    return 3, *answered(fault, *more)[1:]
 
 
 def stream(columns: tuple[Column, ...], rows: list[Row], end: bytes = END) -> bytes:
@@ -197,7 +203,7 @@ def copied_table(run: Run) -> None:
                 same("rows", query(run, server, text), query(run, server, "SELECT * FROM copy"))
         _, data, _ = query(run, server, "SELECT a FROM many", "--format", "arrow")
         same("each row", [[row] for row in range(70_000)], rows_in(data))
-        same("no stream", answered("F14 UnknownName"), query(run, server, "SELECT b FROM many", "--format", "arrow"))
+        same("no stream", answered("F14 UnknownName", NAMES), query(run, server, "SELECT b FROM many", "--format", "arrow"))
 
 
 def hand_on(source: socket.socket, sink: socket.socket, came: bytearray) -> None:
@@ -355,7 +361,7 @@ def expired_versions(run: Run) -> None:
     text = "SELECT a FROM t"
     with run.serving() as server, Connection(server.port) as connection:
         same("expire of nothing", printed("floor 0"), expire(run, server, 0))
-        same("no version", answered("F18 VersionUnknown"), expire(run, server, 1))
+        same("no version", answered("F18 VersionUnknown", UNREACHED), expire(run, server, 1))
         for last in (1, 2, 3):
             made = put(run, server, "t", stream(A, [(row,) for row in range(last)]), "replace")
             same(f"put of version {last}", printed(f"{last} rows"), made)
@@ -366,7 +372,7 @@ def expired_versions(run: Run) -> None:
             for old in range(floor):
                 ask(connection, fetch_of(old, 0, old, text), Refusal("F19"))
         for version in (4, 2**32 - 1):
-            same(f"expire {version}", answered("F18 VersionUnknown"), expire(run, server, version))
+            same(f"expire {version}", answered("F18 VersionUnknown", UNREACHED), expire(run, server, version))
         ask(connection, fetch_of(3, 0, 3, text), rows_of(A, (0,), (1,), (2,)))
         ask(connection, fetch_of(4, 0, 3, text), Refusal("F18"))
         same("query", printed("a", "0", "1", "2"), query(run, server, text))
@@ -385,13 +391,25 @@ def kept_versions(run: Run) -> None:
                 ask(connection, fetch_of(version, 0, version, text), Refusal("F19"))
             for version in range(max(1, last - 1), last + 1):
                 ask(connection, fetch_of(version, 0, version, text), rows_of(A, *((row,) for row in range(version))))
-        same("a refused put", answered("F10 TableExists"), put(run, server, "t", stream(A, [(7,)]), "create"))
+        same("a refused put", answered("F10 TableExists", EXISTS), put(run, server, "t", stream(A, [(7,)]), "create"))
         same("it expired nothing", printed("floor 3"), expire(run, server, 0))
         same("expire", printed("floor 4"), expire(run, server, 4))
         same("query", printed("a", "0", "1", "2", "3"), query(run, server, text))
 
 
 # ---- streams
+
+CUT = "the input is no Arrow IPC stream, or is cut short"
+OTHER_INPUTS = [  # what is no stream, and what is said of it
+    (b"PAR1\x15", "the input is a Parquet file: write it as an Arrow IPC stream"),
+    (b"ARROW1\0\0", "the input is an Arrow file, as Feather has it: write it as an Arrow IPC stream"),
+    (b"FEA1", "the input is an old Feather file: write it as an Arrow IPC stream"),
+    (b"\x1f\x8b\x08", "the input is compressed by gzip: pipe it through gunzip"),
+    (b"\x28\xb5\x2f\xfd", "the input is compressed by zstd: pipe it through unzstd"),
+    (b"PK\x03\x04", "the input is a zip archive, as a spreadsheet is: write it as CSV"),
+    (b"[{}]", "the input is JSON: write it as CSV or as an Arrow IPC stream"),
+    (b"id,town\n1,Delft\n", "the input is text: CSV is put with --format csv"),
+]
 
 
 @case("streams with and without their end marker, with bytes behind it, and of no message")
@@ -401,34 +419,94 @@ def ends_of_streams(run: Run) -> None:
         for data in (TRIPS, cut, TRIPS + b"\0", TRIPS + TRIPS, stream(A, [(row,) for row in range(7)], b"")):
             same("put", printed("7 rows"), put(run, server, "t", data, "replace"))
         for data in (b"", END, END + TRIPS):
-            same("no schema", answered("F8 BadBatch"), put(run, server, "t", data, "replace"))
+            same("no schema", answered("F8 BadBatch", "the input is empty"), put(run, server, "t", data, "replace"))
         for data in (cut[:-1], b"\0", TRIPS[4:], cut + b"\xff" * 4):
-            same("cut or no stream", found("F6 BadFlatbuffer"), put(run, server, "t", data, "replace"))
+            same("cut or no stream", found("F6 BadFlatbuffer", CUT), put(run, server, "t", data, "replace"))
+        for data, line in OTHER_INPUTS:
+            same(line, found("F6 BadFlatbuffer", line), put(run, server, "t", data, "replace"))
         long = trees.batch(2_100_000, (0, b"", bytes(8 * 2_100_000)))
         messages = [(trees.schema(trees.field("a", trees.integer(64, True))), b""), long]
         data = framing.stream_of((written("Message", tree, "spread"), body) for tree, body in messages)
-        same("a message above the limit", found("F2 MessageTooLarge"), put(run, server, "u", data))
+        large = "a batch has more than 16777216 bytes: write batches of 65536 rows"
+        same("a message above the limit", found("F2 MessageTooLarge", large), put(run, server, "u", data))
         same("tables", printed("t"), tables(run, server))
         same("nothing was put", printed("col1", "7"), query(run, server, "SELECT COUNT(*) FROM t"))
     nowhere = ("put", "--port", free_port(), "--table", "t", "--mode", "create")
-    same("what is cut is not sent", found("F6 BadFlatbuffer"), typed(run, *nowhere, data=b"\0"))
+    same("what is cut is not sent", found("F6 BadFlatbuffer", CUT), typed(run, *nowhere, data=b"\0"))
 
 
 # ---- how they end
 
 
-@case("faults that the server answers: one line, nothing on standard output, and status 1")
+MISSING = "`flightscan tables` prints the names; their case counts"
+CLASSES = "compare numbers with numbers, 'texts' with texts, DATE '2026-11-28' with dates"
+GROUPS = "with groups or aggregates, select only columns of GROUP BY, and no *"
+
+
+def marked(text: str, place: int, *more: str) -> tuple[str, ...]:
+    """A line of a query, a mark under a place, and more."""
+    return text, " " * place + "^", *more
+
+
+# Queries that the server refuses, and the fault and what is said of it.
+REFUSED_QUERIES = [
+    ("SELECT a,, b FROM t", "F13 BadSql at byte 9", *marked("SELECT a,, b FROM t", 9)),
+    ("SELECT id,\n\ttown,, km\nFROM t", "F13 BadSql at byte 17", *marked(" town,, km", 6)),
+    ("SELECT 'é' FROM", "F13 BadSql at byte 7", *marked("SELECT 'é' FROM", 7)),
+    ("", "F13 BadSql at byte 0", *marked("", 0)),
+    ("SELECT x FROM t", "F14 UnknownName", NAMES),
+    ("SELECT id FROM t WHERE id = 'x'", "F15 TypeClash", CLASSES),
+    ("SELECT * FROM u", "F9 TableMissing", MISSING),
+    ("SELECT id FROM t LIMIT 1", "F16 NotInSubset", *marked("SELECT id FROM t LIMIT 1", 17, 'left out: LIMIT; as a name: "LIMIT"')),
+    ("SELECT date FROM t", "F16 NotInSubset", *marked("SELECT date FROM t", 7, 'left out: date; as a name: "date"')),
+    ("SELECT id + 1 FROM t", "F16 NotInSubset", *marked("SELECT id + 1 FROM t", 10, "left out: +")),
+    ("SELECT id FROM t WHERE id = NULL", "F16 NotInSubset", *marked("SELECT id FROM t WHERE id = NULL", 28, 'left out: NULL; as a name: "NULL"')),
+    ("SELECT id, COUNT(*) FROM t", "F16 NotInSubset", GROUPS),
+    ("SELECT id FROM t WHERE id = -1 OR " + "x" * 65 + " = 1", "F12 LimitReached", "a query has at most 4 tables, 64 items and names of 64 bytes, an IN 256 values"),
+    ("SELECT id FROM t" + " " * 16_384, "F12 LimitReached", "the query has 16400 bytes, and at most 16384 are taken"),
+]
+
+
+@case("faults that the server answers: their line, what is said of them, nothing on standard output, and status 1")
 def answered_faults(run: Run) -> None:
     with run.serving() as server:
-        same("append to none", answered("F9 TableMissing"), put(run, server, "t", TRIPS, "append"))
+        absent = "no table has this name: --mode create makes it"
+        same("append to none", answered("F9 TableMissing", absent), put(run, server, "t", TRIPS, "append"))
         same("put", printed("7 rows"), put(run, server, "t", TRIPS))
-        same("create again", answered("F10 TableExists"), put(run, server, "t", TRIPS))
-        same("another schema", answered("F11 SchemaMismatch"), put(run, server, "t", stream(A, [(1,)]), "append"))
-        same("a name of no byte", answered("F12 LimitReached"), put(run, server, "", TRIPS))
-        for text, fault in (("SELECT a,, b FROM t", "F13 BadSql at byte 9"), ("SELECT x FROM t", "F14 UnknownName"),
-                            ("SELECT id FROM t WHERE id = 'x'", "F15 TypeClash"), ("SELECT * FROM u", "F9 TableMissing"),
-                            ("SELECT id FROM t LIMIT 1", "F16 NotInSubset"), ("", "F13 BadSql at byte 0")):
-            same(text, answered(fault), query(run, server, text))
+        same("create again", answered("F10 TableExists", EXISTS), put(run, server, "t", TRIPS))
+        others = "the table has other columns: names, types and nulls must agree, in their order"
+        same("another schema", answered("F11 SchemaMismatch", others), put(run, server, "t", stream(A, [(1,)]), "append"))
+        twice = stream((*A, *A), [(1, 1)])
+        same("one name twice", answered("F11 SchemaMismatch", "two columns have one name"), put(run, server, "u", twice))
+        same("a name of no byte", answered("F12 LimitReached", "a table's name has 1 to 64 bytes"), put(run, server, "", TRIPS))
+        for text, fault, *more in REFUSED_QUERIES:
+            same(text, answered(fault, *more), query(run, server, text))
+
+
+@case("columns of CSV that are spelled wrong: F8, how they are spelled, and nothing is read")
+def misspelled_columns(run: Run) -> None:
+    words = ("put", "--port", free_port(), "--table", "t", "--mode", "create", "--format", "csv", "--columns")
+    spelled = "'a:int8, b:utf8?': int8 to int64, uint8 to uint64, decimal, date, bool or utf8"
+    for columns in ("a:float64", "a int8", "", "a:int8\nb:int8"):
+        same(columns, found("F8 BadBatch", spelled), typed(run, *words, columns, data=b"1\n"))
+    many = ",".join(f"c{number}:int8" for number in range(65))
+    same("65 columns", found("F12 LimitReached", "64 columns, and 64 bytes of a name, are the most"), typed(run, *words, many))
+
+
+@case("describe: the columns of a table, in the line that --columns takes")
+def described(run: Run) -> None:
+    with run.serving("--parts", "3") as server:
+        port = str(server.port)
+        same("put", printed("7 rows"), put(run, server, 't "1"', TRIPS))
+        words = ("describe", "--port", port, "--table")
+        status, line, said = typed(run, *words, 't "1"')
+        same("no fault", (0, b""), (status, said))
+        columns = line.decode().removesuffix("\n")
+        same("its columns", ["id", "town", "rider", "km", "paid"], [column.rpartition(":")[0] for column in columns.split(",")])
+        copy = ("put", "--port", port, "--table", "u", "--mode", "create", "--format", "csv", "--columns", columns)
+        same("a put of such columns", printed("1 rows"), typed(run, *copy, data=b"1,Delft,Ada,5,True\n"))
+        same("the columns of the copy", (0, line, b""), typed(run, *words, "u"))
+        same("no table", answered("F9 TableMissing", MISSING), typed(run, *words, "T"))
 
 
 LINES = [[], ["another"], ["--help"], ["put", "--help"], ["pipe", "--parts", "0"], ["pipe", "--parts", "65"],
@@ -477,7 +555,7 @@ def many_rows(run: Run) -> None:
         same("one of 70,000", printed("a", "69999"), query(run, server, "SELECT a FROM t WHERE a = 69999"))
 
 
-@case("output that is closed or full while query prints: one line, and status 3")
+@case("output that is closed or full while query prints: F22, a line that says so, and status 3")
 def closed_output(run: Run) -> None:
     with run.serving() as server:
         same("put", printed("7 rows"), put(run, server, "t", TRIPS))
@@ -487,10 +565,10 @@ def closed_output(run: Run) -> None:
             words = ("query", "--port", str(server.port), f"SELECT * FROM {name}")
             reads, writes = os.pipe()
             os.close(reads)
-            same("a closed pipe", (3, b"", TRANSPORT), typed(run, *words, out=writes))
+            same("a closed pipe", (3, b"", TRANSPORT + ENDED), typed(run, *words, out=writes))
             os.close(writes)
             with open("/dev/full", "wb") as full:
-                same("a full disk", (3, b"", TRANSPORT), typed(run, *words, out=full.fileno()))
+                same("a full disk", (3, b"", TRANSPORT + ENDED), typed(run, *words, out=full.fileno()))
 
 
 @case("standard output, or input, that is closed at the start: its number is no socket's, so nothing is written into a connection")
@@ -498,9 +576,9 @@ def closed_at_the_start(run: Run) -> None:
     with run.serving() as server:
         same("put", printed("7 rows"), put(run, server, "t", TRIPS))
         port = str(server.port)
-        for words in (["tables", "--port", port], ["query", "--port", port, "SELECT * FROM t"]):
+        for words, more in ((["tables", "--port", port], NO_OUTPUT), (["query", "--port", port, "SELECT * FROM t"], ENDED)):
             done = subprocess.run(["sh", "-c", 'exec "$0" "$@" >&-', run.path, *words], stderr=subprocess.PIPE, timeout=SECONDS)
-            same(" ".join(words), (3, TRANSPORT), (done.returncode, done.stderr))
+            same(" ".join(words), (3, TRANSPORT + more), (done.returncode, done.stderr))
         words = ["put", "--port", port, "--table", "u", "--mode", "create"]
         done = subprocess.run(["sh", "-c", 'exec "$0" "$@" <&-', run.path, *words], stdout=subprocess.PIPE, stderr=subprocess.PIPE, timeout=SECONDS)
         same("an input that is closed has no byte, which the server refuses", 1, done.returncode)
@@ -615,11 +693,11 @@ def other_servers(run: Run) -> None:
     done, nothing = b"\x04\0\0\0", b"\x02\0\0\0\0\0"
     frames = [b"\x05", b"\x01", b"\x03", b"\x02\x01", b"\x04\x03\0\x01\xff"]
     for answer in frames:
-        same(f"the answer {answer.hex()}", found("F1 BadFrame"), told(run, answer))
+        same(f"the answer {answer.hex()}", found("F1 BadFrame", STRANGE), told(run, answer))
     same("a long Message", found("F2 MessageTooLarge"), told(run, b"\x02\0\x01\0\0\x01"))
     same("no endpoint", found("F4 BadProto"), told(run, nothing + done))
     for answer in (b"", nothing, nothing + done[:2]):
         status, out, said = told(run, answer)
         same(f"the end behind {answer.hex()}", (3, b"", True), (status, out, said.startswith(TRANSPORT)))
-    same("a fault", answered("F14 UnknownName"), told(run, status_of("F14 UnknownName", 5)))
-    same("no fault of ours", b"fault: F1 BadFrame\n", told(run, status_of("F99 Other", 3))[2])
+    same("a fault", answered("F14 UnknownName", NAMES), told(run, status_of("F14 UnknownName", 5)))
+    same("no fault of ours", found("F1 BadFrame", STRANGE)[2], told(run, status_of("F99 Other", 3))[2])

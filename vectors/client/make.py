@@ -171,6 +171,7 @@ note("dates: numbers of days, and another type than numbers are")
 D = "a Date or null; "
 join(["schema_Date batch_Date" + DONE, "schema_Date" + DONE], D + "8766,;null,;-719163,;-2147483648,;2147483647,;")
 join(["schema_Date batch_Date" + DONE, "schema_Int32 batch_Int32" + DONE], "F11 SchemaMismatch")
+join(["schema_Int32 batch_Int32" + DONE, "schema_Date" + DONE], "F11 SchemaMismatch")
 join(["schema_Date batch_Date" + DONE, "schema_Date_full" + DONE], "F11 SchemaMismatch")
 
 note("a payload that is refused leaves its stream as it was")

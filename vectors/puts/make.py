@@ -277,6 +277,8 @@ def own_puts():
         put(f"{dots(command(table.encode(), OPTIONS['fail' if number != 0 else 'create']))}+schema_Int64_full", number)
     log(two, ("F11", "append+schema_Int64_full"), (0, "replace+schema_Int64_full"), (0, "append+schema_Int64_full"))
     log(two, ("F11", "append+schema_Int32"), ("F11", "append+schema_k"), ("F11", "append+schema_a_b"), (0, "append+schema_Int64"))
+    log((0, "create+schema_Int32"), ("F11", "append+schema_Date"), (0, "append+schema_Int32"))
+    log((0, "create+schema_Date"), ("F11", "append+schema_Int32"), (0, "append+schema_Date"))
     log(("F11", "create+schema_equal_names"), ("F11", "create+schema_a_a_full a_3_b_null"))
     body = long_bodies()
     log(two, ("F10", f"create+schema_Utf8_full null_and_text+{body['null_and_text']}"),

@@ -7,7 +7,7 @@ import re
 from collections.abc import Iterator, Sequence
 from concurrent.futures import ThreadPoolExecutor
 from types import TracebackType
-from typing import Any, Protocol
+from typing import TYPE_CHECKING, Any, Protocol
 
 from . import errors
 from .errors import InterfaceError, fault
@@ -19,6 +19,9 @@ from .schema import Schema, schema_in_ipc_form
 from .sources import Put
 from .stream import Batch, MessageReader
 from .tables import Table, joined_tables
+
+if TYPE_CHECKING:
+    from .dbapi import Cursor
 
 ADDRESS = re.compile(r"(?:(grpc|grpc\+tls)://)?(?:([^:/]+):)?(\d{1,5})")
 LOCAL = ("127.0.0.1", "localhost")
@@ -39,22 +42,25 @@ class Stream:
     """The batches of an endpoint as they come. It ends well, or raises what ended it: then its batches are not the answer."""
 
     def __init__(self, messages: Iterator[memoryview], server: str):
-        self.messages, self.reader, self.server = messages, MessageReader(), server
+        self.messages, self.reader, self.server, self.is_closed = messages, MessageReader(), server, False
         self.first = self.next_batch()  # the schema comes before it
         if self.reader.schema is None:
             raise fault(8, "a stream without a schema", server)
         self.schema: Schema = self.reader.schema
 
     def next_batch(self) -> Batch | None:
-        """The next batch, after the messages before it."""
+        """The next batch, after the messages before it; None after the last. After a failure the stream is closed."""
+        if self.is_closed:
+            raise InterfaceError("the stream is closed")
         try:
             for message in self.messages:
                 found = self.reader.read(content(message, DATA_HEADER), content(message, DATA_BODY))
                 if isinstance(found, Batch):
                     return found
-        except errors.Error as failed:
+        except BaseException as failed:
             self.close()
-            failed.server = self.server
+            if isinstance(failed, errors.Error):
+                failed.server = self.server
             raise
         return None
 
@@ -62,13 +68,16 @@ class Stream:
         return self
 
     def __next__(self) -> Batch:
-        found, self.first = self.first or self.next_batch(), None
+        found, self.first = self.first, None
+        if found is None or self.is_closed:
+            found = self.next_batch()
         if found is None:
             raise StopIteration
         return found
 
     def close(self) -> None:
-        """Ends the fetch, whether or not all was read."""
+        """Ends the fetch, whether or not all was read. No batch is given after it."""
+        self.is_closed = True
         close = getattr(self.messages, "close", None)
         if close is not None:
             close()
@@ -94,13 +103,18 @@ class Connection:
         self.close()
 
     def close(self) -> None:
-        """Ends the connection, and gives its seats back."""
+        """Ends the connection, and gives its seats back. Calls and streams that go on are broken off."""
         self.is_closed = True
         self.calls.close()
 
-    def call(self, method: str, messages: Iterator[Pieces]) -> Iterator[memoryview]:
+    def look_whether_open(self) -> None:
+        """Raises where the connection is closed."""
         if self.is_closed:
             raise InterfaceError("the connection is closed")
+
+    def call(self, method: str, messages: Iterator[Pieces]) -> Iterator[memoryview]:
+        """The messages that answer a call of Flight."""
+        self.look_whether_open()
         return self.calls.call(method, messages)
 
     def answer(self, method: str, messages: Iterator[Pieces]) -> memoryview:
@@ -180,15 +194,20 @@ class Connection:
 
     # ---- DB-API 2.0
 
-    def cursor(self) -> Any:
+    def cursor(self) -> Cursor:
+        """A cursor, which asks over this connection."""
         from .dbapi import Cursor
 
+        self.look_whether_open()
         return Cursor(self)
 
     def commit(self) -> None:
         """Does nothing: each put counts once it was answered."""
+        self.look_whether_open()
 
     def rollback(self) -> None:
+        """Is refused: there is nothing to undo."""
+        self.look_whether_open()
         raise errors.NotSupportedError("there are no transactions")
 
 

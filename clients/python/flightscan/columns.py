@@ -55,6 +55,7 @@ class Column:
         """Looks at what the layout asks of the bytes of each slot; a column does so itself before it gives values."""
 
     def broken(self, reason: str) -> DataError:
+        """The exception for bytes that are not as the layout asks."""
         return DataError(str(fault(8, f"column {self.field.name}: {reason}")))
 
 

@@ -6,7 +6,11 @@ that they belong to one moment: docs/USING.md has a way to such a snapshot, for 
 
 from __future__ import annotations
 
-from collections.abc import Sequence
+import datetime
+import threading
+import uuid
+from collections import deque
+from collections.abc import Iterable, Iterator, Sequence
 from concurrent.futures import ThreadPoolExecutor
 from dataclasses import dataclass
 from decimal import Decimal
@@ -19,7 +23,7 @@ import pandas
 from dask.dataframe.utils import clear_known_categories
 
 from .client import SECONDS, connect
-from .columns import Array, Decimals
+from .columns import EPOCH, Array, Decimals
 from .errors import InterfaceError, OperationalError, fault
 from .frames import frame_of, values_of_frame
 from .literals import aggregate, column_named, group_columns, select_items
@@ -27,10 +31,12 @@ from .messages import Endpoint, Info
 from .schema import NUMBER, Schema
 from .sources import schema_of, wide
 from .tables import JoinedColumn, Table, joined_tables
+from .values import whole_number
 
 Address = str | int
 By = str | tuple[str, Sequence[Any]]
 LIMB = 0xFFFF_FFFF
+NANOSECONDS_OF_A_DAY = 86_400_000_000_000
 
 
 @dataclass(frozen=True)
@@ -48,23 +54,29 @@ class Infos:
 
     @property
     def schema(self) -> Schema:
+        """The columns, which are the same on each server."""
         return self.infos[0].schema
 
     def frame(self, parts: int | None = None, decimals: str = "objects", dates: str = "datetime64") -> dask.dataframe.DataFrame:
         """The rows of all servers, in their order. Each endpoint is a partition; with `parts`, neighbours are joined, so
         that each server has at most so many. Each partition is fetched by the worker that computes it.
+
+        Its keys in Dask are of this call only: a ticket from a server's next life may be equal, and of other rows.
         """
         runs = [run for info in self.infos for run in runs_of(info.endpoints, parts)]
         meta = clear_known_categories(frame_of(Table(self.schema, ()), decimals, dates))
         return dask.dataframe.from_map(read_endpoints, runs, meta=meta, enforce_metadata=False, label="flightscan",
-                                       choices=(decimals, dates), timeout=self.timeout)
+                                       token=uuid.uuid4().hex, choices=(decimals, dates), timeout=self.timeout)
 
-    def grouped(self) -> pandas.DataFrame:
-        """The groups over all servers: counts and sums are added. Groups come in the order of their first appearance."""
+    def grouped(self, dates: str = "datetime64") -> pandas.DataFrame:
+        """The groups over all servers: counts and sums are added. Groups come in the order of their first appearance.
+
+        Keys that are dates outside the years of pandas, 1677 to 2262, need `dates="objects"`.
+        """
         kinds = kinds_of_columns(self.query)
         with ThreadPoolExecutor(len(self.infos)) as pool:
             tables = list(pool.map(lambda info: read_table(info.endpoints, self.timeout), self.infos))
-        frame = added(joined_tables(self.schema, tables), kinds)
+        frame = added(joined_tables(self.schema, tables), kinds, dates)
         frame.attrs["versions"] = self.versions
         return frame
 
@@ -94,9 +106,9 @@ def read_query(sql: str, servers: Sequence[Address], parts: int | None = None) -
     return ask(sql, servers).frame(parts)
 
 
-def grouped(sql: str, servers: Sequence[Address]) -> pandas.DataFrame:
+def grouped(sql: str, servers: Sequence[Address], dates: str = "datetime64") -> pandas.DataFrame:
     """Sends a query with COUNT or SUM to each server, and adds what they answer. GROUP BY columns must be selected."""
-    return ask(sql, servers).grouped()
+    return ask(sql, servers).grouped(dates)
 
 
 # ---- read
@@ -136,14 +148,14 @@ def kinds_of_columns(query: str) -> list[str | None]:
     return kinds
 
 
-def added(rows: Table, kinds: Sequence[str | None]) -> pandas.DataFrame:
+def added(rows: Table, kinds: Sequence[str | None], dates: str) -> pandas.DataFrame:
     """The rows that have equal keys become one, with their counts and sums added."""
     columns = list(rows)
     numbers = group_numbers([column for column, kind in zip(columns, kinds) if kind is None], len(rows))
     count = int(numbers.max()) + 1 if len(numbers) else 0
     first = np.zeros(count, np.int64)
     first[numbers[::-1]] = np.arange(len(numbers))[::-1]
-    keys = frame_of(rows)
+    keys = frame_of(rows, dates=dates)
     made: dict[int, Any] = {}
     for place, (column, kind) in enumerate(zip(columns, kinds)):
         if kind is None:
@@ -202,7 +214,10 @@ def added_sums(column: JoinedColumn, numbers: Array, groups: int) -> Array:
 
 
 class PartPut(OperationalError):
-    """Some servers made the put, and some did not. `rows` has of each server its rows, or None, and `failures` why not."""
+    """Some servers made the put, and some did not. `rows` has of each server its rows, or None, and `failures` why not.
+
+    A server whose connection was lost, as by F22, may have made it.
+    """
 
     def __init__(self, text: str, rows: Sequence[int | None] = (), failures: Sequence[Exception] = ()):
         super().__init__(text)
@@ -214,39 +229,121 @@ def put_table(frame: pandas.DataFrame | dask.dataframe.DataFrame, servers: Seque
     """Spreads rows over servers, and gives the number of rows of each. Each server takes all of its rows in one put.
 
     `by` names a column, by whose hash a row's server is chosen; or it is a column and bounds, one fewer than servers: the
-    first server takes what is below the first bound. Nulls go to the first server. If a server fails, the others may have
-    made their put: see `PartPut`. If a worker of Dask dies, its puts are made again, though a server may have made them.
+    first server takes what is below the first bound. Nulls go to the first server.
+
+    Dask's workers compute the rows, and this process makes the puts, each of them once, whichever workers die. If the rows
+    can't be had, no server makes its put. If a server fails, the others may have made theirs: see `PartPut`.
     """
+    look_at_spread(frame, servers, by)
     if isinstance(frame, pandas.DataFrame):
-        frame = dask.dataframe.from_pandas(frame, npartitions=1, sort=False)
-    if not isinstance(by, str) and len(by[1]) != len(servers) - 1:
-        raise InterfaceError(f"{len(by[1])} bounds for {len(servers)} servers")
-    partitions = frame.to_delayed()
-    if schema is None:
-        schema = dask.delayed(schema_of_frame)(partitions[0])
-    pieces = [dask.delayed(split, nout=len(servers))(partition, by, len(servers)) for partition in partitions]
-    puts = [dask.delayed(put_pieces)(server, table, [each[place] for each in pieces], mode, schema)
-            for place, server in enumerate(servers)]
-    made = dask.compute(*puts)
+        schema, parts = schema_of_frame(frame) if schema is None else schema, iter([split(frame, by, len(servers))])
+    else:
+        schema, parts = computed(frame, by, len(servers), schema)
+    made = put_parts(parts, servers, table, mode, schema)
     failures = [one for one in made if isinstance(one, Exception)]
     if failures:
         said = "; ".join(f"{server}: {one}" for server, one in zip(servers, made))
         raise PartPut(f"not every server made the put: {said}", [one if isinstance(one, int) else None for one in made], failures)
-    return list(made)
+    return [one for one in made if isinstance(one, int)]
+
+
+def look_at_spread(frame: Any, servers: Sequence[Address], by: By) -> None:
+    """Whether rows can be spread so."""
+    name, bounds = (by, None) if isinstance(by, str) else by
+    if not servers:
+        raise InterfaceError("there is no server")
+    if name not in frame.columns:
+        raise InterfaceError(f"the frame has no column {name!r}")
+    if bounds is not None and len(bounds) != len(servers) - 1:
+        raise InterfaceError(f"{len(bounds)} bounds for {len(servers)} servers")
+    if bounds is not None and not pandas.Index(bounds).is_monotonic_increasing:
+        raise InterfaceError(f"the bounds fall: {list(bounds)}")
 
 
 def schema_of_frame(frame: pandas.DataFrame) -> Schema:
+    """The schema of a put whose first part is this one."""
     return wide(schema_of(values_of_frame(frame, None)))
 
 
-def put_pieces(server: Address, table: str, pieces: Sequence[pandas.DataFrame], mode: str,
-               schema: Schema | str) -> int | Exception:
+def computed(frame: dask.dataframe.DataFrame, by: By, count: int,
+             schema: Schema | str | None) -> tuple[Schema | str, Iterator[list[pandas.DataFrame]]]:
+    """The schema, and each partition's rows for each server, once all are computed. Workers keep them until they come."""
+    partitions = frame.to_delayed()
+    first, *kept = dask.persist(dask.delayed(schema_of_frame if schema is None else len)(partitions[0]),
+                                *[dask.delayed(split)(partition, by, count) for partition in partitions])
+    found, *_ = dask.compute(first, *[dask.delayed(len)(pieces) for pieces in kept])
+    return found if schema is None else schema, fetched(deque(kept))
+
+
+def fetched(kept: deque[Any]) -> Iterator[list[pandas.DataFrame]]:
+    """Each partition's rows for each server, one partition after the other. All of them are of one computing of it, even if
+    a worker died and Dask computes it again."""
+    while kept:
+        (pieces,) = dask.compute(kept.popleft())
+        yield pieces
+
+
+class Handover:
+    """Hands the rows of one put from the thread that fetches them to the thread that sends them, piece by piece."""
+
+    def __init__(self) -> None:
+        self.changed = threading.Condition()
+        self.piece: pandas.DataFrame | None = None
+        self.is_ended = self.is_left = False
+
+    def give(self, piece: pandas.DataFrame) -> None:
+        """Gives a piece once the one before is taken. If the put has failed, nobody takes it."""
+        with self.changed:
+            self.changed.wait_for(lambda: self.piece is None or self.is_left)
+            self.piece = piece
+            self.changed.notify_all()
+
+    def end(self, is_whole: bool) -> None:
+        """Says that no piece follows; or, if the rows are not whole, that the put has to fail or has failed."""
+        with self.changed:
+            self.is_ended, self.is_left = True, self.is_left or not is_whole
+            self.changed.notify_all()
+
+    def __iter__(self) -> Iterator[pandas.DataFrame]:
+        while True:
+            with self.changed:
+                self.changed.wait_for(lambda: self.piece is not None or self.is_ended)
+                if self.is_left:
+                    raise OperationalError("the rows are not whole")
+                if self.piece is None:
+                    return
+                piece, self.piece = self.piece, None
+                self.changed.notify_all()
+            yield piece
+
+
+def put_parts(parts: Iterable[list[pandas.DataFrame]], servers: Sequence[Address], table: str, mode: str,
+              schema: Schema | str) -> list[int | Exception]:
+    """One put for each server, all at once, as the parts come. If a part can't be had, no put is made."""
+    handovers = [Handover() for _ in servers]
+    with ThreadPoolExecutor(len(servers)) as pool:
+        is_whole = False
+        try:
+            puts = [pool.submit(put_pieces, server, table, pieces, mode, schema) for server, pieces in zip(servers, handovers)]
+            for part in parts:
+                for handover, piece in zip(handovers, part):
+                    handover.give(piece)
+            is_whole = True
+        finally:
+            for handover in handovers:
+                handover.end(is_whole)
+    return [put.result() for put in puts]
+
+
+def put_pieces(server: Address, table: str, pieces: Handover, mode: str, schema: Schema | str) -> int | Exception:
     """One server's put. What refuses it is given, so that what the others made is known."""
     try:
         with connect(server) as connection:
             return connection.put(table, pieces, mode, schema)
     except Exception as failed:  # noqa: BLE001 (it is told with what the others made)
         return failed
+    finally:
+        pieces.end(False)
 
 
 def split(frame: pandas.DataFrame, by: By, count: int) -> list[pandas.DataFrame]:
@@ -254,17 +351,31 @@ def split(frame: pandas.DataFrame, by: By, count: int) -> list[pandas.DataFrame]
     if isinstance(by, str):
         places = (hashes(frame[by]) % np.uint64(count)).astype(np.int64)
     else:
-        values, nulls = frame[by[0]], frame[by[0]].isna().to_numpy()
-        places = np.zeros(len(frame), np.int64)
-        places[~nulls] = pandas.Index(by[1]).searchsorted(values[~nulls], side="right")
+        places = places_of(frame[by[0]], pandas.Index(by[1]))
     return [frame[places == place] for place in range(count)]
 
 
-def hashes(series: pandas.Series[Any]) -> Array:
-    """A hash of each value, which is the same in every process, and for equal numbers of any width. Of a null it is 0."""
-    nulls = series.isna().to_numpy()
+def places_of(series: pandas.Series[Any], bounds: pandas.Index[Any]) -> Array:
+    """Of each value how many bounds it has reached. Of a null it is 0."""
     if isinstance(series.dtype, pandas.CategoricalDtype):
-        series = series.astype(series.cat.categories.dtype)
+        return of_codes(places_of(pandas.Series(series.cat.categories), bounds), series)
+    nulls = series.isna().to_numpy()
+    found = np.zeros(len(series), np.int64)
+    found[~nulls] = bounds.searchsorted(series[~nulls], side="right")
+    return found
+
+
+def of_codes(of_categories: Array, series: pandas.Series[Any]) -> Array:
+    """What is known of each category, for each value. Of a null it is 0."""
+    found: Array = np.append(of_categories, np.zeros(1, of_categories.dtype))[series.cat.codes.to_numpy()]
+    return found
+
+
+def hashes(series: pandas.Series[Any]) -> Array:
+    """A hash of each value, which is the same in every process, and for equal values whatever holds them. Of a null it is 0."""
+    if isinstance(series.dtype, pandas.CategoricalDtype):
+        return of_codes(hashes(pandas.Series(series.cat.categories, name=series.name)), series)
+    nulls = series.isna().to_numpy()
     kind = getattr(getattr(series.dtype, "numpy_dtype", series.dtype), "kind", "O")
     if kind in "iub":
         values = series.to_numpy(dtype=np.uint64 if kind == "u" else np.int64, **({"na_value": 0} if nulls.any() else {}))
@@ -273,10 +384,32 @@ def hashes(series: pandas.Series[Any]) -> Array:
     elif kind == "f":  # as pandas holds integers with nulls; a put refuses what is not whole
         values = np.where(nulls, 0, series.to_numpy(dtype=np.float64, na_value=np.nan)).astype(np.int64)
     else:
-        values = series.to_numpy(dtype=object)
+        return hashes_of_objects(str(series.name), series.to_numpy(dtype=object), nulls)
     found: Array = pandas.util.hash_array(values)
     found[nulls] = 0
     return found
+
+
+def hashes_of_objects(name: str, values: Array, nulls: Array) -> Array:
+    """The same of objects: numbers and dates have the hashes that arrays of numbers and dates have."""
+    found, others = np.zeros(len(values), np.uint64), ~nulls
+    if pandas.api.types.infer_dtype(values, skipna=True) not in ("string", "empty"):
+        numbers = [None if null else number_of(name, value) for value, null in zip(values.tolist(), nulls.tolist())]
+        counted = np.array([number is not None for number in numbers], np.bool_)
+        whole = [number % 2**64 for number in numbers if number is not None]
+        found[counted] = pandas.util.hash_array(np.array(whole, np.uint64))
+        others &= ~counted
+    found[others] = pandas.util.hash_array(values[others])
+    return found
+
+
+def number_of(name: str, value: object) -> int | None:
+    """The number of a number, and that of a date as pandas holds it."""
+    if isinstance(value, (int, np.integer, np.bool_, Decimal)):
+        return whole_number(name, value)
+    if isinstance(value, datetime.date) and not isinstance(value, datetime.datetime):
+        return (value.toordinal() - EPOCH) * NANOSECONDS_OF_A_DAY
+    return None
 
 
 __all__ = ["Infos", "PartPut", "ask", "grouped", "put_table", "read_query"]

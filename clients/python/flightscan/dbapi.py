@@ -38,6 +38,7 @@ DateFromTicks, TimestampFromTicks = datetime.date.fromtimestamp, datetime.dateti
 
 
 def TimeFromTicks(ticks: float) -> datetime.time:  # noqa: N802 (DB-API has this name)
+    """The local time of day so many seconds after 1970 began."""
     return datetime.datetime.fromtimestamp(ticks).time()
 
 
@@ -67,8 +68,15 @@ class Cursor:
         return iter(self.fetchone, None)
 
     def close(self) -> None:
+        """Ends the cursor, and the fetch that goes on."""
         self.stop()
         self.is_closed = True
+
+    def look_whether_open(self) -> None:
+        """Raises where the cursor or its connection is closed."""
+        if self.is_closed:
+            raise InterfaceError("the cursor is closed")
+        self.connection.look_whether_open()
 
     def stop(self) -> None:
         """Ends the fetch that goes on, if there is one."""
@@ -78,8 +86,7 @@ class Cursor:
 
     def execute(self, query: str, parameters: Sequence[object] | None = None) -> Cursor:
         """Asks a query. With parameters, each `?` in it becomes the literal of one."""
-        if self.is_closed:
-            raise InterfaceError("the cursor is closed")
+        self.look_whether_open()
         self.stop()
         self.asked = self.connection.info(query if parameters is None else bound(query, parameters))
         self.description = [described(field) for field in self.asked.schema]
@@ -87,16 +94,27 @@ class Cursor:
         return self
 
     def executemany(self, query: str, all_parameters: Sequence[Sequence[object]]) -> None:
+        """Is refused: each query has an answer of its own."""
+        self.look_whether_open()
         raise NotSupportedError("a query gives rows, and several can't be asked at once; use put")
 
     def rows(self, info: Info) -> Iterator[Row]:
-        for endpoint in info.endpoints:
-            self.stream = self.connection.stream(endpoint)
-            for batch in self.stream:
-                yield from batch.rows()
+        """The rows of an answer. After a failure no query is asked, so that the rows so far do not look like all."""
+        try:
+            for endpoint in info.endpoints:
+                self.stream = self.connection.stream(endpoint)
+                for batch in self.stream:
+                    yield from batch.rows()
+        except GeneratorExit:
+            raise
+        except BaseException:
+            self.stop()
+            raise
         self.stream = None
 
     def waiting(self) -> Iterator[Row]:
+        """The rows that were not fetched yet."""
+        self.look_whether_open()
         if self.coming is None:
             raise ProgrammingError("no query was asked")
         return self.coming
@@ -116,12 +134,15 @@ class Cursor:
 
     def fetch_table(self, streams: int = 1) -> Table:
         """The whole answer as columns, from its first row on, whatever was fetched before."""
+        self.look_whether_open()
         if self.asked is None:
             raise ProgrammingError("no query was asked")
         return self.connection.read_all(self.asked, streams)
 
     def setinputsizes(self, sizes: Sequence[object]) -> None:
         """DB-API asks for it; it does nothing."""
+        self.look_whether_open()
 
     def setoutputsize(self, size: int, column: int | None = None) -> None:
         """DB-API asks for it; it does nothing."""
+        self.look_whether_open()

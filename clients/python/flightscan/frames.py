@@ -12,7 +12,7 @@ from .errors import DataError, InterfaceError
 from .rows import Values
 from .schema import DAY, INTEGERS, NUMBER, TEXT, TRUTH, Field, Schema, dictionary_of
 from .tables import JoinedColumn, Table
-from .values import of_array, refused, values_of, with_codes
+from .values import look_at_name, of_array, refused, values_of, with_codes
 
 FIRST_DAY, LAST_DAY = -106_751, 106_751  # what 64 bits of nanoseconds hold: 1677-09-22 to 2262-04-11
 CHOICES = {"decimals": ("objects", "integers"), "dates": ("datetime64", "objects")}
@@ -87,8 +87,7 @@ def values_of_frame(frame: pandas.DataFrame, schema: Schema | None) -> list[Valu
 
 def values_of_series(name: Any, series: pandas.Series[Any], field: Field | None) -> Values:
     """A column of a frame to put. pandas' own types may have nulls, and numpy's integers and truths may not."""
-    if not isinstance(name, str):
-        raise InterfaceError(f"a column is named {name!r}, and a name must be a string")
+    look_at_name(name)
     dtype = series.dtype
     if isinstance(dtype, pandas.CategoricalDtype):
         return values_of_categories(name, series, field)
@@ -106,10 +105,9 @@ def values_of_series(name: Any, series: pandas.Series[Any], field: Field | None)
 
 
 def values_of_categories(name: str, series: pandas.Series[Any], field: Field | None) -> Values:
-    categories = series.cat.categories
-    if not all(isinstance(value, str) for value in categories):
-        return values_of_series(name, series.astype(categories.dtype), field)
-    codes = series.cat.codes.to_numpy()
+    categories, codes = series.cat.categories, series.cat.codes.to_numpy()
     nulls = codes == -1
+    if not all(isinstance(value, str) for value in categories):
+        return of_array(name, categories.to_numpy()[codes], nulls if nulls.any() else None, field)
     field = field or Field(name, dictionary_of(codes.dtype))
     return with_codes(field, codes, nulls if nulls.any() else None, tuple(categories))

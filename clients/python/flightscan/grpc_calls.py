@@ -7,7 +7,7 @@ import pathlib
 import threading
 from collections.abc import Iterable, Iterator
 
-from .errors import InterfaceError, refusal
+from .errors import InterfaceError, fault, refusal
 from .messages import SERVICE
 from .records import Pieces
 
@@ -39,11 +39,12 @@ class GrpcCalls:
     """A channel to a gateway, to which each call shows the token."""
 
     def __init__(self, address: str, timeout: float | None, token: str | None = None, certificates: str | None = None):
-        self.server, self.timeout = address, timeout
+        self.server, self.timeout, self.is_closed = address, timeout, False
         self.metadata = (("authorization", f"Bearer {token}"),) if token else ()
         self.channel = channel_to(address, certificates)
 
     def close(self) -> None:
+        self.is_closed = True
         self.channel.close()
 
     def call(self, method: str, messages: Iterable[Pieces]) -> Iterator[memoryview]:
@@ -61,14 +62,20 @@ class GrpcCalls:
                 call.cancel()
 
         timeout = None if method in LONG_CALLS else self.timeout
-        call = self.channel.stream_stream(SERVICE + method)(joined(), timeout=timeout, metadata=self.metadata)
-        begun.set()
+        try:
+            call = self.channel.stream_stream(SERVICE + method)(joined(), timeout=timeout, metadata=self.metadata)
+        except ValueError:  # (its text would show the token)
+            raise InterfaceError("the connection is closed" if self.is_closed else "the token can't be sent") from None
+        finally:
+            begun.set()
         try:
             for message in call:
                 yield memoryview(message)
         except grpc.RpcError as failed:
             if failures:
                 raise failures[0] from None
+            if self.is_closed:
+                raise fault(22, "the connection was closed", self.server) from None
             raise refusal(failed.details() or failed.code().name, failed.code().value[0], self.server) from None
         finally:
             call.cancel()

@@ -8,8 +8,11 @@ from collections.abc import Iterator, Sequence
 from dataclasses import dataclass
 from decimal import Decimal
 
+import numpy as np
+
 from .errors import NotSupportedError, ProgrammingError
 
+ABOVE_DIGITS = 10**38  # the query language takes numbers below it
 TOKEN = re.compile(
     r"""(?P<space>[ \t\n\r]+|--[^\n]*)|(?P<name>"(?:[^"]|"")*")|(?P<string>'(?:[^']|'')*')"""
     r"""|(?P<word>[A-Za-z_][A-Za-z0-9_]*)|(?P<digits>[0-9]+)|(?P<symbol>.)""",
@@ -44,19 +47,21 @@ def tokens(query: str) -> Iterator[Token]:
 
 def literal(value: object) -> str:
     """A value as the query language writes it."""
-    if isinstance(value, bool):
+    if isinstance(value, (bool, np.bool_)):
         return "TRUE" if value else "FALSE"
     if isinstance(value, str):
         return "'" + value.replace("'", "''") + "'"
-    if isinstance(value, Decimal) and value == value.to_integral_value():
+    if isinstance(value, np.integer):
         return str(int(value))
-    if isinstance(value, int):
-        return str(int(value))
+    if isinstance(value, int) or isinstance(value, Decimal) and value.is_finite():
+        if -ABOVE_DIGITS < value < ABOVE_DIGITS and value == int(value):
+            return str(int(value))
+        raise NotSupportedError("a number with a fraction or with more than 38 digits has no literal")
     if isinstance(value, datetime.date) and not isinstance(value, datetime.datetime):
         return f"DATE '{value.isoformat()}'"
     if value is None:
         raise NotSupportedError("NULL is no operand: write IS NULL")
-    raise NotSupportedError(f"{type(value).__name__} has no literal")
+    raise NotSupportedError(f"{value if isinstance(value, Decimal) else type(value).__name__} has no literal")
 
 
 def bound(query: str, values: Sequence[object]) -> str:

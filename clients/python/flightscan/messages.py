@@ -109,6 +109,7 @@ class Info:
 
     @classmethod
     def read(cls, message: memoryview, server: str) -> Info:
+        """The info that a FlightInfo of this server says."""
         tickets = [bytes(content(content(endpoint, 1), 1)) for endpoint in contents(message, 3)]
         if not tickets:
             raise fault(4, "an info without an endpoint", server)

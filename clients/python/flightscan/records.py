@@ -7,11 +7,12 @@ import socket
 import struct
 import threading
 from collections.abc import Iterable, Iterator, Sequence
+from contextlib import suppress
 from typing import Any
 
 import numpy as np
 
-from .errors import Error, OperationalError, fault, refusal
+from .errors import Error, InterfaceError, OperationalError, fault, refusal
 from .messages import SERVICE
 
 OPEN, MESSAGE, END, STATUS = 1, 2, 3, 4  # the kinds of records
@@ -40,14 +41,22 @@ class Link:
     def __init__(self, host: str, port: int, timeout: float | None):
         self.server, self.timeout, self.seen = f"{host}:{port}", timeout, 0
         self.is_between = True  # calls: the last one was sent and answered to its end
+        self.is_broken_off = False
         try:
             self.socket = socket.create_connection((host, port), timeout)
-            self.socket.setsockopt(socket.IPPROTO_TCP, socket.TCP_NODELAY, 1)
-        except OSError as failed:
+        except (OSError, UnicodeError) as failed:  # (the latter by a name that can't be one of a host)
             raise fault(22, f"no server: {failed}", self.server) from None
+        with suppress(OSError):
+            self.socket.setsockopt(socket.IPPROTO_TCP, socket.TCP_NODELAY, 1)
 
     def close(self) -> None:
         self.socket.close()
+
+    def break_off(self) -> None:
+        """Ends the call that another thread makes; that thread closes the socket."""
+        self.is_broken_off = True
+        with suppress(OSError):
+            self.socket.shutdown(socket.SHUT_RDWR)
 
     def is_whole(self) -> bool:
         """Whether the server still has this connection, and has said nothing after the last answer."""
@@ -98,7 +107,9 @@ class Link:
         return self.lost(failed)
 
     def lost(self, failed: OSError | None = None) -> OperationalError:
-        if isinstance(failed, TimeoutError):
+        if self.is_broken_off:
+            said = "the connection was closed"
+        elif isinstance(failed, TimeoutError) and failed.errno is None and self.timeout is not None:
             said = f"no byte in {self.timeout:g} seconds; perhaps all seats of the server are taken"
         else:
             said = f"the connection broke: {failed}" if failed else "the server ended the connection"
@@ -150,10 +161,14 @@ class Records:
         self.host, self.port, self.timeout, self.server = host, port, timeout, f"{host}:{port}"
         self.lock, self.puts, self.is_closed = threading.Lock(), 0, False
         self.idle: list[Link] = []
+        self.used: set[Link] = set()
 
     def close(self) -> None:
+        """Closes the sockets that no call has, and breaks the calls off that go on."""
         with self.lock:
             self.is_closed, idle, self.idle = True, self.idle, []
+            for link in self.used:
+                link.break_off()
         for link in idle:
             link.close()
 
@@ -167,7 +182,10 @@ class Records:
             self.end(link, method)
 
     def take(self, method: str) -> Link:
+        """A socket for a call, which `end` takes back."""
         with self.lock:
+            if self.is_closed:
+                raise InterfaceError("the connection is closed")
             puts, idle = self.puts, self.idle
             wanted = [link for link in idle if method == "DoGet" or link.seen == puts]
             wanted.sort(key=lambda link: link.seen, reverse=True)
@@ -175,15 +193,21 @@ class Records:
                 link = wanted.pop()
                 idle.remove(link)
                 if link.is_whole():
+                    self.used.add(link)
                     return link
                 link.close()
         link = Link(self.host, self.port, self.timeout)
         link.seen = puts
+        with self.lock:
+            self.used.add(link)
+            if self.is_closed:
+                link.break_off()
         return link
 
     def end(self, link: Link, method: str) -> None:
         """Keeps a socket for the next call where its call went to its end, and else closes it."""
         with self.lock:
+            self.used.discard(link)
             if method == "DoPut":
                 link.seen += link.seen == self.puts
                 self.puts += 1

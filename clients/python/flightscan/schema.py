@@ -33,10 +33,12 @@ class DataType:
 
     @property
     def is_dictionary(self) -> bool:
+        """Whether it is a dictionary of strings."""
         return self.name == "dictionary"
 
     @property
     def is_integer(self) -> bool:
+        """Whether it is an integer of 8 to 64 bits."""
         return self.name in INTEGERS
 
     def __eq__(self, other: object) -> bool:
@@ -100,6 +102,7 @@ class Schema:
 
     @property
     def names(self) -> list[str]:
+        """The names of the columns."""
         return [field.name for field in self.fields]
 
     def __str__(self) -> str:

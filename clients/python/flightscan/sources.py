@@ -17,7 +17,7 @@ from .rows import ROWS_OF_A_BATCH, Values, cut, dictionary_messages
 from .schema import Field, Schema, dictionary_of, schema_message
 from .stream import Batch
 from .tables import Table
-from .values import fitted, look_at_nulls, values_of, with_codes
+from .values import fitted, look_at_name, look_at_nulls, values_of, with_codes
 
 
 
@@ -67,6 +67,8 @@ def parts_of(source: Any, schema: Schema | None) -> Iterator[list[Values]]:
 def values_of_mapping(source: Mapping[str, Any], schema: Schema | None) -> list[Values]:
     if schema is not None and list(source) != schema.names:
         raise InterfaceError(f"the columns are {list(source)}, and those of the schema {schema.names}")
+    for name in source:
+        look_at_name(name)
     fields = [None] * len(source) if schema is None else schema.fields
     return [values_of(name, found, field) for (name, found), field in zip(source.items(), fields)]
 
@@ -115,6 +117,8 @@ class Put:
 
     def messages(self) -> Iterator[Pieces]:
         """The command with the schema, then dictionaries and batches. Rows become bytes as they are asked for."""
+        if self.rows < 1:
+            raise InterfaceError(f"a batch of at most {self.rows} rows")
         command = chunk(1, ingest(self.table, self.mode))
         parts = parts_of(self.source, self.schema)
         first = next(parts, None)

@@ -52,11 +52,13 @@ class JoinedColumn:
         return [one for part in self.parts for one in part.objects()]
 
     def empty_dtype(self) -> Any:
+        """The dtype of the values where there are no batches."""
         of = self.field.type
         return of.dtype if of.is_integer else {"bool": np.bool_, "date": "datetime64[D]"}.get(of.name, object)
 
     @staticmethod
     def joined(found: Sequence[Array], dtype: Any) -> Array:
+        """Arrays one after the other: the first one itself if it is the only one, and of this dtype if there are none."""
         if len(found) == 1:
             return found[0]
         made: Array = np.concatenate(found) if found else np.empty(0, dtype)

@@ -3,13 +3,14 @@
 from __future__ import annotations
 
 import datetime
+from collections.abc import Iterable, Mapping, Set
 from decimal import Decimal
 from typing import Any
 
 import numpy as np
 
 from .columns import EPOCH, Array
-from .errors import DataError, NotSupportedError
+from .errors import DataError, InterfaceError, NotSupportedError
 from .rows import Values
 from .schema import DAY, INTEGERS, NUMBER, TEXT, TRUTH, DataType, Field
 
@@ -29,6 +30,8 @@ def values_of(name: str, found: Any, field: Field | None = None) -> Values:
         mask, found = np.ma.getmaskarray(found), found.data  # type: ignore[no-untyped-call]
     if isinstance(found, np.ndarray):
         data = found
+    elif isinstance(found, (str, bytes, Mapping, Set)) or not isinstance(found, Iterable):
+        raise InterfaceError(f"column {name}: {type(found).__name__} is no list of values")
     else:
         listed = list(found)
         data = np.empty(len(listed), object)
@@ -93,13 +96,18 @@ def of_objects(name: str, data: Array, mask: Array | None, field: Field | None) 
 
 
 def is_null(value: object) -> bool:
-    """Whether an object stands for a null: None, or what is not equal to itself, as NaN and pandas' NA and NaT."""
+    """Whether an object stands for a null: None, or what is not equal to itself, as NaN and pandas' NA and NaT. A Decimal
+    never does: as NaN it is refused."""
     if value is None:
         return True
     try:
-        return bool(value != value)
+        return bool(value != value) and not isinstance(value, Decimal)
     except TypeError:
         return True
+    except ValueError:  # an array
+        return False
+    except ArithmeticError:  # a NaN of Decimal that signals
+        return False
 
 
 def guessed_type(name: str, values: list[Any]) -> DataType:
@@ -118,11 +126,15 @@ def guessed_type(name: str, values: list[Any]) -> DataType:
 
 
 def whole_number(name: str, value: Any) -> int:
-    if value != int(value):
-        raise refused(name, "a decimal with a fraction")
+    """A number as an int, where 128 bits hold it."""
+    if isinstance(value, Decimal) and not value.is_finite():
+        raise refused(name, f"the decimal {value}")
     if not -(2**127) <= value < 2**127:
-        raise DataError(f"column {name}: {value} does not fit into 128 bits")
-    return int(value)
+        raise DataError(f"column {name}: {Decimal(value):.6g} does not fit into 128 bits")
+    whole = int(value)
+    if value != whole:
+        raise refused(name, "a decimal with a fraction")
+    return whole
 
 
 def coded(field: Field, data: Array, nulls: Array) -> Values:
@@ -151,6 +163,11 @@ def with_codes(field: Field, codes: Array, mask: Array | None, categories: tuple
 def class_of(of: DataType) -> str:
     """The types of one class hold the same values, if they are large enough."""
     return "number" if of.is_integer or of == NUMBER else of.name
+
+
+def look_at_name(name: object) -> None:
+    if not isinstance(name, str):
+        raise InterfaceError(f"a column is named {name!r}, and a name must be a string")
 
 
 def look_at_nulls(field: Field, mask: Array | None) -> None:

@@ -118,6 +118,12 @@ def refused_values(run: Run) -> None:
         ("a timestamp", flightscan.NotSupportedError, "column a: a timestamp", {"a": np.array(["2026-01-01T01"], "M8[s]")}, None),
         ("mixed objects", flightscan.NotSupportedError, "column a: int with str", {"a": [1, "b"]}, None),
         ("a fraction", flightscan.NotSupportedError, "column a: a decimal with", {"a": [Decimal("1.5")]}, None),
+        *((f"the decimal {said}", flightscan.NotSupportedError, f"column a: the decimal {said} is not taken",
+           {"a": [Decimal(1), Decimal(said), None]}, of) for said in ("NaN", "sNaN", "Infinity", "-Infinity")
+          for of in (None, "a:decimal?", "a:int64?")),
+        ("a decimal of many digits", flightscan.DataError, "column a: 1.00000e+5000 does not", {"a": [10**5_000]}, None),
+        ("a decimal with a great exponent", flightscan.DataError, "column a: 1e+999999999 does not",
+         {"a": [Decimal("1E+999999999")]}, None),
         ("too large a decimal", flightscan.DataError, "column a: 1", {"a": [2**127]}, "a:decimal"),
         ("too large a number", flightscan.DataError, "column a: a number", {"a": np.array([300])}, "a:int8"),
         ("a negative number", flightscan.DataError, "column a: a number", {"a": [-1]}, "a:uint64"),
@@ -133,10 +139,17 @@ def refused_values(run: Run) -> None:
         ("other names", flightscan.InterfaceError, "the columns are ['a']", {"a": [1]}, "b:int64"),
         ("other columns in a later part", flightscan.InterfaceError, "the columns are", [{"a": [1]}, {"b": [1]}], None),
         ("no type", flightscan.InterfaceError, "'a:float'", {"a": [1]}, "a:float"),
+        *(("no list", flightscan.InterfaceError, f"column a: {type(one).__name__} is no list of values", {"a": one}, None)
+          for one in ("Delft", b"ab", 5, {1, 2}, {1: 2})),
+        ("arrays as values", flightscan.NotSupportedError, "column a: ndarray", {"a": [np.arange(2), np.arange(3)]}, None),
+        ("a number as name", flightscan.InterfaceError, "a column is named 1", {1: [1]}, None),
     ]
     for what, kind, text, source, schema in lists:
         refused(what, kind, text, lambda source=source, schema=schema: made(source, schema))
     refused("half of a pair", flightscan.InterfaceError, "'\\ud800' is no text", lambda: messages.statement("\ud800"))
+    for rows in (0, -1):
+        refused("no rows in a batch", flightscan.InterfaceError, f"a batch of at most {rows} rows",
+                lambda rows=rows: list(Put("t", "create", {"a": [1]}, rows=rows).messages()))
     refused("no mode", flightscan.InterfaceError, "'add' is no mode", lambda: messages.ingest("t", "add"))
 
 
@@ -149,6 +162,8 @@ def found_types(run: Run) -> None:
         ({"a": [True, None]}, "Bool", [[True], [None]], None),
         ({"a": [datetime.date(2026, 1, 1)]}, "Date", [[(datetime.date(2026, 1, 1) - EPOCH).days]], None),
         ({"a": ["x", float("nan"), None]}, "Utf8", [["x"], [None], [None]], None),
+        ({"a": np.ma.MaskedArray(np.array([Decimal(7), Decimal("NaN")], object), mask=[False, True])}, "Decimal128",
+         [[7], [None]], None),
         ({"a": np.array([1.0, np.nan])}, "Int16", [[1], [None]], "a:int16?"),
         ({"a": np.array(["x", "yz"])}, "Utf8", [["x"], ["yz"]], None),
         ({"a": np.array([3, 4], ">i4")}, "Int32", [[3], [4]], None),
@@ -171,6 +186,16 @@ def bound_parameters(run: Run) -> None:
     wanted = "SELECT \"?\", a -- ?\nFROM t WHERE s = '?''' AND b = 'o''clock' AND d = DATE '2026-12-01' AND c = TRUE"
     same("the query", wanted, literals.bound(query, values))
     same("numbers", "-5, 38, 7", literals.bound("?, ?, ?", (-5, np.int64(38).item(), Decimal(7))))
+    same("numbers of numpy", "-9223372036854775808, 255, 18446744073709551615, TRUE, FALSE, 'o''clock'", literals.bound(
+        "?, ?, ?, ?, ?, ?", (np.int64(-(2**63)), np.uint8(255), np.uint64(2**64 - 1), np.bool_(True), np.bool_(False),
+                             np.str_("o'clock"))))
+    same("great numbers", f"{10**38 - 1}, {-(10**38) + 1}, 1200", literals.bound("?, ?, ?", (
+        10**38 - 1, Decimal(-(10**38) + 1), Decimal("1.2E+3"))))
+    for value, text in ((Decimal("NaN"), "NaN has no literal"), (Decimal("sNaN"), "sNaN has no literal"),
+                        (Decimal("-Infinity"), "-Infinity has no literal"), (Decimal("0.5"), "a number with a fraction"),
+                        (10**38, "a number with"), (10**5_000, "a number with"), (Decimal("1E+999999999"), "a number with"),
+                        (np.float64(0.5), "float64 has no literal")):
+        refused("a number", flightscan.NotSupportedError, text, lambda value=value: literals.bound("?", (value,)))
     refused("too few", flightscan.ProgrammingError, "the query has 3 places", lambda: literals.bound(query, ()))
     refused("a null", flightscan.NotSupportedError, "NULL is no operand", lambda: literals.bound("?", (None,)))
     refused("a float", flightscan.NotSupportedError, "float has no literal", lambda: literals.bound("?", (0.5,)))

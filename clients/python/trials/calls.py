@@ -2,14 +2,20 @@
 
 from __future__ import annotations
 
+import errno
 import socket
 import threading
 import time
+from collections.abc import Iterator
+from contextlib import contextmanager
 from typing import Any
 
 import flightscan
 import numpy as np
 from flightscan.records import Link
+from flightscan.rows import Rows
+from flightscan.sources import Put, flight_data
+from loopback import Server
 from random_calls.answers import same
 
 from trials.bytes_written import SPELLED, plain_columns
@@ -263,19 +269,125 @@ def servers_that_break_off(run: Run) -> None:
             (b"\x04\x00\x00\x00", flightscan.InternalError, "F4 BadProto (0 messages"),
             (b"\x04\x08\x00\x0fF21 OutOfMemory", flightscan.OperationalError, "F21 OutOfMemory"),
             (b"\x04\x0e\x00\x05later", flightscan.OperationalError, "later")):
-        with socket.create_server(("127.0.0.1", 0)) as listener:
-            thread = threading.Thread(target=answer_once, args=(listener, said))
-            thread.start()
-            with flightscan.connect(listener.getsockname()[1], timeout=20) as connection:
-                refused(f"the answer {said!r}", kind, text, lambda: connection.info("SELECT a FROM t"))
-            thread.join()
+        with answering(said) as connection:
+            refused(f"the answer {said!r}", kind, text, lambda: connection.info("SELECT a FROM t"))
+    with answering(ENDED) as connection:
+        refused("no schema", flightscan.DataError, "F8 BadBatch (a stream without", lambda: connection.read(
+            flightscan.Endpoint(b"", connection.server)))
+    schema, batch = (record_of(pieces) for pieces in Put("t", "create", {"a": np.arange(3)}).messages())
+    for said, kind, text in ((schema + batch, flightscan.OperationalError, "F22 Transport (the server ended"),
+                             (schema + batch + batch[:-1], flightscan.OperationalError, "F22 Transport (the server ended"),
+                             (schema + batch + schema, flightscan.DataError, "F8 BadBatch (a second schema"),
+                             (schema + batch + b"\x04\x08\x00\x0fF21 OutOfMemory", flightscan.OperationalError, "F21")):
+        with answering(said) as connection:
+            stream = connection.stream(flightscan.Endpoint(b"", connection.server))
+            same("the first batch", [0, 1, 2], next(stream)["a"].values.tolist())
+            refused("the others", kind, text, lambda: list(stream))
+            refused("the others once more", flightscan.InterfaceError, "the stream is closed", lambda: list(stream))
+            same("sockets that are in use", set(), connection.calls.used)
+    with Server(run.path) as server, flightscan.connect(server.port) as connection:
+        connection.put("t", {"a": np.arange(2_000_000)})
+        stream = connection.stream(connection.endpoints("SELECT a FROM t")[0])
+        next(stream)
+        server.process.kill()
+        refused("a server that was killed", flightscan.OperationalError, "F22 Transport", lambda: list(stream))
+
+
+ENDED = b"\x04\x00\x00\x00"
+
+
+@contextmanager
+def answering(said: bytes) -> Iterator[flightscan.Connection]:
+    """A connection to a server that answers its first call by these bytes."""
     with socket.create_server(("127.0.0.1", 0)) as listener:
-        thread = threading.Thread(target=answer_once, args=(listener, b"\x04\x00\x00\x00"))
+        thread = threading.Thread(target=answer_once, args=(listener, said))
         thread.start()
         with flightscan.connect(listener.getsockname()[1], timeout=20) as connection:
-            endpoint = flightscan.Endpoint(b"", connection.server)
-            refused("no schema", flightscan.DataError, "F8 BadBatch (a stream without", lambda: connection.read(endpoint))
+            yield connection
         thread.join()
+
+
+def record_of(pieces: Any) -> bytes:
+    """A message as its record."""
+    whole = b"".join(pieces)
+    return b"\x02\x00" + len(whole).to_bytes(4, "big") + whole
+
+
+@case("batches without rows are batches too, also the first one")
+def empty_batches(run: Run) -> None:
+    schema, batch = (record_of(pieces) for pieces in Put("t", "create", {"a": np.arange(3)}).messages())
+    empty = record_of(flight_data(*Rows(0, [(0, [b"", b""])]).message()))
+    for said, wanted in ((empty + batch, [0, 3]), (empty + empty, [0, 0]), (batch + empty + batch, [3, 0, 3]), (b"", [])):
+        with answering(schema + said + ENDED) as connection:
+            stream = connection.stream(flightscan.Endpoint(b"", connection.server))
+            same("the rows of the batches", wanted, list(map(len, stream)))
+            same("after the end", [], list(stream))
+
+
+@case("after close(): calls, streams and calls of other threads say so, and seats are free at once")
+def closed_connections(run: Run) -> None:
+    with run.serving("--seats", "1") as server:
+        connection = flightscan.connect(server.port)
+        connection.put("t", {"a": np.arange(2_000_000)})
+        (endpoint,) = connection.endpoints("SELECT a FROM t")
+        with flightscan.connect(server.port) as other:
+            connection.close()
+            stream = other.stream(endpoint)
+            same("rows before it", True, len(next(stream)) > 0)
+        refused("a stream of a connection that was closed", flightscan.OperationalError,
+                "F22 Transport (the connection was closed)", lambda: list(stream))
+        refused("the same stream", flightscan.InterfaceError, "the stream is closed", lambda: next(stream))
+        with flightscan.connect(server.port, timeout=20) as third:
+            same("the seat is free", ["t"], third.tables())
+            stream = third.stream(endpoint)
+            stream.close()
+            refused("a stream that was closed", flightscan.InterfaceError, "the stream is closed", lambda: next(stream))
+        for name, words in CALLS.items():
+            refused(name, flightscan.InterfaceError, "the connection is closed",
+                    lambda name=name, words=words: getattr(connection, name)(*words))
+        refused("stream", flightscan.InterfaceError, "the connection is closed", lambda: connection.stream(endpoint))
+        connection.close()
+        look_at_waiting(server.port)
+
+
+CALLS: dict[str, tuple[Any, ...]] = {
+    "info": ("SELECT a FROM t",), "endpoints": ("SELECT a FROM t",), "schema": ("SELECT a FROM t",), "tables": (),
+    "query": ("SELECT a FROM t",), "put": ("t", {"a": [1]}), "expire": (1,), "cursor": (), "commit": (), "rollback": ()}
+
+
+def look_at_waiting(port: int) -> None:
+    """A call that waits for a seat ends once another thread closes its connection."""
+    taken, waiting, failures = Link("127.0.0.1", port, 5), flightscan.connect(port), []
+
+    def wait() -> None:
+        failures.append(refused("a call that waits", flightscan.OperationalError, "F22 Transport (the connection was closed)",
+                                waiting.tables))
+
+    thread = threading.Thread(target=wait)
+    thread.start()
+    while not waiting.calls.used:
+        time.sleep(0.01)
+    waiting.close()
+    thread.join(20)
+    same("the call has ended", (1, set()), (len(failures), waiting.calls.used))
+    taken.close()
+
+
+@case("why a connection was lost is said, also without a timeout")
+def reasons_of_losses(run: Run) -> None:
+    with run.serving("--seats", "2") as server:
+        for timeout, failed, text in (
+                (None, TimeoutError(errno.ETIMEDOUT, "timed out"), f"the connection broke: [Errno {errno.ETIMEDOUT}] timed out"),
+                (7, TimeoutError(errno.ETIMEDOUT, "timed out"), f"the connection broke: [Errno {errno.ETIMEDOUT}] timed out"),
+                (None, TimeoutError("timed out"), "the connection broke: timed out"),
+                (7, TimeoutError("timed out"), "no byte in 7 seconds; perhaps"),
+                (None, ConnectionResetError("reset"), "the connection broke: reset"), (None, None, "the server ended")):
+            link = Link("127.0.0.1", server.port, timeout)
+            same("the reason", f"F22 Transport ({text}", link.lost(failed).text[: len(text) + 15])
+            link.close()
+        with flightscan.connect(server.port, timeout=None) as connection:
+            same("a call without a timeout", [], connection.tables())
+    refused("no name of a host", flightscan.OperationalError, "F22 Transport (no server", flightscan.connect("a..b:1").tables)
 
 
 def answer_once(listener: socket.socket, said: bytes) -> None:

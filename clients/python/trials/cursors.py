@@ -9,7 +9,7 @@ from random import Random
 import flightscan
 import numpy as np
 import wire
-from loopback import Connection
+from loopback import Connection, Server
 from random_calls import plain_model as model
 from random_calls.answers import same
 from random_calls.puts import ingest, messages_of, put_of, stream_of
@@ -53,11 +53,32 @@ def cursors(run: Run) -> None:
         refused("several", flightscan.NotSupportedError, "a query gives rows", lambda: cursor.executemany("SELECT", []))
         refused("rollback", flightscan.NotSupportedError, "there are no transactions", connection.rollback)
         connection.commit()
-        cursor.close()
-        refused("a closed cursor", flightscan.InterfaceError, "the cursor is closed", lambda: cursor.execute("SELECT 1"))
         for name in ("setinputsizes", "setoutputsize"):
             same(name, None, getattr(cursor, name)(1))
+        other = connection.cursor().execute("SELECT a FROM t")
+        cursor.close()
+        look_at_closed(cursor, "the cursor is closed")
         same("the exceptions of a connection", flightscan.DataError, connection.DataError)
+    look_at_closed(other, "the connection is closed")
+
+
+def look_at_closed(cursor: flightscan.Cursor, text: str) -> None:
+    """Each call of a cursor says that it, or its connection, is closed; only to close it again is fine."""
+    for name, *words in (("execute", "SELECT 1"), ("executemany", "SELECT 1", []), ("fetchone",), ("fetchmany",), ("fetchall",),
+                         ("fetch_table",), ("setinputsizes", []), ("setoutputsize", 1)):
+        refused(name, flightscan.InterfaceError, text, lambda name=name, words=words: getattr(cursor, name)(*words))
+    cursor.close()
+
+
+@case("a cursor whose server is gone: the rows so far are not all, whatever is fetched next")
+def cursors_that_break_off(run: Run) -> None:
+    with Server(run.path) as server, flightscan.connect(server.port) as connection:
+        connection.put("t", {"a": np.arange(2_000_000)})
+        cursor = connection.cursor().execute("SELECT a FROM t")
+        same("the first row", (0,), cursor.fetchone())
+        server.process.kill()
+        refused("the others", flightscan.OperationalError, "F22 Transport", cursor.fetchall)
+        refused("the next one", flightscan.ProgrammingError, "no query was asked", cursor.fetchone)
 
 
 @case("random tables, put by records of other code, and random queries: the rows, or the fault, are those of the plain model")

@@ -109,6 +109,12 @@ def frames_refused(run: Run) -> None:
         refused("a number as name", flightscan.InterfaceError, "a column is named 0", lambda: connection.put(
             "t", pandas.DataFrame([[1]])))
         same("nothing was put", [], connection.tables())
+        nulls = {"a": pandas.Categorical([7, None, 8]), "b": pandas.Categorical([True, False, None]),
+                 "d": pandas.Categorical(pandas.to_datetime(["2026-01-01", None, None]))}
+        connection.put("nulls", pandas.DataFrame(nulls))
+        same("categories that are no strings, with nulls", ("a:int64?, b:bool?, d:date?", [
+            (7, True, datetime.date(2026, 1, 1)), (None, False, None), (8, None, None)]), (
+            str(connection.schema("SELECT * FROM nulls")), connection.query("SELECT * FROM nulls").rows()))
         whole = pandas.DataFrame({"a": [1.0, None, -3.0], "c": pandas.Categorical([7, 8, 7])})
         connection.put("t", whole, schema="a:int16?, c:uint8")
         same("the rows", [(1, 7), (None, 8), (-3, 7)], connection.query("SELECT * FROM t").rows())

@@ -2,6 +2,7 @@
 
 from __future__ import annotations
 
+import datetime
 import os
 import pathlib
 import subprocess
@@ -70,7 +71,7 @@ def with_categories(pandas: Any, given: Any, wanted: Any) -> Any:
     return given
 
 
-@case("hashes are the same in each process, for equal numbers of any width, and 0 of a null")
+@case("hashes are the same in each process, for equal values whatever holds them, and 0 of a null")
 def hashes_are_equal(run: Run) -> None:
     pandas, several = modules()
     words = ["Delft", "Jørgensby", None]
@@ -86,6 +87,59 @@ def hashes_are_equal(run: Run) -> None:
     for dtype in ("Int32", "float64"):
         same(f"{dtype} with a null", [*wanted, 0], several.hashes(pandas.Series([-5, 77, None], dtype=dtype)).tolist())
     same("a null", 0, int(several.hashes(pandas.Series(words))[2]))
+    look_at_objects(pandas, several, wanted)
+
+
+def look_at_objects(pandas: Any, several: Any, wanted: list[int]) -> None:
+    """Hashes of objects and of categories, next to those of arrays. `wanted` are those of -5 and 77."""
+    def hashes(values: Any, dtype: Any = None) -> list[int]:
+        return several.hashes(pandas.Series(values, dtype=dtype)).tolist()
+
+    for objects in ([-5, 77, None], [Decimal(-5), Decimal("7.7E+1"), None], [np.int8(-5), Decimal(77), pandas.NA]):
+        same(f"{objects}", [*wanted, 0], hashes(objects, object))
+    same("a category of numbers", [*wanted, 0, wanted[0]], hashes(pandas.Categorical([-5, 77, None, -5])))
+    same("a category of strings", hashes(["Delft", None, "a"]), hashes(pandas.Categorical(["Delft", None, "a"])))
+    same("a category without values", [0, 0], hashes(pandas.Categorical([None, None])))
+    same("large numbers", hashes([2**64 - 1], "uint64"), hashes([Decimal(2**64 - 1)]))
+    same("truths", hashes([True, None], "boolean"), hashes([True, None], object))
+    days = [datetime.date(1700, 1, 1), None, datetime.date(2026, 12, 1)]
+    same("dates", hashes(pandas.to_datetime(days)), hashes(days, object))
+    same("an early date has a hash", True, hashes([datetime.date(1, 1, 1)])[0] != 0)
+    for value, text in ((Decimal("Infinity"), "the decimal Infinity"), (Decimal("0.5"), "a decimal with a fraction")):
+        refused(text, flightscan.NotSupportedError, f"column None: {text}", lambda value=value: hashes([value], object))
+    for values in (pandas.Categorical([5, None, 50, 10]), pandas.array([5, None, 50, 10], "Int8"), [Decimal(5), None, 50, 10]):
+        places = several.places_of(pandas.Series(values), pandas.Index([10, 20]))
+        same(f"the ranges of {values}", [0, 0, 2, 1], places.tolist())
+
+
+@case("each frame has keys of its own: what Dask holds of an earlier server's life does not pass for new rows")
+def keys_of_frames(run: Run) -> None:
+    _, several = modules()
+    server = "127.0.0.1:1"
+    info = flightscan.Info(flightscan.Schema.spelled("a:int64"), (flightscan.Endpoint(b"ticket", server),), server)
+    keys = [several.Infos("SELECT a FROM t", (info,)).frame().__dask_keys__() for _ in range(2)]
+    same("equal keys", False, keys[0] == keys[1])
+
+
+@case("rows spread by a category of numbers with nulls, and by early dates; groups by early dates")
+def spread_by_categories(run: Run) -> None:
+    pandas, several = modules()
+    days = [datetime.date(1600, 1, 1), datetime.date(2026, 1, 1), None, datetime.date(9999, 12, 31)]
+    frame = pandas.DataFrame({"id": range(1_000), "day": [days[number % 4] for number in range(1_000)],
+                              "route": pandas.Categorical([None if number % 7 == 0 else number % 50 for number in range(1_000)])})
+    with run.several(3) as servers:
+        for table, by in (("routes", "route"), ("days", "day"), ("ranges", ("route", [10, 40]))):
+            same("all rows", 1_000, sum(several.put_table(frame, servers, by, table)))
+            infos = several.ask(f"SELECT * FROM {table}", servers)
+            rows = sorted(infos.frame(dates="objects").compute()[["id", "day", "route"]].itertuples(index=False, name=None))
+            wanted = [(number, days[number % 4], None if number % 7 == 0 else number % 50) for number in range(1_000)]
+            same("the rows", wanted, [(number, day, None if pandas.isna(route) else int(route)) for number, day, route in rows])
+        low = several.ask("SELECT route FROM ranges WHERE route < 10", servers[:1]).frame().compute()
+        same("the rows below the first bound", sum(0 < number % 7 and number % 50 < 10 for number in range(1_000)), len(low))
+        query = "SELECT day, COUNT(*) AS n FROM routes GROUP BY day"
+        refused("early dates", flightscan.DataError, "column day: a date outside 1677", lambda: several.grouped(query, servers))
+        for groups in (several.grouped(query, servers, dates="objects"), several.ask(query, servers).grouped("objects")):
+            same("groups by early dates", dict.fromkeys(days, 250), dict(zip(groups["day"], groups["n"].tolist())))
 
 
 @case("groups: counts and sums of all servers, added exactly, are those of pandas over all rows")

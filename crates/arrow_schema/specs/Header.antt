@@ -31,6 +31,7 @@ abbrev pub header_kinds : List (ℕ × HeaderKind)
 header_kinds =
     (1, header.Schema) ∷ (2, header.DictionaryBatch) ∷ (3, header.RecordBatch) ∷ []
 
+-- the kind of a number, or that there is none such here
 abbrev pub header_kind : ℕ → Result HeaderKind Fault
 header_kind number = meaning_of header_kinds number
 

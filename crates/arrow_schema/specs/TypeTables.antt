@@ -39,26 +39,31 @@ pub record SaysInteger (table : TableAt) (integer : IntegerType) : Type 0 where
   pub width : HasScalar 4 table 0 0 (bit_width integer)
   pub signed : HasFlag table 1 (is_signed integer)
 
--- the whole numbers, by how many bits: with a sign, and without
+-- the whole numbers with a sign, by how many bits
 abbrev pub signed_types : List (ℕ × IntegerType)
 signed_types = (8, Int8) ∷ (16, Int16) ∷ (32, Int32) ∷ (64, Int64) ∷ []
 
+-- and those without one
 abbrev pub unsigned_types : List (ℕ × IntegerType)
 unsigned_types = (8, UInt8) ∷ (16, UInt16) ∷ (32, UInt32) ∷ (64, UInt64) ∷ []
 
+-- the type of whole numbers of so many bits, where true has a sign
 abbrev pub integer_type : Bool → ℕ → Result IntegerType Fault
 integer_type true bits = meaning_of signed_types bits
 integer_type false bits = meaning_of unsigned_types bits
 
+-- what an Int table says
 unfoldable pub integer_of : TableAt → Result IntegerType Fault
 integer_of table = do
   bits ← scalar_of 4 table 0 0
   signed ← scalar_of 1 table 1 0
   integer_type (not (signed == 0)) bits
 
+-- what is written into an Int table
 abbrev pub integer_slots : IntegerType → List Given
 integer_slots integer = Scalar (bit_width integer) ∷ Scalar (flag (is_signed integer)) ∷ []
 
+-- the Int table as a part of a buffer
 unfoldable pub integer_part : IntegerType → Part
 integer_part integer = table_part (integer_slots integer)
 
@@ -70,6 +75,7 @@ pub record SaysDecimal (table : TableAt) : Type 0 where
   pub scale : HasScalar 4 table 1 0 0
   pub width : HasScalar 4 table 2 128 128
 
+-- what a Decimal table says: 38 digits, none of them after the point, in 128 bits
 unfoldable pub decimal_of : TableAt → Result DataType Fault
 decimal_of table = do
   precision ← scalar_of 4 table 0 0
@@ -84,6 +90,7 @@ decimal_of table = do
 pub record SaysDate (table : TableAt) : Type 0 where
   pub unit : HasScalar 2 table 0 1 0
 
+-- what a Date table says: that its unit is a day
 unfoldable pub date_of : TableAt → Result DataType Fault
 date_of table = do
   unit ← scalar_of 2 table 0 1

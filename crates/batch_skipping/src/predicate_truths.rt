@@ -33,8 +33,7 @@ pub trait ColumnStats<C> {
         requires { IsTrue (has self.now column.now) }
         ensures { side_at result ≡ stats self.now column.now };
 
-    /// How the least and the greatest text of a column begin, where this is known without them. It
-    /// is `None` of other values.
+    /// How a column's least and greatest text begin, where this is known; `None` of other values.
     fn beginnings(&self, column: &C) -> Option<Beginnings<'_>>
         requires { IsTrue (has self.now column.now) }
         ensures { IfSome result (λ known. AreBeginnings known (stats self.now column.now)) };
@@ -151,8 +150,7 @@ fn standing_to<C>(known: &Beginnings<'_>, literal: &Operand<C>) -> Option<TextSt
     }
 }
 
-// The possible truths of a comparison of a column of texts with a literal, on either side, where
-// their first bytes tell.
+// The possible truths of a column of texts next to a literal, where their first bytes tell.
 fn begun_compared<C, M: ColumnStats<C>>(
     comparison: Comparison,
     left: &Operand<C>,
@@ -234,8 +232,7 @@ fn begun_among<C, M: ColumnStats<C>>(
     Some(found)
 }
 
-// The functions of the leaves are not inlined: a chain has a frame of `can` for each side, which is
-// to be small.
+// Leaves are not inlined: a chain has a frame of `can` for each side, which is to be small.
 
 // left comparison right, of any values
 #[inline(never)]
@@ -458,8 +455,7 @@ fn can<C, M: ColumnStats<C>>(predicate: &Predicate<C>, batch: &M) -> PossibleTru
     }
 }
 
-/// Whether a predicate can be true in a row of a batch, by the statistics of its columns. It takes
-/// no memory.
+/// Whether a predicate can be true in a row of a batch, by its statistics. It takes no memory.
 pub fn may_hold<C, M: ColumnStats<C>>(conjunct: &Predicate<C>, batch: &M) -> bool
     requires { IsTrue (names_only (M.has batch.now) (pred_of conjunct.now)) }
     ensures { result ≡ (can (M.stats batch.now) (pred_of conjunct.now)).can_true }

@@ -8,4 +8,6 @@ pub mod Spread
 pub mod InTurn
 pub mod Listing
 pub mod Listed
+pub mod Described
+pub mod Quoting
 pub mod RowsSent

@@ -1,32 +1,30 @@
--- What each command of a client does.
-use Rattle.std.specs.Prelude.{◌≡◌, ◌≢◌, ◌⊎◌, ℕ, List, [], ◌∷◌, Option, Some, None, Result, Ok, Err}
-use Rattle.std.specs.Prelude.{codes}
+-- What each command of a client does: over one connection, what calls give is told.
+use Rattle.std.specs.Prelude.{◌≡◌, ◌≢◌, ◌⊎◌, ℕ, List, ◌∷◌, [], ◌++◌, Option, Some, None, Result, Ok}
+use Rattle.std.specs.Prelude.{Err, codes}
 use Rattle.std.specs.List.{flat_map}
+use Rattle.std.specs.Str.{byte}
 use Rattle.scan_base.specs.declared.fault.Fault.{Fault}
 use Rattle.scan_base.specs.declared.fault.Fault.TheVariants.{OutOfMemory, Transport}
+use Rattle.sql_text.specs.Values.{quoted}
 use Rattle.flight_proto.specs.Expiry.{expiry_bytes}
-use Rattle.flight_proto.specs.InfoCommand.{tables}
-use Rattle.ipc_stream.specs.declared.message.IpcMessage.{IpcMessage}
+use Rattle.flight_proto.specs.InfoCommand.{InfoCommand, rows_of, tables}
+use Rattle.fault_hints.specs.Hints.{call_line, expiry_hint, query_hint}
 use Rattle.table_versions.specs.Table.{Table}
 use Rattle.row_text.specs.Lines.{name_line}
-use Rattle.client_calls.specs.declared.call.Method.TheVariants.{DoPut, DoAction}
+use Rattle.csv_input.specs.Lines.{columns_line}
+use Rattle.client_calls.specs.declared.call.Method.TheVariants.{DoAction}
 use Rattle.client_calls.specs.declared.failure.Failure.{Failure}
 use Rattle.client_calls.specs.declared.failure.Failure.TheVariants.{Found}
-use Rattle.client_calls.specs.declared.put_call.Target.{Target}
 use Rattle.client_calls.specs.Answers.{AnswersOne}
-use Rattle.client_calls.specs.Commands.{put_payloads, ReadsCount, ReadsFloor}
+use Rattle.client_calls.specs.Commands.{ReadsFloor}
 use Rattle.client_calls.specs.Outcome.{Calls, Line}
 use Rattle.command_ends.specs.Network.{Ends}
-use Rattle.command_ends.specs.Printing.{Said, Prints, cause_lines, count_line, fault_line}
-use Rattle.command_ends.specs.Printing.{floor_line}
-use Rattle.command_ends.specs.WholeInput.{Source, ReadsMessages}
+use Rattle.command_ends.specs.Printing.{Said, Prints, cause_lines, fault_line, floor_line}
 use Rattle.command_ends.specs.declared.exit_status.ExitStatus.{ExitStatus}
 use Rattle.command_ends.specs.declared.exit_status.ExitStatus.TheVariants.{FaultAtThisEnd}
-use Rattle.csv_input.specs.Input.{Form, ReadsCsv, TextAt}
 use Rattle.client_commands.specs.Fetching.{Fetches}
 use Rattle.client_commands.specs.Lines.{opened_line}
 use Rattle.client_commands.specs.Names.{names_listed}
-use Rattle.client_commands.specs.RowsPut.{PutsRows}
 use Rattle.client_commands.specs.CallOutcome.{Tells}
 
 -- what a command prints on: its output and its faults, before and after it
@@ -43,6 +41,11 @@ pub record EndsBy (lines : List ℕ) (status : ExitStatus) (old new : Desk) : Ty
   pub nothing : new.out ≡ old.out
   pub status_is : status ≡ FaultAtThisEnd
   pub says : Prints lines old.faults new.faults
+
+-- the lines that say why the input was not read
+abbrev pub reading_lines : Fault → List ℕ
+reading_lines Transport = cause_lines (codes "cannot read the input")
+reading_lines fault = fault_line fault
 
 -- how a result is told, on an output and on the faults
 abbrev pub Telling : Type 0 → Type 1
@@ -83,7 +86,7 @@ FetchesNames view (Err failure) old new =
 -- a line for each name
 abbrev pub ListsTables : (Option Ends → Type 0) → ExitStatus → Desk → Desk → Type 0
 ListsTables Gives status old new = Connects Gives (FetchesNames (λ (names : List (List ℕ)). names))
-    (Tells (flat_map name_line)) status old new
+    (Tells call_line (flat_map name_line)) status old new
 
 -- ---- expire
 
@@ -91,59 +94,30 @@ ListsTables Gives status old new = Connects Gives (FetchesNames (λ (names : Lis
 abbrev pub Expires : (Option Ends → Type 0) → ℕ → ExitStatus → Desk → Desk → Type 0
 Expires Gives version status old new =
     Connects Gives (Calls DoAction (expiry_bytes version ∷ []) (AnswersOne ReadsFloor))
-    (Tells floor_line) status old new
+    (Tells expiry_hint floor_line) status old new
 
--- ---- put
+-- ---- describe
 
--- the lines that say why the input was not read
-abbrev pub reading_lines : Fault → List ℕ
-reading_lines Transport = cause_lines (codes "cannot read the input")
-reading_lines fault = fault_line fault
+-- a query that has the columns of a table, and none of its rows
+abbrev pub columns_query : List ℕ → List ℕ
+columns_query table =
+    codes "SELECT * FROM " ++ quoted (byte "\"") table ++ codes " WHERE 0 = 1"
 
--- the input was not read, or is no stream: no connection is made
-pub record IsUnread (old new : Source) (untouched : Type 0) (status : ExitStatus)
-    (desk desk' : Desk) : Type 0 where
-  pub fault : Fault
-  pub reads : ReadsMessages (λ (messages : List IpcMessage). messages) (Err fault) old new
-  pub alone : untouched
-  pub ends : EndsBy (reading_lines fault) status desk desk'
+-- the line that spells the columns of rows that were fetched; or what failed
+abbrev pub FetchesColumns : {A : Type 0} → (A → List ℕ) → InfoCommand → Result A Failure → Line →
+    Line → Type 0
+FetchesColumns view wanted (Ok text) old new =
+    (rows : Table) × Fetches wanted (Ok rows) old new
+    × (view text ≡ columns_line rows.schema.fields)
+FetchesColumns view wanted (Err failure) old new =
+    Fetches wanted (Err failure) old new
+    ⊎ ((rows : Table) × Fetches wanted (Ok rows) old new × (failure ≡ Found OutOfMemory))
 
--- the whole input is the stream of these messages, which are put, and the line of their count is
--- printed
-pub record IsPut (old new : Source) (Gives : Option Ends → Type 0) (target : Target)
-    (status : ExitStatus) (desk desk' : Desk) : Type 0 where
-  pub messages : List IpcMessage
-  pub reads : ReadsMessages (λ (messages : List IpcMessage). messages) (Ok messages) old new
-  pub puts : Connects Gives (Calls DoPut (put_payloads target messages) (AnswersOne ReadsCount))
-      (Tells count_line) status desk desk'
-
-abbrev pub Puts : Source → Source → Type 0 → (Option Ends → Type 0) → Target → ExitStatus → Desk →
-    Desk → Type 0
-Puts old new untouched Gives target status desk desk' =
-    IsUnread old new untouched status desk desk' ⊎ IsPut old new Gives target status desk desk'
-
--- ---- put of CSV
-
--- the input was not read, or says no rows, and why is printed: no connection is made
-pub record IsNoCsv (form : Form) (old new : Source) (untouched : Type 0) (status : ExitStatus)
-    (desk desk' : Desk) : Type 0 where
-  pub reads : ReadsCsv {A = TextAt} form (λ text. text)
-      (Err status) old new desk.faults desk'.faults
-  pub alone : untouched
-  pub nothing : desk'.out ≡ desk.out
-
--- each record of the whole input says a row. The rows are put, and the line of their count is
--- printed.
-pub record IsPutCsv (form : Form) (old new : Source) (Gives : Option Ends → Type 0)
-    (target : Target) (status : ExitStatus) (desk desk' : Desk) : Type 0 where
-  pub text : TextAt
-  pub middle : Said
-  pub reads : ReadsCsv form (λ (text : TextAt). text) (Ok text) old new desk.faults middle
-  pub puts : Connects Gives (PutsRows target text) (Tells count_line) status
-      (desk_of desk.out middle) desk'
-
-abbrev pub PutsCsv : Form → Source → Source → Type 0 → (Option Ends → Type 0) → Target →
-    ExitStatus → Desk → Desk → Type 0
-PutsCsv form old new untouched Gives target status desk desk' =
-    IsNoCsv form old new untouched status desk desk'
-    ⊎ IsPutCsv form old new Gives target status desk desk'
+-- the line that spells the columns of a table; or memory for the query is refused, and no
+-- connection is made
+abbrev pub Describes : Type 0 → (Option Ends → Type 0) → List ℕ → ExitStatus → Desk → Desk → Type 0
+Describes untouched Gives table status old new =
+    (untouched × EndsBy (fault_line OutOfMemory) status old new)
+    ⊎ Connects Gives
+    (FetchesColumns (λ (text : List ℕ). text) (rows_of (columns_query table)))
+    (Tells (query_hint (columns_query table)) (λ text. text)) status old new

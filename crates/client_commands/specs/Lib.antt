@@ -9,5 +9,6 @@ pub mod InTurn
 pub mod Names
 pub mod RowsPut
 pub mod Commands
+pub mod Puts
 pub mod Queries
 pub mod inside

@@ -1,6 +1,7 @@
 //! `flightscan expire`: an expiry of old versions.
 
 ghost use Rattle.command_ends.specs.Printing.{floor_line, said_of};
+ghost use Rattle.fault_hints.specs.Hints.{expiry_hint};
 ghost use Rattle.grpc_frame.specs.Ends.{CanFail};
 ghost use Rattle.client_commands.specs.CallOutcome.{Tells};
 ghost use Rattle.client_commands.specs.Commands.{Expires, desk_of};
@@ -9,12 +10,12 @@ use crate::call_outcome::{end_by_failure, end_by_printing};
 use crate::connecting::{end_unconnected, open};
 use client_calls::Failure;
 use command_ends::{Connect, ExitStatus, print_floor};
+use fault_hints::Question;
 use grpc_frame::Output;
 use std::alloc::Global;
 
 /// Asks that the versions below a number are expired, and prints the floor in a line. A fault is
-/// printed on `faults` in a line, as far as that takes it; where no connection was made, a second
-/// line says so.
+/// printed on `faults` in a line, as far as that takes it, and lines after it say more.
 pub fn expire<C: Connect, W: Output, E: Output>(
     alloc: Global,
     network: &mut C,
@@ -49,7 +50,7 @@ fn tell_floor<W: Output, E: Output>(
 ) -> ExitStatus
     requires writes { CanFail (W.failures output.old) }
     requires prints { CanFail (E.failures faults.old) }
-    ensures { Tells floor_line expired result
+    ensures { Tells expiry_hint floor_line expired result
         (said_of W.Output output.old) (said_of W.Output output.new)
         (said_of E.Output faults.old) (said_of E.Output faults.new) }
 {
@@ -58,6 +59,6 @@ fn tell_floor<W: Output, E: Output>(
             let printed = print_floor(alloc, output, floor);
             end_by_printing(faults, printed)
         }
-        Err(failure) => end_by_failure(faults, failure),
+        Err(failure) => end_by_failure(alloc, faults, failure, Question::Expiry),
     }
 }

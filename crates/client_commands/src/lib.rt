@@ -11,6 +11,7 @@
 
 mod call_outcome;
 mod connecting;
+pub mod describe;
 pub mod expire;
 mod fetch_failure;
 mod fetching;
@@ -20,6 +21,7 @@ mod parallel_work;
 pub mod put;
 pub mod query;
 mod query_places;
+mod quoted_name;
 mod row_writer;
 mod rows_put;
 mod run_relay;

@@ -1,27 +1,34 @@
 //! `flightscan put`: an Arrow IPC stream, or CSV, into a table.
 
-ghost use Rattle.std.specs.Prelude.{◌≡◌};
+ghost use Rattle.std.specs.Prelude.{◌≡◌, [], ℕ, List, Some, IfSome};
 ghost use Rattle.grpc_frame.specs.Ends.{CanFail};
 ghost use Rattle.client_calls.specs.declared.call.Method.TheVariants.{DoPut};
 ghost use Rattle.client_calls.specs.Answers.{AnswersOne};
 ghost use Rattle.client_calls.specs.Commands.{ReadsCount, put_payloads};
 ghost use Rattle.client_calls.specs.Outcome.{Calls};
 ghost use Rattle.command_ends.specs.Printing.{count_line, said_of};
+ghost use Rattle.fault_hints.specs.Hints.{hint_of, lent, put_hint};
 ghost use Rattle.command_ends.specs.WholeInput.{source_of};
 ghost use Rattle.client_commands.specs.CallOutcome.{Tells};
-ghost use Rattle.client_commands.specs.Commands.{Connects, Puts, PutsCsv, desk_of};
+ghost use Rattle.client_commands.specs.Commands.{Connects, desk_of};
+ghost use Rattle.client_commands.specs.Puts.{Puts, PutsBytes, PutsCsv, first_header};
 ghost use Rattle.client_commands.specs.RowsPut.{PutsRows};
+ghost use Rattle.csv_columns.specs.Refusals.{WhyNoColumns};
+ghost use Rattle.csv_columns.specs.TextRecords.{records_in};
 ghost use Rattle.csv_input.specs.Input.{form_of};
 
-use crate::call_outcome::{end_by_failure, end_by_printing};
+use crate::call_outcome::{end_by_failure, end_by_printing, print_fault};
 use crate::connecting::{end_unconnected, open};
 use crate::rows_put::put_rows;
+use bytes::Bytes;
 use client_calls::{Failure, Target};
-use command_ends::{Connect, ExitStatus, end_by_cause, end_by_fault, print_count, read_messages};
+use command_ends::{Connect, ExitStatus, end_by_cause, end_by_fault, print_count, read_whole};
 use command_line::CsvForm;
+use csv_columns::columns_in;
 use csv_input::{CsvText, read_csv};
+use fault_hints::{Question, input_line, spelling_lines};
 use grpc_frame::{Input, Output};
-use ipc_stream::IpcMessage;
+use ipc_stream::{IpcMessage, ipc_messages};
 use scan_base::Fault;
 use std::alloc::Global;
 
@@ -36,7 +43,7 @@ pub struct PutCommand<'a> {
 
 /// Puts the Arrow IPC stream that the whole input is into a table, and prints how many rows were
 /// put. The input is read and cut before a connection is made. A fault is printed on `faults` in a
-/// line, as far as that takes it; where the input or the network failed, a second line says so.
+/// line, as far as that takes it, and lines after it say more.
 pub fn put<C: Connect, I: Input, W: Output, E: Output>(
     alloc: Global,
     network: &mut C,
@@ -59,9 +66,36 @@ pub fn put<C: Connect, I: Input, W: Output, E: Output>(
         (desk_of (said_of W.Output output.old) (said_of E.Output faults.old))
         (desk_of (said_of W.Output output.new) (said_of E.Output faults.new)) }
 {
-    match read_messages(alloc, input) {
-        Ok(messages) => put_messages(alloc, network, output, faults, putting, &messages),
+    match read_whole(alloc, input) {
+        Ok(stream) => put_bytes(alloc, network, output, faults, putting, &stream),
         Err(Fault::Transport) => end_by_cause(faults, "cannot read the input"),
+        Err(fault) => end_by_fault(faults, fault),
+    }
+}
+
+// Puts the Arrow IPC stream that bytes are.
+fn put_bytes<C: Connect, W: Output, E: Output>(
+    alloc: Global,
+    network: &mut C,
+    output: &mut W,
+    faults: &mut E,
+    putting: PutCommand<'_>,
+    stream: &Bytes,
+) -> ExitStatus
+    requires writes { CanFail (W.failures output.old) }
+    requires prints { CanFail (E.failures faults.old) }
+    ensures { PutsBytes stream.now (network.new ≡ network.old)
+        (λ ends. C.connects network.old putting.entry.port ends network.new)
+        putting.entry.target result
+        (desk_of (said_of W.Output output.old) (said_of E.Output faults.old))
+        (desk_of (said_of W.Output output.new) (said_of E.Output faults.new)) }
+{
+    match ipc_messages(alloc, stream) {
+        Ok(messages) => put_messages(alloc, network, output, faults, putting, &messages),
+        Err(Fault::BadFlatbuffer) => {
+            print_fault(faults, Fault::BadFlatbuffer, input_line(stream.as_slice()));
+            ExitStatus::FaultAtThisEnd
+        }
         Err(fault) => end_by_fault(faults, fault),
     }
 }
@@ -74,10 +108,10 @@ pub struct CsvPutting<'a> {
 }
 
 /// Puts the rows that the whole input says as CSV into a table, and prints how many rows were put.
-/// The input is read, and each record is looked at, before a connection is made. Then its rows are
-/// made and sent, batch by batch, so that memory holds the text and one batch. Columns that are
-/// found are printed on `faults` in a line. A fault is printed there in a line, as far as that
-/// takes it.
+/// The text that spells the columns is read first; then the input is read, and each record is
+/// looked at, before a connection is made. Then its rows are made and sent, batch by batch, so that
+/// memory holds the text and one batch. Columns that are found are printed on `faults` in a line. A
+/// fault is printed there in a line, as far as that takes it, and lines after it say more.
 pub fn put_csv<C: Connect, I: Input, W: Output, E: Output>(
     alloc: Global,
     network: &mut C,
@@ -91,8 +125,8 @@ pub fn put_csv<C: Connect, I: Input, W: Output, E: Output>(
     requires writes { CanFail (W.failures output.old) }
     requires prints { CanFail (E.failures faults.old) }
 
-    // The input says no rows or was not read, and why is printed; or its rows were put, and what
-    // came of it is.
+    // No columns are spelled, or the input says no rows or was not read, and why is printed; or its
+    // rows were put, and what came of it is.
     ensures { PutsCsv (form_of putting.entry.form) (source_of I.Input input.old)
         (source_of I.Input input.new) (network.new ≡ network.old)
         (λ ends. C.connects network.old putting.entry.putting.port ends network.new)
@@ -100,9 +134,25 @@ pub fn put_csv<C: Connect, I: Input, W: Output, E: Output>(
         (desk_of (said_of W.Output output.old) (said_of E.Output faults.old))
         (desk_of (said_of W.Output output.new) (said_of E.Output faults.new)) }
 {
+    if let Some(fault) = misspelled(alloc, putting.form) {
+        print_fault(faults, fault, spelling_lines(fault));
+        return ExitStatus::FaultAtThisEnd;
+    }
     match read_csv(alloc, input, faults, putting.form) {
         Ok(text) => put_text(alloc, network, output, faults, putting.putting, &text),
         Err(status) => status,
+    }
+}
+
+// Why the text that spells the columns spells none, where there is one.
+fn misspelled(alloc: Global, form: CsvForm<'_>) -> Option<Fault>
+    ensures { IfSome result (λ fault. (text : List ℕ) × ((form_of form.entry).columns ≡ Some text)
+        × WhyNoColumns (records_in text) fault) }
+{
+    let text = form.columns?;
+    match columns_in(alloc, text.as_bytes()) {
+        Ok(_) => None,
+        Err(fault) => Some(fault),
     }
 }
 
@@ -118,7 +168,8 @@ fn put_text<C: Connect, W: Output, E: Output>(
     requires writes { CanFail (W.failures output.old) }
     requires prints { CanFail (E.failures faults.old) }
     ensures { Connects (λ ends. C.connects network.old putting.entry.port ends network.new)
-        (PutsRows putting.entry.target text.now) (Tells count_line) result
+        (PutsRows putting.entry.target text.now) (Tells (put_hint putting.entry.target.table.now
+        putting.entry.target.mode (Some [])) count_line) result
         (desk_of (said_of W.Output output.old) (said_of E.Output faults.old))
         (desk_of (said_of W.Output output.new) (said_of E.Output faults.new)) }
 {
@@ -127,7 +178,8 @@ fn put_text<C: Connect, W: Output, E: Output>(
         Err(error) => return end_unconnected(alloc, faults, putting.port, &error),
     };
     let counted = put_rows(alloc, connection, putting.target, text);
-    tell_count(alloc, output, faults, counted)
+    let question = Question::Put(putting.target.table, putting.target.mode, Some(&[]));
+    tell_count(alloc, output, faults, counted, question)
 }
 
 // Puts these messages over a connection.
@@ -143,7 +195,8 @@ fn put_messages<C: Connect, W: Output, E: Output>(
     requires prints { CanFail (E.failures faults.old) }
     ensures { Connects (λ ends. C.connects network.old putting.entry.port ends network.new)
         (Calls DoPut (put_payloads putting.entry.target messages.now) (AnswersOne ReadsCount))
-        (Tells count_line) result
+        (Tells (put_hint putting.entry.target.table.now putting.entry.target.mode
+        (first_header messages.now)) count_line) result
         (desk_of (said_of W.Output output.old) (said_of E.Output faults.old))
         (desk_of (said_of W.Output output.new) (said_of E.Output faults.new)) }
 {
@@ -152,7 +205,22 @@ fn put_messages<C: Connect, W: Output, E: Output>(
         Err(error) => return end_unconnected(alloc, faults, putting.port, &error),
     };
     let counted = client_calls::put(alloc, &mut connection, putting.target, messages);
-    tell_count(alloc, output, faults, counted)
+    let question = Question::Put(
+        putting.target.table,
+        putting.target.mode,
+        first_header(messages),
+    );
+    tell_count(alloc, output, faults, counted, question)
+}
+
+// The header of the first message.
+fn first_header(messages: &[IpcMessage]) -> Option<&[u8]>
+    ensures { lent result ≡ first_header messages.now }
+{
+    match messages {
+        [] => None,
+        [first, ..] => Some(first.header.as_slice()),
+    }
 }
 
 // Tells how many rows were put, or why none were.
@@ -161,10 +229,11 @@ fn tell_count<W: Output, E: Output>(
     output: &mut W,
     faults: &mut E,
     counted: Result<u64, Failure>,
+    question: Question<'_>,
 ) -> ExitStatus
     requires writes { CanFail (W.failures output.old) }
     requires prints { CanFail (E.failures faults.old) }
-    ensures { Tells count_line counted result
+    ensures { Tells (hint_of question.entry) count_line counted result
         (said_of W.Output output.old) (said_of W.Output output.new)
         (said_of E.Output faults.old) (said_of E.Output faults.new) }
 {
@@ -173,6 +242,6 @@ fn tell_count<W: Output, E: Output>(
             let printed = print_count(alloc, output, rows);
             end_by_printing(faults, printed)
         }
-        Err(failure) => end_by_failure(faults, failure),
+        Err(failure) => end_by_failure(alloc, faults, failure, question),
     }
 }

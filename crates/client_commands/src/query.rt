@@ -1,9 +1,12 @@
 //! `flightscan query`: the rows that a query answers.
 
+ghost use Rattle.std.specs.Prelude.{◌≡◌};
 ghost use Rattle.grpc_frame.specs.Ends.{CanFail};
 ghost use Rattle.command_ends.specs.Printing.{said_of};
+ghost use Rattle.fault_hints.specs.Hints.{query_hint};
 ghost use Rattle.client_commands.specs.Commands.{desk_of};
-ghost use Rattle.client_commands.specs.Queries.{Queries};
+ghost use Rattle.command_ends.specs.WholeInput.{source_of};
+ghost use Rattle.client_commands.specs.Queries.{Queries, QueriesInput};
 ghost use Rattle.client_commands.specs.inside.Turns.{TellsStreamed};
 
 use crate::call_outcome::end_by_failure;
@@ -13,11 +16,12 @@ use crate::row_writer::RowWriter;
 use crate::run_relay::stream_rows;
 use crate::table_rows::TableWriter;
 use crate::text_rows::{LineText, RecordText, TextWriter};
-use command_ends::{Connect, ExitStatus};
+use command_ends::{Connect, ExitStatus, end_by_cause, end_by_fault, read_whole};
 use command_line::Format;
-use grpc_frame::Output;
+use fault_hints::Question;
+use grpc_frame::{Input, Output};
 use row_stream::StreamWriter;
-use scan_base::HashSeed;
+use scan_base::{Fault, HashSeed, read_text};
 use std::alloc::Global;
 use std::thread::Threads;
 
@@ -45,8 +49,8 @@ pub struct QueryCommand<'a> {
 /// of one is printed, the next one is made and its first stream is begun, in a thread of its own.
 /// Where the network gives none, it is asked once more after the endpoints before.
 ///
-/// A fault is printed on `faults` in a line, as far as that takes it; where no connection was made,
-/// a second line says so. What was printed before it stays.
+/// A fault is printed on `faults` in a line, as far as that takes it, and lines after it say more.
+/// What was printed before it stays.
 pub fn query<T: Threads, C: Connect + Drop + Send, W: Output, E: Output>(
     rt: &T,
     alloc: Global,
@@ -85,6 +89,57 @@ where
     }
 }
 
+/// The same for the query that the whole input is, in the place of its text. The input is read
+/// before a connection is made.
+pub fn query_input<T: Threads, C: Connect + Drop + Send, I: Input, W: Output, E: Output>(
+    rt: &T,
+    alloc: Global,
+    network: &mut C,
+    input: &mut I,
+    output: &mut W,
+    faults: &mut E,
+    asked: QueryCommand<'_>,
+) -> ExitStatus
+where
+    C::Reader: Send,
+    C::Writer: Send,
+    // Each end can count one failure more.
+    requires reads { CanFail (I.failures input.old) }
+    requires writes { CanFail (W.failures output.old) }
+    requires prints { CanFail (E.failures faults.old) }
+
+    // The rows that the query answers are printed; or what failed is.
+    ensures { QueriesInput (λ old ends new. C.connects old asked.entry.port ends new) C.shares
+        asked.entry.streams (source_of I.Input input.old) (source_of I.Input input.new)
+        asked.entry.format network.old network.new result
+        (desk_of (said_of W.Output output.old) (said_of E.Output faults.old))
+        (desk_of (said_of W.Output output.new) (said_of E.Output faults.new)) }
+{
+    let text = match read_whole(alloc, input) {
+        Ok(text) => text,
+        Err(Fault::Transport) => return end_by_cause(faults, "cannot read the input"),
+        Err(fault) => return end_by_fault(faults, fault),
+    };
+    match read_text(text.as_slice(), Fault::BadSql { position: 0 }) {
+        Ok(sql) => query(rt, alloc, network, output, faults, with_text(asked, sql)),
+        Err(fault) => end_by_fault(faults, fault),
+    }
+}
+
+// The same command with another text.
+fn with_text<'a>(asked: QueryCommand<'_>, sql: &'a str) -> QueryCommand<'a>
+    ensures { (result.port ≡ asked.entry.port) × (result.streams ≡ asked.entry.streams)
+        × (result.sql.now ≡ sql.now) × (result.format ≡ asked.entry.format) }
+{
+    QueryCommand {
+        port: asked.port,
+        streams: asked.streams,
+        sql,
+        format: asked.format,
+        seed: asked.seed,
+    }
+}
+
 // Prints the rows that a query answers in the format of a writer.
 fn query_by<T: Threads, C: Connect + Drop + Send, W: Output, E: Output, F: RowWriter>(
     rt: &T,
@@ -109,23 +164,27 @@ where
         Err(error) => return end_unconnected(alloc, faults, query.port, &error),
     };
     let streamed = stream_rows::<_, _, _, F>(rt, alloc, network, connection, output, query);
-    end_by_streaming(alloc, faults, query.port, streamed)
+    end_by_streaming(alloc, faults, query, streamed)
 }
 
 // Tells why rows were not written whole, if so.
 fn end_by_streaming<E: Output>(
     alloc: Global,
     faults: &mut E,
-    port: u16,
+    query: QueryCommand<'_>,
     streamed: Result<(), FetchFailure>,
 ) -> ExitStatus
     requires { CanFail (E.failures faults.old) }
-    ensures { TellsStreamed streamed result (said_of E.Output faults.old)
-        (said_of E.Output faults.new) }
+    ensures { TellsStreamed (query_hint query.entry.sql.now) streamed result
+        (said_of E.Output faults.old) (said_of E.Output faults.new) }
 {
     match streamed {
         Ok(()) => ExitStatus::Done,
-        Err(FetchFailure::Failed(failure)) => end_by_failure(faults, failure),
-        Err(FetchFailure::Unconnected(error)) => end_unconnected(alloc, faults, port, &error),
+        Err(FetchFailure::Failed(failure)) => {
+            end_by_failure(alloc, faults, failure, Question::Rows(query.sql))
+        }
+        Err(FetchFailure::Unconnected(error)) => {
+            end_unconnected(alloc, faults, query.port, &error)
+        }
     }
 }

@@ -4,6 +4,7 @@ ghost use Rattle.command_ends.specs.Printing.{said_of};
 ghost use Rattle.std.specs.List.{flat_map};
 ghost use Rattle.grpc_frame.specs.Ends.{CanFail};
 ghost use Rattle.row_text.specs.Lines.{name_line};
+ghost use Rattle.fault_hints.specs.Hints.{call_line};
 ghost use Rattle.client_commands.specs.CallOutcome.{Tells};
 ghost use Rattle.client_commands.specs.Commands.{FetchesNames, ListsTables, desk_of};
 
@@ -13,6 +14,7 @@ use crate::fetching::fetch_rows;
 use crate::names::names_of;
 use client_calls::{Connection, Failure};
 use command_ends::{Connect, ExitStatus};
+use fault_hints::Question;
 use flight_proto::InfoCommand;
 use grpc_frame::{Input, Output};
 use row_text::write_names;
@@ -20,8 +22,7 @@ use scan_base::Text;
 use std::alloc::Global;
 
 /// Prints the names of the tables, a line each, in the order in which the server lists them. A
-/// fault is printed on `faults` in a line, as far as that takes it; where no connection was made, a
-/// second line says so.
+/// fault is printed on `faults` in a line, as far as that takes it, and lines after it say more.
 pub fn tables<C: Connect, W: Output, E: Output>(
     alloc: Global,
     network: &mut C,
@@ -56,7 +57,7 @@ fn tell_names<W: Output, E: Output>(
 ) -> ExitStatus
     requires writes { CanFail (W.failures output.old) }
     requires prints { CanFail (E.failures faults.old) }
-    ensures { Tells (λ names. flat_map name_line names.items) fetched result
+    ensures { Tells call_line (λ names. flat_map name_line names.items) fetched result
         (said_of W.Output output.old) (said_of W.Output output.new)
         (said_of E.Output faults.old) (said_of E.Output faults.new) }
 {
@@ -65,7 +66,7 @@ fn tell_names<W: Output, E: Output>(
             let printed = write_names(alloc, &names, output);
             end_by_printing(faults, printed)
         }
-        Err(failure) => end_by_failure(faults, failure),
+        Err(failure) => end_by_failure(alloc, faults, failure, Question::Names),
     }
 }
 

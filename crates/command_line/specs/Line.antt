@@ -124,6 +124,9 @@ query formats =
 abbrev pub tables : App
 tables = with_rule (new_app (codes "tables")) port_rule
 
+abbrev pub describe : App
+describe = with_rule (with_rule (new_app (codes "describe")) port_rule) table_rule
+
 abbrev pub expire : App
 expire = with_rule (with_rule (new_app (codes "expire")) port_rule) version_rule
 
@@ -137,4 +140,4 @@ program parsers =
     let putting = with_subcommand served (put parsers.modes parsers.forms).top in
     let listing =
     with_subcommand (with_subcommand putting (query parsers.formats).top) tables.top in
-    with_subcommand listing expire.top
+    with_subcommand (with_subcommand listing describe.top) expire.top

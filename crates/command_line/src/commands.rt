@@ -147,7 +147,7 @@ fn sql<'a>(alloc: Global) -> Arg<'a>
     Arg::new(alloc, "sql")
         .action(ArgAction::Set)
         .value_name("SQL")
-        .help("The query")
+        .help("The query; - reads it from standard input")
         .required(true)
 }
 
@@ -274,6 +274,20 @@ fn tables<'a>(alloc: Global) -> Result<Command<'a>, AllocError>
     with_one(command(alloc, "tables", about, example), port(alloc))
 }
 
+// `describe`: the columns of a table.
+fn describe<'a>(alloc: Global) -> Result<Command<'a>, AllocError>
+    ensures shape { IfOk result (λ command. app_of command ≡ line.describe) }
+    ensures local { IfOk result (λ command. (out-Command command).has_globals ≡ false) }
+{
+    let about = "Prints the columns of a table in a line, as put takes them by --columns";
+    let example = "Example: flightscan describe --port 4711 --table trips";
+    with_two(
+        command(alloc, "describe", about, example),
+        port(alloc),
+        table(alloc),
+    )
+}
+
 // `expire`: an expiry of the versions below a number.
 fn expire<'a>(alloc: Global) -> Result<Command<'a>, AllocError>
     ensures shape { IfOk result (λ command. app_of command ≡ line.expire) }
@@ -320,5 +334,6 @@ pub(crate) fn program<'a>(alloc: Global, names: TakenNames<'a>) -> Result<Comman
     let putting = with_below(serving, put(alloc, names.modes, names.forms))?;
     let asking = with_below(putting, query(alloc, names.formats))?;
     let listing = with_below(asking, tables(alloc))?;
-    with_below(listing, expire(alloc))
+    let describing = with_below(listing, describe(alloc))?;
+    with_below(describing, expire(alloc))
 }

@@ -141,6 +141,10 @@ pub(crate) fn request_of<'a>(name: &str, matches: &ArgMatches<'a>) -> Request<'a
         "tables" => Request::Tables {
             port: port_of(matches),
         },
+        "describe" => Request::Describe {
+            port: port_of(matches),
+            table: text_of(matches, "table"),
+        },
         "expire" => Request::Expire {
             port: port_of(matches),
             version: number_of(matches, "version", VERSION),

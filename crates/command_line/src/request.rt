@@ -84,6 +84,11 @@ pub enum Request<'a> {
     Tables {
         port: u16,
     },
+    /// Prints the columns of a table.
+    Describe {
+        port: u16,
+        table: &'a str,
+    },
     /// Expires the versions below a number, and prints the floor.
     Expire {
         port: u16,

@@ -1,5 +1,5 @@
 -- What a field of a CSV text says in a column.
-use Rattle.std.specs.Prelude.{ℕ, ◌==◌, Bool, true, false, List, length, Option, Some, None}
+use Rattle.std.specs.Prelude.{ℕ, ◌==◌, ◌||◌, Bool, true, false, List, length, Option, Some, None}
 use Rattle.std.specs.Prelude.{option_map, codes, if◌then◌else◌}
 use Rattle.std.specs.Str.{bytes_eq, is_utf8}
 use Rattle.scan_base.specs.declared.value.Value.{Value}
@@ -10,11 +10,11 @@ use Rattle.arrow_types.specs.declared.data_type.DataType.TheVariants.{Dictionary
 use Rattle.arrow_types.specs.declared.schema.Field.{Field}
 use Rattle.number_words.specs.NumberTexts.{number_read}
 
--- a truth value
+-- a truth value, as SQL's tools or Python's write it
 abbrev pub flag_in : List ℕ → Option Bool
 flag_in text =
-    if bytes_eq text (codes "true") then Some true
-    else if bytes_eq text (codes "false") then Some false else None
+    if bytes_eq text (codes "true") || bytes_eq text (codes "True") then Some true
+    else if bytes_eq text (codes "false") || bytes_eq text (codes "False") then Some false else None
 
 -- what a text says as a value of a type
 abbrev pub said_as : DataType → List ℕ → Option Value

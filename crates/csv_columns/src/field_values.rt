@@ -60,9 +60,9 @@ fn flag_said<'a>(text: &str) -> Option<ValueRef<'a>>
     ensures value { option_map value_of result ≡ said_as type.Bool text.now }
     ensures typed { IfSome result (λ value. IsValueOf type.Bool (value_of value)) }
 {
-    if text == "true" {
+    if text == "true" || text == "True" {
         Some(ValueRef::Bool(true))
-    } else if text == "false" {
+    } else if text == "false" || text == "False" {
         Some(ValueRef::Bool(false))
     } else {
         None

@@ -4,9 +4,9 @@ use Rattle.std.specs.Prelude.{IsOk}
 use Rattle.scan_base.specs.declared.fault.Fault.{Fault}
 use Rattle.scan_base.specs.declared.fault.Fault.TheVariants.{OutOfMemory}
 use Rattle.scan_base.specs.Reading.{RefusesFirst}
-use Rattle.table_versions.specs.Database.{Put, after}
+use Rattle.table_versions.specs.Database.{Put}
 use Rattle.version_log.specs.Expiry.{IsExpired}
-use Rattle.version_log.specs.Log.{Log, added, expired, puts_in, database_of}
+use Rattle.version_log.specs.Log.{Log, added, expired, puts_in, after_log}
 use Rattle.flight_info.proofs.Results.{first_for}
 use Rattle.flight_info.specs.Replies.{ReplyAt}
 use Rattle.flight_core.specs.Asked.{Asked}
@@ -21,13 +21,13 @@ never_refused : {X : Type 0} (number : ℕ) (due : Result X Fault) → IsOk due 
 never_refused number (Ok x) ok = tt
 never_refused number (Err cause) ok = let no = ok in cc
 
-pub put_alone : (old new : Log) (looks asks more number : ℕ) (made : Put) → more ≡ asks + 1 → new ≡ old ++ added made ∷ [] → IsOk (after (database_of old) (puts_in old) made) → number ≡ puts_in new
+pub put_alone : (old new : Log) (looks asks more number : ℕ) (made : Put) → more ≡ asks + 1 → new ≡ old ++ added made ∷ [] → IsOk (after_log old made) → number ≡ puts_in new
     → Puts alone (Ok number) (lone_seat old looks asks) made (lone_seat new looks more)
 put_alone old new looks asks more number made asked is accepts count = record {
   log = old;
   next = new;
   at = (accepts, is, placed_more old new (added made) is, count);
-  first = never_refused number (after (database_of old) (puts_in old) made) accepts;
+  first = never_refused number (after_log old made) accepts;
   moved = (refl, refl);
   kept = (added made ∷ [], is);
   learnt = ([], sym (append-nil new));
@@ -35,13 +35,13 @@ put_alone old new looks asks more number made asked is accepts count = record {
   asks = asked;
 }
 
-pub refused_alone : (fault : Fault) (old new : Log) (looks asks more : ℕ) (made : Put) → more ≡ asks + 1 → (new ≡ old) × (fault ≢ OutOfMemory → after (database_of old) (puts_in old) made ≡ Err fault)
-    → RefusesFirst {X = Unit {0}} (Err fault) (after (database_of old) (puts_in old) made) → Puts alone (Err fault) (lone_seat old looks asks) made (lone_seat new looks more)
+pub refused_alone : (fault : Fault) (old new : Log) (looks asks more : ℕ) (made : Put) → more ≡ asks + 1 → (new ≡ old) × (fault ≢ OutOfMemory → after_log old made ≡ Err fault)
+    → RefusesFirst {X = Unit {0}} (Err fault) (after_log old made) → Puts alone (Err fault) (lone_seat old looks asks) made (lone_seat new looks more)
 refused_alone fault old new looks asks more made asked err first = record {
   log = old;
   next = new;
   at = (err.0, ap (placed 0) err.0, err.1);
-  first = first_for (Unit {0}) ℕ fault (after (database_of old) (puts_in old) made) first;
+  first = first_for (Unit {0}) ℕ fault (after_log old made) first;
   moved = (refl, refl);
   kept = ([], err.0 ∙ sym (append-nil old));
   learnt = ([], sym (append-nil new));

@@ -15,7 +15,7 @@ use Rattle.flight_info.specs.Payloads.{Payload}
 use Rattle.flight_info.proofs.Sizes.{short_number, short_chunk, short_set}
 use Rattle.flight_core.specs.Refusals.{RefusedFor}
 use Rattle.flight_core.specs.Puts.{put_glance, put_said}
-use Rattle.version_log.specs.Log.{Log, added, puts_in, database_of}
+use Rattle.version_log.specs.Log.{Log, added, above_floor, database_of, after_log}
 use Rattle.flight_core.specs.Machine.{PutStep, database_put}
 use Rattle.flight_core.proofs.Arriving.{behind, refused_on, glance_good}
 
@@ -23,10 +23,10 @@ few_where_ok : (old : Database) (n : ℕ) (put : Put) (result : Result Database 
 few_where_ok old n put (Ok new) e ok = accepted_puts_are_few old n put new e
 few_where_ok old n put (Err fault) e ok = let no = ok in cc
 
-pub accepted_reply : (log new : Log) (payloads answers : List Payload) (put : Put) (rows : ℕ) → put_said payloads ≡ Ok put → IsOk (after (database_of log) (puts_in log) put)
+pub accepted_reply : (log new : Log) (payloads answers : List Payload) (put : Put) (rows : ℕ) → put_said payloads ≡ Ok put → IsOk (after_log log put)
     → new ≡ log ++ added put ∷ [] → rows ≡ min (length put.rows) (2 ^ 64 - 1) → answers ≡ rows_put_bytes (pos (min rows most_rows)) ∷ [] → PutStep log payloads answers None new
 accepted_reply log new payloads answers put rows said ok made counted is =
-    let few = few_where_ok (database_of log) (puts_in log) put (after (database_of log) (puts_in log) put) refl ok in
+    let few = few_where_ok (database_of log) (above_floor log) put (after_log log put) refl ok in
     let all : min rows most_rows ≡ length put.rows = omega (arith, few, counted) in
     (put, said, ok, made, is ∙ ap (λ (n : ℕ). rows_put_bytes (pos n) ∷ []) all)
 
@@ -39,7 +39,7 @@ unread_reply log payloads fault is = refused_on (put_glance payloads) (put_said 
 
 -- a put that is read and is refused by its fault, or for want of memory
 pub refused_reply : (log : Log) (payloads : List Payload) (put : Put) (fault : Fault) → put_said payloads ≡ Ok put
-    → (fault ≢ OutOfMemory → after (database_of log) (puts_in log) put ≡ Err fault) → RefusedFor (put_glance payloads) (database_put log payloads) fault
+    → (fault ≢ OutOfMemory → after_log log put ≡ Err fault) → RefusedFor (put_glance payloads) (database_put log payloads) fault
 refused_reply log payloads put fault said is =
     behind (put_glance payloads) (database_put log payloads) fault (glance_good payloads put said) (λ other. rw said (is other))
 

@@ -9,8 +9,8 @@ use Rattle.flight_info.specs.Payloads.{Payload}
 use Rattle.flight_core.specs.Asked.{Asked, put, info, tables, schema, fetch, expire}
 use Rattle.flight_info.specs.Replies.{ReplyAt}
 use Rattle.flight_core.specs.Event.{asked_in}
-use Rattle.table_versions.specs.Database.{Database, Put, after}
-use Rattle.version_log.specs.Log.{Log, added, puts_in, database_of, IsLog, puts_of}
+use Rattle.table_versions.specs.Database.{Database, Put}
+use Rattle.version_log.specs.Log.{Log, added, after_log, IsLog, puts_of}
 use Rattle.version_log.proofs.Logs.{is_log-added, is_log-expired}
 use Rattle.flight_core.specs.Machine.{PutStep, ExpireStep, StepOn, Run}
 use Rattle.flight_core.specs.Laws.{RefusalsLeaveNothing}
@@ -87,10 +87,10 @@ refusals_leave_nothing asked replies last run place one reply fault here answere
 
 -- ---- a run leaves accepted puts alone
 
-put_is_log : (log : Log) (one : Put) (new : Log) → IsLog log → IsOk (after (database_of log) (puts_in log) one) → new ≡ log ++ added one ∷ [] → IsLog new
-put_is_log log one new is ok made = by (after (database_of log) (puts_in log) one) refl ok
+put_is_log : (log : Log) (one : Put) (new : Log) → IsLog log → IsOk (after_log log one) → new ≡ log ++ added one ∷ [] → IsLog new
+put_is_log log one new is ok made = by (after_log log one) refl ok
   where
-    by : (result : Result Database Fault) → after (database_of log) (puts_in log) one ≡ result → IsOk result → IsLog new
+    by : (result : Result Database Fault) → after_log log one ≡ result → IsOk result → IsLog new
     by (Ok database) accepted ok = subst (λ (l : Log). IsLog l) (sym made) (is_log-added log one database is accepted)
     by (Err fault) refused ok = let no = ok in cc
 
@@ -118,7 +118,3 @@ run_is_log old [] [] new is run = same_is_log old new is run
 run_is_log old (one ∷ asked) (r ∷ rs) new is run = run_is_log run.0 asked rs new (step_is_log old one r run.0 is run.1) run.2
 run_is_log old [] (r ∷ rs) new is run = absurd run
 run_is_log old (one ∷ asked) [] new is run = absurd run
-
--- the empty log has no put that was refused
-pub none_is_log : IsLog []
-none_is_log n one at = cc

@@ -1,16 +1,12 @@
 -- The versions of puts, one after another.
-use Rattle.std.proofs.Common.{◌≡◌, ℕ, zero, suc, ◌+◌, ◌-◌, ◌<◌, ◌≤◌, max, nat_le, false, rules, List, [], ◌∷◌, ◌++◌, length, map, take, drop, refl, sym, ap, subst, ◌∙◌, arith, length-append, Some, Ok}
+use Rattle.std.proofs.Common.{◌≡◌, ℕ, zero, suc, ◌+◌, ◌-◌, ◌^◌, ◌<◌, ◌≤◌, max, List, [], ◌∷◌, ◌++◌, length, map, take, drop, refl, sym, ap, subst, ◌∙◌, arith, length-append, Some, Ok}
 use Rattle.std.specs.List.{slice_get}
 use Rattle.std.proofs.lemmas.List.{map-append, length-drop, drop-drop, drop-map, drop-append-le}
-use Rattle.scan_base.specs.declared.fault.Fault.TheVariants.{LimitReached}
-use Rattle.scan_base.specs.Limits.{most_commits}
-use Rattle.scan_base.specs.Reading.{first_fault}
-use Rattle.table_versions.specs.Database.{Database, Put, after, accepted, after_all, database_after, table_at, with_table, table_after, put_faults}
+use Rattle.table_versions.specs.Database.{Database, Put, with_put, with_all, database_after}
 use Rattle.version_log.specs.Log as logs
-use Rattle.version_log.specs.Log.{Log, added, expired, puts_of, puts_in, floor_of}
+use Rattle.version_log.specs.Log.{Log, added, expired, puts_of, puts_in, floor_of, above_floor, after_log}
 use Rattle.table_versions.specs.StoredTables.{VersionAt, tables_of}
-use Rattle.table_versions.proofs.Accepted.{among, unrefused}
-use Rattle.table_versions.proofs.Databases.{logs_grow}
+use Rattle.table_versions.proofs.Databases.{database_of-more}
 use Rattle.version_log.proofs.Logs.{puts_of-added, puts_of-expired, floor_of-added, floor_of-expired}
 use Rattle.flight_core.specs.Versions.{versions_from, versions_of, numbered, AreKept}
 use Rattle.flight_info.proofs.Results.{same_some}
@@ -23,30 +19,24 @@ none_before : (n : ℕ) → 0 + n ≡ n
 none_before n = omega arith
 
 versions_from-more : (old : Database) (n : ℕ) (log : List Put) (put : Put)
-    → versions_from old n (log ++ put ∷ []) ≡ versions_from old n log ++ (n + suc (length log), after_all old n (log ++ put ∷ [])) ∷ []
+    → versions_from old n (log ++ put ∷ []) ≡ versions_from old n log ++ (n + suc (length log), with_all old (log ++ put ∷ [])) ∷ []
 versions_from-more old n [] put = refl
 versions_from-more old n (p ∷ ps) put =
-    let next = accepted old (after old n p) in
+    let next = with_put old p in
     ap (λ l. (n + 1, next) ∷ l) (versions_from-more next (n + 1) ps put
-    ∙ ap (λ m. versions_from next (n + 1) ps ++ (m, after_all next (n + 1) (ps ++ put ∷ [])) ∷ []) (one_more n (suc (length ps))))
+    ∙ ap (λ m. versions_from next (n + 1) ps ++ (m, with_all next (ps ++ put ∷ [])) ∷ []) (one_more n (suc (length ps))))
 
 versions_from-at : (old : Database) (n : ℕ) (log : List Put) (k : ℕ) → k < length log
-    → slice_get (versions_from old n log) k ≡ Some (n + suc k, after_all old n (take (suc k) log))
+    → slice_get (versions_from old n log) k ≡ Some (n + suc k, with_all old (take (suc k) log))
 versions_from-at old n [] k lt = absurd (omega arith)
 versions_from-at old n (p ∷ ps) zero lt = refl
 versions_from-at old n (p ∷ ps) (suc k) lt =
-    let next = accepted old (after old n p) in
-    versions_from-at next (n + 1) ps k (omega arith) ∙ ap (λ m. Some (m, after_all next (n + 1) (take (suc k) ps))) (one_more n (suc k))
-
--- the database after one put more
-database_of-more : (log : List Put) (put : Put) (new : Database) → after (database_after log) (length log) put ≡ Ok new → database_after (log ++ put ∷ []) ≡ new
-database_of-more log put new e =
-    let grown = logs_grow log put new e in
-    ap database_after (sym grown.0) ∙ grown.1
+    let next = with_put old p in
+    versions_from-at next (n + 1) ps k (omega arith) ∙ ap (λ m. Some (m, with_all next (take (suc k) ps))) (one_more n (suc k))
 
 versions_from-length : (old : Database) (n : ℕ) (log : List Put) → length (versions_from old n log) ≡ length log
 versions_from-length old n [] = refl
-versions_from-length old n (p ∷ ps) = ap suc (versions_from-length (accepted old (after old n p)) (n + 1) ps)
+versions_from-length old n (p ∷ ps) = ap suc (versions_from-length (with_put old p) (n + 1) ps)
 
 versions_of-length : (log : List Put) → length (versions_of log) ≡ suc (length log)
 unfolding versions_of
@@ -68,15 +58,6 @@ slice_get-drop zero i xs = let e : 0 + i ≡ i = omega arith in rw e refl
 slice_get-drop (suc k) i [] = refl
 slice_get-drop (suc k) i (x ∷ xs) = let e : suc k + i ≡ suc (k + i) = omega arith in rw e (slice_get-drop k i xs)
 
--- an accepted put comes after fewer than there may be
-few_before : (log : Log) (put : Put) (new : Database) → after (logs.database_of log) (puts_in log) put ≡ Ok new → puts_in log < most_commits
-few_before log put new accepts =
-    let old = logs.database_of log in
-    let faults = put_faults old (puts_in log) put in
-    let none = unrefused (first_fault faults) (with_table put.table (table_after put.if_exists (table_at old put.table) put) old) new accepts in
-    let few : nat_le most_commits (puts_in log) ≡ false = among (take 8 faults) (nat_le most_commits (puts_in log)) LimitReached (drop 9 faults) none in
-    search (rules, few)
-
 -- ---- versions of a log that are kept
 
 -- version 0 is all that there is at first
@@ -97,16 +78,16 @@ module _ (floor : ℕ) (kept : List (ℕ × Database)) (log : Log) (are : AreKep
       same_some (sym at ∙ ap (λ l. slice_get l (n - floor)) are.versions ∙ slice_get-drop (floor_of log) (n - floor) all ∙ ap (slice_get all) place ∙ versions_of-at (puts_of log) n within)
 
   -- one version more
-  pub kept_more : (put : Put) (new : Database) → after (logs.database_of log) (puts_in log) put ≡ Ok new → AreKept floor (kept ++ (suc (puts_in log), new) ∷ []) (log ++ added put ∷ [])
-  kept_more put new made =
+  pub kept_more : (put : Put) (new : Database) → after_log log put ≡ Ok new → puts_in log + 2 < 2 ^ 64 → AreKept floor (kept ++ (suc (puts_in log), new) ∷ []) (log ++ added put ∷ [])
+  kept_more put new made room =
       let old = puts_of log in
       let low = floor_of log in
       let within : low ≤ length (versions_of old) = omega (arith, are.there, versions_of-length old) in
       let versions : kept ++ (suc (puts_in log), new) ∷ [] ≡ drop low (versions_of (old ++ put ∷ [])) =
-      ap (λ l. l ++ (suc (puts_in log), new) ∷ []) are.versions ∙ ap (λ d. drop low (versions_of old) ++ (suc (puts_in log), d) ∷ []) (sym (database_of-more old put new made))
+      ap (λ l. l ++ (suc (puts_in log), new) ∷ []) are.versions ∙ ap (λ d. drop low (versions_of old) ++ (suc (puts_in log), d) ∷ []) (sym (database_of-more (above_floor log) old put new made))
       ∙ sym (drop-append-le low (versions_of old) ((suc (length old), database_after (old ++ put ∷ [])) ∷ []) within) ∙ ap (drop low) (sym (versions_of-more old put)) in
       let more : low ≤ length (old ++ put ∷ []) = omega (arith, are.there, length-append old (put ∷ [])) in
-      let few : length (old ++ put ∷ []) ≤ most_commits = omega (arith, few_before log put new made, length-append old (put ∷ [])) in
+      let few : length (old ++ put ∷ []) + 1 < 2 ^ 64 = omega (arith, room, length-append old (put ∷ [])) in
       record {
         floor = are.floor ∙ sym (floor_of-added log put);
         versions = versions ∙ ap (λ n. drop n (versions_of (old ++ put ∷ []))) (sym (floor_of-added log put)) ∙ ap (λ ps. drop (floor_of (log ++ added put ∷ [])) (versions_of ps)) (sym (puts_of-added log put));
@@ -133,14 +114,14 @@ module _ (floor : ℕ) (kept : List (ℕ × Database)) (log : Log) (are : AreKep
 
 -- one version more
 pub stored_more : (floor : ℕ) (stored : List VersionAt) (log : Log) (put : Put) (made : VersionAt) → AreKept floor (map numbered stored) log
-    → after (logs.database_of log) (puts_in log) put ≡ Ok (tables_of made.catalog) → made.number ≡ puts_in log + 1
+    → after_log log put ≡ Ok (tables_of made.catalog) → made.number ≡ puts_in log + 1 → puts_in log + 2 < 2 ^ 64
     → AreKept floor (map numbered (stored ++ made ∷ [])) (log ++ added put ∷ [])
-stored_more floor stored log put made are accepts count =
+stored_more floor stored log put made are accepts count room =
     let next : made.number ≡ suc (puts_in log) = omega (arith, count) in
     let is : numbered made ≡ (suc (puts_in log), tables_of made.catalog) = ap (λ (n : ℕ). (n, tables_of made.catalog)) next in
     let more : map numbered (stored ++ made ∷ []) ≡ map numbered stored ++ (suc (puts_in log), tables_of made.catalog) ∷ [] =
     map-append numbered stored (made ∷ []) ∙ ap (λ (v : ℕ × Database). map numbered stored ++ v ∷ []) is in
-    subst (λ (kept : List (ℕ × Database)). AreKept floor kept (log ++ added put ∷ [])) (sym more) (kept_more floor (map numbered stored) log are put (tables_of made.catalog) accepts)
+    subst (λ (kept : List (ℕ × Database)). AreKept floor kept (log ++ added put ∷ [])) (sym more) (kept_more floor (map numbered stored) log are put (tables_of made.catalog) accepts room)
 
 -- those below a number are dropped
 pub stored_cut : (floor : ℕ) (stored : List VersionAt) (log : Log) (number : ℕ) → AreKept floor (map numbered stored) log → number ≤ puts_in log

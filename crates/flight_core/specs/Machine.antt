@@ -6,12 +6,13 @@ use Rattle.scan_base.specs.declared.fault.Fault.TheVariants.{OutOfMemory, Versio
 use Rattle.scan_base.specs.Reading.{◌>>=◌, demand}
 use Rattle.flight_proto.specs.Expiry.{expiry_of, floor_bytes}
 use Rattle.flight_proto.specs.PutResult.{rows_put_bytes}
-use Rattle.table_versions.specs.Database.{Database, Put, after}
+use Rattle.table_versions.specs.Database.{Database, Put}
 use Rattle.flight_core.specs.Refusals.{RefusedFor, RefusedBy}
 use Rattle.flight_info.specs.Payloads.{Payload}
 use Rattle.flight_core.specs.Asked.{Asked, put, info, tables, schema, fetch, expire}
 use Rattle.flight_info.specs.Replies.{ReplyAt, refusal}
 use Rattle.version_log.specs.Log.{Log, added, expired, puts_in, floor_of, database_of, version}
+use Rattle.version_log.specs.Log.{after_log}
 use Rattle.flight_core.specs.Puts.{put_glance, put_said}
 use Rattle.flight_core.specs.ShownHandle.{handle_shown}
 use Rattle.fetch_stream.specs.Fetches.{version_of, FetchAt}
@@ -22,14 +23,14 @@ use Rattle.flight_info.specs.Infos.{SchemaAt}
 
 -- the database after the put that payloads say, at a log, or the first fault
 abbrev pub database_put : Log → List Payload → Result Database Fault
-database_put log payloads = put_said payloads >>= λ put. after (database_of log) (puts_in log) put
+database_put log payloads = put_said payloads >>= λ put. after_log log put
 
 -- A put: an accepted one stands at the end of the log, and is answered by how many rows it put. A
 -- refused one changes nothing and has no payload: a glance at its first payload is refused for its
 -- own fault, and what stands after it for the first fault, or because memory was refused.
 abbrev pub PutStep : Log → List Payload → List Payload → Option Fault → Log → Type 0
 PutStep log payloads answers None new = (put : Put) × (put_said payloads ≡ Ok put)
-    × IsOk (after (database_of log) (puts_in log) put) × (new ≡ log ++ added put ∷ [])
+    × IsOk (after_log log put) × (new ≡ log ++ added put ∷ [])
     × (answers ≡ rows_put_bytes (pos (length put.rows)) ∷ [])
 PutStep log payloads answers (Some fault) new = (new ≡ log) × (answers ≡ [])
     × RefusedFor (put_glance payloads) (database_put log payloads) fault

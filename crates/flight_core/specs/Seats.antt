@@ -4,9 +4,9 @@ use Rattle.std.specs.Prelude.{Err}
 use Rattle.scan_base.specs.declared.fault.Fault.{Fault}
 use Rattle.scan_base.specs.declared.fault.Fault.TheVariants.{OutOfMemory}
 use Rattle.scan_base.specs.Reading.{RefusesFirst}
-use Rattle.table_versions.specs.Database.{Put, after}
+use Rattle.table_versions.specs.Database.{Put}
 use Rattle.version_log.specs.Expiry.{IsExpired}
-use Rattle.version_log.specs.Log.{Log, added, expired, puts_in, database_of, Begins}
+use Rattle.version_log.specs.Log.{Log, added, expired, puts_in, after_log, Begins}
 use Rattle.flight_core.specs.PlacedEntries.{Placed, placed}
 
 -- the log that the seat has seen, its looks, the entries that it made, each with its place in the
@@ -59,11 +59,11 @@ MayLook old new = (new.looks ≡ old.looks) ⊎ LooksOnce old new
 -- made, at the place after that log, and its number is how many puts there are then. A refused one
 -- changes nothing, and its fault is due, or memory was refused.
 abbrev pub PutsAt : Result ℕ Fault → Seat → Log → Put → Log → Seat → Type 0
-PutsAt (Ok number) old log put next new = IsOk (after (database_of log) (puts_in log) put)
+PutsAt (Ok number) old log put next new = IsOk (after_log log put)
     × (next ≡ log ++ added put ∷ []) × (new.made ≡ old.made ++ (length log, added put) ∷ [])
     × (number ≡ puts_in next)
 PutsAt (Err fault) old log put next new = (next ≡ log) × (new.made ≡ old.made)
-    × (fault ≢ OutOfMemory → after (database_of log) (puts_in log) put ≡ Err fault)
+    × (fault ≢ OutOfMemory → after_log log put ≡ Err fault)
 
 -- A put at the log that it meets, which is refused by its first fault if it has one. The seat asks
 -- for that log, also where the put is refused. After it the seat has seen that log with the put,
@@ -73,7 +73,7 @@ pub record Puts (moves : Moves) (result : Result ℕ Fault) (old : Seat) (put : 
   pub log : Log
   pub next : Log
   pub at : PutsAt result old log put next new
-  pub first : RefusesFirst result (after (database_of log) (puts_in log) put)
+  pub first : RefusesFirst result (after_log log put)
   pub moved : moves old log next new
   pub kept : Begins old.log new.log
   pub learnt : Begins next new.log

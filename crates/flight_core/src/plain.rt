@@ -7,8 +7,7 @@ ghost use Rattle.flight_core.specs.Versions.{numbered};
 ghost use Rattle.scan_base.specs.declared.fault.Fault.TheVariants.{OutOfMemory, VersionExpired};
 ghost use Rattle.scan_base.specs.declared.fault.Fault.TheVariants.{VersionUnknown};
 ghost use Rattle.version_log.specs.Expiry.{IsExpired};
-ghost use Rattle.version_log.specs.Log.{added, puts_in, floor_of, database_of, version};
-ghost use Rattle.table_versions.specs.Database.{after};
+ghost use Rattle.version_log.specs.Log.{added, puts_in, floor_of, database_of, after_log, version};
 ghost use Rattle.table_versions.specs.StoredTables.{put_of, tables_of};
 ghost use Rattle.table_versions.specs.Valid.{IsPut};
 
@@ -132,20 +131,25 @@ impl Plain {
     /// # Errors
     ///
     /// Those of [`apply`], and F21 (`Fault::OutOfMemory`) only for a put that none of them refuses.
-    /// Nothing has changed then.
+    /// Nothing has changed then. F21 also comes after 2^64 - 2 puts.
     pub fn put(&mut self, alloc: Global, put: Put) -> Result<(), Fault>
         ensures ok { result ≡ Ok tt → (self.new ≡ self.old ++ added (put_of put) ∷ [])
-            × IsOk (after (database_of self.old) (puts_in self.old) (put_of put)) }
+            × IsOk (after_log self.old (put_of put)) }
         ensures typed { IfOk result (λ _. IsPut (put_of put)) }
         ensures err { IfErr result (λ fault. (self.new ≡ self.old)
             × (fault ≢ OutOfMemory →
-            after (database_of self.old) (puts_in self.old) (put_of put) ≡ Err fault)) }
+            after_log self.old (put_of put) ≡ Err fault)) }
         ensures first { RefusesFirst result
-            (after (database_of self.old) (puts_in self.old) (put_of put)) }
+            (after_log self.old (put_of put)) }
     {
         let entry = Entry::put(snapshot::Snapshot::of(&put));
-        let catalog = apply(alloc, self.current(), put)?;
-        let number = self.newest() + 1;
+        let newest = self.newest();
+        let above = newest - self.floor();
+        let catalog = apply(alloc, self.current().catalog(), above, put)?;
+        let number = newest + 1;
+        if number == u64::MAX {
+            return Err(Fault::OutOfMemory);
+        }
         self.kept
             .push(Snapshot::new(number, Arc::new(alloc, catalog)?))?;
         let before = mem::replace(&mut self.log, Entries::none());

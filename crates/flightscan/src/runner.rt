@@ -13,9 +13,10 @@ ghost use Rattle.flightscan.specs.ServerRequests.{ServesClients, ServesWith, pip
 ghost use Rattle.flightscan.specs.Running.{standard_of};
 
 use client_calls::Target;
+use client_commands::describe::describe;
 use client_commands::expire::expire;
 use client_commands::put::{CsvPutting, PutCommand, put, put_csv};
-use client_commands::query::{QueryCommand, query};
+use client_commands::query::{QueryCommand, query, query_input};
 use client_commands::tables::tables;
 use command_ends::{Connect, ExitStatus, Listen, end_by_fault};
 use command_line::{Format, PutForm, Request, ServeOptions};
@@ -168,7 +169,7 @@ struct QueryOptions<'a> {
     format: Format,
 }
 
-// Prints the rows that a query answers.
+// Prints the rows that a query answers; `-` stands for the text that the input is.
 fn run_query<T, C, I: Input, W: Output, E: Output>(
     machine: Machine<'_, T>,
     connector: &mut C,
@@ -180,6 +181,7 @@ where
     C: Connect + Drop + Send,
     C::Reader: Send,
     C::Writer: Send,
+    requires reads { CanFail (I.failures streams.old.input) }
     requires writes { CanFail (W.failures streams.old.output) }
     requires prints { CanFail (E.failures streams.old.faults) }
     ensures { QueriesWith machine.entry.seed
@@ -198,14 +200,13 @@ where
         format: asked.format,
         seed,
     };
-    query(
-        machine.rt,
-        machine.alloc,
-        connector,
-        &mut streams.output,
-        &mut streams.faults,
-        querying,
-    )
+    let (rt, alloc) = (machine.rt, machine.alloc);
+    let (input, output, faults) = (&mut streams.input, &mut streams.output, &mut streams.faults);
+    if asked.sql == "-" {
+        query_input(rt, alloc, connector, input, output, faults, querying)
+    } else {
+        query(rt, alloc, connector, output, faults, querying)
+    }
 }
 
 /// Does what a request asks for: a server keeps its tables in the cell that was opened. Where there
@@ -283,6 +284,10 @@ where
         Request::Tables { port } => {
             let (output, faults) = (&mut streams.output, &mut streams.faults);
             tables(machine.alloc, connector, output, faults, port)
+        }
+        Request::Describe { port, table } => {
+            let (output, faults) = (&mut streams.output, &mut streams.faults);
+            describe(machine.alloc, connector, output, faults, port, table)
         }
         Request::Expire { port, version } => {
             let (output, faults) = (&mut streams.output, &mut streams.faults);

@@ -8,3 +8,5 @@ pub mod Slotted
 pub mod Tagging
 pub mod ShortTexts
 pub mod Pieced
+pub mod RangeTallies
+pub mod ValidBits

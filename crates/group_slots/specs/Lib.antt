@@ -2,6 +2,8 @@ pub mod Adding
 pub mod Counting
 pub mod HeldTallies
 pub mod Pieces
+pub mod RowSpans
 pub mod Slots
 pub mod TaggedValues
 pub mod Tallies
+pub mod ValidBits

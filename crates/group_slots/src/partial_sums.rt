@@ -1,14 +1,17 @@
 //! Sums of few groups, in pieces of 64 bits.
 
-ghost use Rattle.std.specs.Prelude.{◌≡◌, ◌≤◌, ◌<◌, ◌+◌, ◌+ℤ◌, true, All, is_some, length};
+ghost use Rattle.std.specs.Prelude.{◌≡◌, ◌≤◌, ◌<◌, ◌+◌, ◌+ℤ◌, true, All, IfSome, ◌-◌, is_some};
+ghost use Rattle.std.specs.Prelude.{length};
 ghost use Rattle.scan_base.specs.Limits.{most_rows};
 ghost use Rattle.typed_plan.specs.declared.plan.Aggregate.TheVariants.{Sum as SumOf};
 ghost use Rattle.group_slots.specs.Tallies.{no_rows, summed};
 ghost use Rattle.group_slots.specs.Counting.{AreWithin, counted_in, stepped};
 ghost use Rattle.group_slots.specs.Pieces.{AreBoth, piece_tally, tallies_of};
+ghost use Rattle.group_slots.specs.RowSpans.{IsSpan, IsTallyOf, rows_of_span};
 ghost use Rattle.group_slots.specs.Slots.{AreSlots, number_or_null};
 
 use crate::row_groups::RowGroups;
+use crate::row_span::RowSpan;
 use crate::slots::{IntegerSlots, Number, ValidRows};
 use crate::tally::Tally;
 
@@ -114,4 +117,29 @@ pub(crate) fn join_pieces(tallies: &mut [Tally], pieces: &[PartialSum])
     for group in 0..tallies.len() {
         tallies[group] = tallies[group].with(pieces[group].tally());
     }
+}
+
+/// The count and the sum of the numbers of the rows, where these are the numbers of the column, of
+/// a type, if 64 bits hold the sum of the first of them, however many.
+pub(crate) fn sum_of_span<N: Number, V: ValidRows>(
+    column: usize,
+    slots: &IntegerSlots<'_>,
+    span: &RowSpan<'_>,
+) -> Option<Tally>
+    requires kind { slots.now.kind ≡ N.kind }
+    requires marked { is_some slots.now.validity.now ≡ V.marked }
+    requires slots { AreSlots slots.now column span.now.batch.now }
+    requires span { IsSpan span.now }
+    requires few { span.now.to - span.now.from ≤ most_rows }
+    ensures { IfSome result (IsTallyOf (SumOf column) (rows_of_span span.now)) }
+{
+    let mut sum = PartialSum::new();
+    let mut holds = true;
+    for row in span.from..span.to {
+        let valid = V::is_valid(slots, row);
+        let number = slots.number::<N>(row);
+        let fits = sum.add_slot(valid, number);
+        holds = holds & fits;
+    }
+    if holds { Some(sum.tally()) } else { None }
 }

@@ -1,6 +1,7 @@
 pub mod Finding
 pub mod Sharing
 pub mod Feeding
+pub mod Alone
 pub mod Blank
 pub mod Answering
 pub mod Held

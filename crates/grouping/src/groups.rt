@@ -1,6 +1,7 @@
 //! Groups of rows.
 
-ghost use Rattle.std.specs.Prelude.{◌≡◌, ◌≤◌, ◌+◌, ◌<◌, All, IfOk, OnOk, length, map};
+ghost use Rattle.std.specs.Prelude.{◌≡◌, ◌==◌, ◌≤◌, ◌+◌, ◌-◌, ◌<◌, All, IfOk, OnOk, length, map};
+ghost use Rattle.std.specs.List.{range_with_len};
 ghost use Rattle.std.specs.Option.{ForNone};
 ghost use Rattle.scan_base.specs.Limits.{most_rows};
 ghost use Rattle.arrays.specs.Batch.{row_of};
@@ -17,6 +18,7 @@ use array_select::Selection;
 use arrays::Batch;
 use arrow_types::DataType;
 use first_rows::FirstRows;
+use group_slots::{RowSpan, add_span};
 use scan_base::{Fault, HashSeed};
 use std::alloc::{AllocError, Global};
 use std::marker::Model;
@@ -144,6 +146,51 @@ impl<'t> Groups<'t> {
         };
         match add(alloc, self.shape.items, &mut self.kept, &chosen) {
             Ok(()) => Ok(()),
+            Err(_) => {
+                self.refused = Some(Fault::OutOfMemory);
+                Err(Fault::OutOfMemory)
+            }
+        }
+    }
+
+    /// Whether there is one group of all rows: there is no key column.
+    pub fn has_one_group(&self) -> bool
+        ensures { result ≡ (length self.now.keys == 0) }
+    {
+        self.shape.keys.is_empty()
+    }
+
+    /// Feeds the rows `from` up to, not with, `to` of the batch of a number, in order, where there
+    /// is one group of all rows. No list of them is made.
+    ///
+    /// # Errors
+    ///
+    /// F21 (`Fault::OutOfMemory`) where memory is refused. What refused the groups is answered from
+    /// then on.
+    pub fn feed_span(&mut self, number: usize, from: usize, to: usize) -> Result<(), Fault>
+        requires one { length self.old.keys ≡ 0 }
+        requires there { number < length self.old.batches }
+        requires ordered { from ≤ to }
+        requires within { to ≤ (batch_at self.old.batches number).rows }
+        requires few { ForNone self.old.refused (self.old.count + (to - from) ≤ most_rows) }
+        ensures { Feeds self.old result self.new
+            (map (row_of (batch_at self.old.batches number).columns)
+            (range_with_len from (to - from))) }
+    {
+        if let Some(fault) = self.refused {
+            return Err(fault);
+        }
+        let span = RowSpan {
+            batch: &self.shape.batches[number],
+            from,
+            to,
+            fed: self.kept.count,
+        };
+        match add_span(self.kept.tallies.as_mut_slice(), self.shape.items, &span) {
+            Ok(()) => {
+                self.kept.count += to - from;
+                Ok(())
+            }
             Err(_) => {
                 self.refused = Some(Fault::OutOfMemory);
                 Err(Fault::OutOfMemory)

@@ -6,7 +6,7 @@ ghost use Rattle.hash_join.specs.Searches.{IsSearch};
 
 use crate::buckets::Buckets;
 use crate::digests::Digests;
-use crate::key_codes::{any_codes, has_codes, most_codes};
+use crate::key_codes::{any_codes, columns_of, has_codes, most_codes};
 use crate::key_row::KeyRow;
 use crate::number_look::BucketKind;
 use crate::pair_cache::PairCache;
@@ -105,7 +105,7 @@ impl<'a> Sieve for AllRows<'a> {
         let rows = batch.rows();
         let wanted = CacheSizes {
             rows: if has_codes(batch, key) { rows } else { 0 },
-            parts: key.len(),
+            columns: columns_of(key),
             codes: most_codes(batch, key).min(rows),
         };
         RowCache::new(alloc, hashing, wanted)

@@ -82,7 +82,8 @@ impl Probe {
 impl Build {
     /// The right side of these batches, whose rows join by these of their columns. Their hashes
     /// begin with the seed. Who watches is told of the rows, and may end it, after each 65,536 rows
-    /// at the latest. A row counts as often as the key has parts.
+    /// at the latest. A row counts as often as the key has parts, and once more for each 64 bytes
+    /// of text there.
     ///
     /// # Errors
     ///

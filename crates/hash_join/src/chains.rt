@@ -11,8 +11,26 @@ use crate::right_rows::RightRows;
 use crate::rights::Rights;
 use crate::row_cache::RowCache;
 use std::alloc::{AllocError, Global};
-use work_watch::pace::MOST_PIECE_ROWS;
+use work_watch::pace::{LEAST_PIECE_ROWS, MOST_PIECE_ROWS};
 use work_watch::{Watches, tell};
+
+// How many rows are linked, or looked at, before who watches is told of them, where a row counts as
+// so many.
+fn piece_rows(weight: usize) -> usize
+    requires { 1 ≤ weight }
+    ensures some { 1 ≤ result }
+    ensures few { result ≤ 65536 }
+{
+    (MOST_PIECE_ROWS / weight).max(LEAST_PIECE_ROWS)
+}
+
+// As how many rows so many count, where one counts as so many.
+fn weighted_rows(rows: usize, weight: usize) -> usize
+    requires { 1 ≤ weight }
+    ensures { rows ≤ result }
+{
+    rows.saturating_mul(weight)
+}
 
 // For each bucket the first row of its chain, and for each row the next of its chain, in rising
 // order; the number of rows where there is none. A row with a null in its key stands in no chain.
@@ -140,12 +158,14 @@ impl OpenChains {
         ensures told { OnOk result
             (ToldAtLeast W.told (length rights.now.places.items) watch.old watch.new) }
     {
+        let weight = rights.weight();
+        let piece = piece_rows(weight);
         let mut from = rights.places.len();
         while from > 0 {
             let to = from;
-            from = to.saturating_sub(MOST_PIECE_ROWS);
+            from = to.saturating_sub(piece);
             self.link_rows(rights, from, to);
-            tell(watch, rights.weighted_rows(to - from))?;
+            tell(watch, weighted_rows(to - from, weight))?;
         }
         Ok(())
     }
@@ -203,13 +223,15 @@ impl OpenRepeats {
         ensures told { OnOk result
             (ToldAtLeast W.told (length rights.now.places.items) watch.old watch.new) }
     {
+        let weight = rights.weight();
+        let piece = piece_rows(weight);
         let rows = rights.places.len();
         let mut to = 0;
         while to < rows {
             let from = to;
-            to = rows.min(from + MOST_PIECE_ROWS);
+            to = rows.min(from + piece);
             self.look_at_rows(rights, links, from, to);
-            tell(watch, rights.weighted_rows(to - from))?;
+            tell(watch, weighted_rows(to - from, weight))?;
         }
         Ok(())
     }

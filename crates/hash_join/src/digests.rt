@@ -33,14 +33,15 @@ pub(crate) struct SeenDigest {
     pub(crate) digest: u64,
 }
 
-// For each place the row whose part, of a code of a dictionary, fell there last. A code has a place
-// of its own where there are places for all. Else a product tells its place, and the table may
-// forget a row. Who asks looks whether that row has the same code.
+// For each place the row whose part, of a code of a dictionary, fell there last. A code of a column
+// has a place of its own where there are places for all. Else a product tells its place, and the
+// table may forget a row. Who asks looks whether that row has the same code, in a part of the same
+// column.
 #[derive(Drop)]
 pub(crate) struct Digests {
     alloc: Global,
     product: Product,
-    parts: usize,
+    columns: usize,
     most: usize,
     taken: usize,
     pub(crate) texts: Vec<SeenDigest>,
@@ -66,19 +67,19 @@ impl Digests {
         Digests {
             alloc,
             product: Product::one(),
-            parts: 1,
+            columns: 1,
             most: 0,
             taken: 0,
             texts: Vec::new(alloc),
         }
     }
 
-    // A table that grows to a place of 16 bytes for each of so many codes in each of so many parts,
-    // or to as many places as a table has at most.
+    // A table that grows to a place of 16 bytes for each of so many codes in each of so many
+    // columns, or to as many places as a table has at most.
     pub(crate) fn new(
         alloc: Global,
         hashing: &BucketHash,
-        parts: usize,
+        columns: usize,
         codes: usize,
     ) -> Result<Digests, AllocError>
         ensures { IfOk result
@@ -87,13 +88,13 @@ impl Digests {
         if codes == 0 {
             return Ok(Digests::none(alloc));
         }
-        let wanted = parts.min(MOST_DIGESTS) * codes.min(MOST_DIGESTS);
+        let wanted = columns.min(MOST_DIGESTS) * codes.min(MOST_DIGESTS);
         let most = wanted.min(MOST_DIGESTS).next_power_of_two();
         let places = most.min(FIRST_DIGESTS);
         Ok(Digests {
             alloc,
             product: Product::of_hasher(hashing.begun, places - 1),
-            parts,
+            columns,
             most,
             taken: 0,
             texts: free_places(alloc, places)?,
@@ -181,30 +182,32 @@ impl Digests {
         let Some(code) = rows.part_code(row, part) else {
             return None;
         };
-        let place = self.place(code, part);
+        let column = rows.part_column(part);
+        let place = self.place(code, column);
         if let Some(digest) = self.digest_at(rows, place, row, part) {
             return Some(digest);
         }
         let found = hashing.digest(rows.part(row, part));
         if let Some(digest) = found {
             self.make_room(hashing);
-            self.keep(self.place(code, part), row, part, digest);
+            self.keep(self.place(code, column), row, part, digest);
         }
         found
     }
 
-    // The place of a part's code: one of its own where there are enough. No contract rests on it.
-    fn place(&self, code: i128, part: usize) -> usize {
+    // The place of a column's code: one of its own where there are enough. No contract rests on it.
+    fn place(&self, code: i128, column: usize) -> usize {
         let number = code
-            .wrapping_mul(self.parts as i128)
-            .wrapping_add(part as i128);
+            .wrapping_mul(self.columns as i128)
+            .wrapping_add(column as i128);
         match usize::try_from(number) {
             Ok(place) if place < self.texts.len() => place,
             _ => self.product.at(number),
         }
     }
 
-    // The digest of a part of a row's key, where the row at a place has the same code in that part.
+    // The digest of a part of a row's key, where the row at a place has the same code, in a part of
+    // the same column.
     fn digest_at<R: PartRows>(&self, rows: &R, place: usize, row: usize, part: usize) -> Option<u64>
         requires row { row < R.count rows.now }
         requires part { part < R.parts rows.now }
@@ -217,8 +220,8 @@ impl Digests {
         }
         let seen = self.texts[place];
         let other = seen.row as usize;
-        if seen.part as usize == part
-            && other < rows.row_count()
+        if other < rows.row_count()
+            && rows.is_one_column(part, seen.part as usize)
             && rows.have_part_code(other, row, part)
         {
             Some(seen.digest)

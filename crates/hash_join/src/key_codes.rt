@@ -1,6 +1,6 @@
 //! Codes of dictionaries, and numbers, that stand for values of a key.
 
-ghost use Rattle.std.specs.Prelude.{◌≡◌, ◌<◌, All, IsTrue, length, nat_lt, true};
+ghost use Rattle.std.specs.Prelude.{◌≡◌, ◌<◌, ◌≤◌, All, IsTrue, length, nat_lt, true};
 ghost use Rattle.std.specs.List.{list_all};
 ghost use Rattle.scan_base.specs.Value.{value_of};
 ghost use Rattle.arrays.specs.Batch.{BatchAt};
@@ -177,4 +177,57 @@ pub(crate) fn any_has_codes(batches: &[Batch], key: &[usize]) -> bool
         }
     }
     false
+}
+
+// Above the numbers of all columns of the key.
+pub(crate) fn columns_of(key: &[usize]) -> usize {
+    let mut columns = 1usize;
+    for column in key {
+        columns = column.saturating_add(1).max(columns);
+    }
+    columns
+}
+
+// So many bytes of a text take about as long as a number.
+const COUNTED_BYTES: usize = 64;
+
+// How many bytes of text a row has in a column: as the longest of a dictionary, and else as the
+// texts of all rows have on average. It looks at no text.
+fn row_bytes(column: &Column) -> usize {
+    let rows = column.len();
+    let first = column.first();
+    match column.layout() {
+        Layout::Texts(cells) if rows > 0 => {
+            cells.bytes_between(first, first + rows).len() / rows
+        }
+        Layout::Indices(_) => column.longest_text(),
+        _ => 0,
+    }
+}
+
+// As how many rows one of a batch counts: once for each part of the key, and once for each 64 bytes
+// of text there. It looks at no text.
+fn row_weight(batch: &Batch, key: &[usize]) -> usize
+    requires { IsTrue (list_all (λ column. nat_lt column (length batch.now.columns)) key.now) }
+{
+    let columns = batch.columns();
+    let mut weight = 0usize;
+    for part in 0..key.len() {
+        let bytes = row_bytes(&columns[key[part]]);
+        weight = weight.saturating_add(bytes / COUNTED_BYTES + 1);
+    }
+    weight
+}
+
+// As how many rows one of these batches counts at most, and once at least.
+pub(crate) fn most_weight(batches: &[Batch], key: &[usize]) -> usize
+    requires { All (λ (batch : BatchAt).
+        IsTrue (list_all (λ column. nat_lt column (length batch.columns)) key.now)) batches.now }
+    ensures { 1 ≤ result }
+{
+    let mut most = 1usize;
+    for batch in batches {
+        most = row_weight(batch, key).max(most);
+    }
+    most
 }

@@ -1,6 +1,6 @@
 //! Rows by the parts of their keys.
 
-ghost use Rattle.std.specs.Prelude.{◌≡◌, ◌<◌, ℕ, List, get_or, length, true};
+ghost use Rattle.std.specs.Prelude.{◌≡◌, ◌<◌, ℕ, List, get_or, length, map, true};
 ghost use Rattle.scan_base.specs.Value.{value_of};
 ghost use Rattle.scan_base.specs.declared.value.Value.{Value};
 ghost use Rattle.scan_base.specs.declared.value.Value.TheVariants.{Null};
@@ -36,6 +36,16 @@ pub(crate) trait PartRows {
         requires part { part < parts self.now }
         ensures { value_of result ≡ get_or (key self.now row) part Null };
 
+    // The number of a part's column. No contract rests on it.
+    fn part_column(&self, part: usize) -> usize
+        requires { part < parts self.now };
+
+    // Whether two parts of a key are one column, as far as it may be told.
+    fn is_one_column(&self, part: usize, other: usize) -> bool
+        requires { part < parts self.now }
+        ensures { result ≡ true → (row : ℕ) →
+            get_or (key self.now row) part Null ≡ get_or (key self.now row) other Null };
+
     // The code of a part of a row's key.
     fn part_code(&self, row: usize, part: usize) -> Option<i128>
         requires row { row < count self.now }
@@ -48,6 +58,18 @@ pub(crate) trait PartRows {
         requires part { part < parts self.now }
         ensures { result ≡ true →
             get_or (key self.now row) part Null ≡ get_or (key self.now other) part Null };
+}
+
+// Whether two parts of a key are one column: whatever its cells are, they are the same in both.
+pub(crate) fn are_one_column(key: &[usize], part: usize, other: usize) -> bool
+    requires { part < length key.now }
+    ensures { result ≡ true → (cell : ℕ → Value) →
+        get_or (map cell key.now) part Null ≡ get_or (map cell key.now) other Null }
+{
+    if other >= key.len() {
+        return false;
+    }
+    key[part] == key[other]
 }
 
 // The rows of one batch, by the key of one of them.
@@ -80,6 +102,14 @@ impl<'a> PartRows for BatchRows<'a> {
 
     fn part(&self, row: usize, part: usize) -> ValueRef<'_> {
         self.at.part_in(row, part)
+    }
+
+    fn part_column(&self, part: usize) -> usize {
+        self.at.key[part]
+    }
+
+    fn is_one_column(&self, part: usize, other: usize) -> bool {
+        are_one_column(self.at.key, part, other)
     }
 
     fn part_code(&self, row: usize, part: usize) -> Option<i128> {

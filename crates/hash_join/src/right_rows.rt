@@ -5,7 +5,7 @@ ghost use Rattle.hash_join.specs.Hashes.{last_of};
 ghost use Rattle.hash_join.specs.Rights.{bucket_at, digest_at, key_at, AreRights};
 
 use crate::digests::Digests;
-use crate::part_rows::PartRows;
+use crate::part_rows::{PartRows, are_one_column};
 use crate::rights::Rights;
 use crate::row_cache::BucketRows;
 use scan_base::ValueRef;
@@ -65,6 +65,14 @@ impl<'a> PartRows for RightRows<'a> {
 
     fn part(&self, row: usize, part: usize) -> ValueRef<'_> {
         self.rights.key_row(row).part(part)
+    }
+
+    fn part_column(&self, part: usize) -> usize {
+        self.rights.key[part]
+    }
+
+    fn is_one_column(&self, part: usize, other: usize) -> bool {
+        are_one_column(self.rights.key.as_slice(), part, other)
     }
 
     fn part_code(&self, row: usize, part: usize) -> Option<i128> {

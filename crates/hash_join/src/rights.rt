@@ -15,7 +15,7 @@ ghost use Rattle.hash_join.specs.PairCache.{HaveCompared};
 ghost use Rattle.hash_join.specs.RowCache.{AreKept};
 
 use crate::buckets::{BucketHash, Buckets};
-use crate::key_codes::{any_batch_codes, any_has_codes, any_most_codes};
+use crate::key_codes::{any_batch_codes, any_has_codes, any_most_codes, columns_of, most_weight};
 use crate::key_row::KeyRow;
 use crate::numbers::are_numbers;
 use crate::pair_cache::PairCache;
@@ -114,12 +114,13 @@ impl Rights {
         }
     }
 
-    // What so many rows count as where they are hashed: a row counts once for each part of its key,
-    // and once at least.
-    pub(crate) fn weighted_rows(&self, rows: usize) -> usize
-        ensures { rows ≤ result }
+    // As how many rows one counts that is hashed or compared: once for each part of its key, once
+    // for each 64 bytes of text there, and once at least.
+    pub(crate) fn weight(&self) -> usize
+        requires { AreRights self.now }
+        ensures { 1 ≤ result }
     {
-        rows.saturating_mul(self.key.len().max(1))
+        most_weight(&self.batches, &self.key)
     }
 
     // Tables for the buckets and the digests of rows that are seen, without a row yet. They have
@@ -136,7 +137,7 @@ impl Rights {
         let coded = any_has_codes(&self.batches, &self.key);
         let wanted = CacheSizes {
             rows: if coded { rows } else { 0 },
-            parts: self.key.len(),
+            columns: columns_of(&self.key),
             codes: any_most_codes(&self.batches, &self.key).min(rows),
         };
         RowCache::new(alloc, hashing, wanted)

@@ -30,11 +30,11 @@ pub(crate) struct RowCache {
 }
 
 // For what tables have places: for so many rows whose keys have codes, and for so many codes in
-// each of so many parts.
+// each of so many columns.
 #[derive(Clone, Copy, Drop)]
 pub(crate) struct CacheSizes {
     pub(crate) rows: usize,
-    pub(crate) parts: usize,
+    pub(crate) columns: usize,
     pub(crate) codes: usize,
 }
 
@@ -100,7 +100,7 @@ impl RowCache {
         ensures texts { IfOk result
             (λ seen. All (λ (at : SeenDigest). 2 ^ 32 ≤ at.row + 1) seen.digests.texts.items) }
     {
-        let digests = Digests::new(alloc, hashing, wanted.parts, wanted.codes)?;
+        let digests = Digests::new(alloc, hashing, wanted.columns, wanted.codes)?;
         if wanted.rows == 0 {
             return Ok(RowCache {
                 product: Product::one(),

@@ -76,7 +76,7 @@ abbrev pub is_sayable : NumberType → ℤ → Bool
 is_sayable Date day = has_date day
 is_sayable _ number = nat_lt (unsigned_abs number) (10 ^ 38)
 
--- what is printed of a number that fits its type reads as that number
+-- what is printed of a number that fits its type and that a text may say reads as that number
 abbrev pub ReadsBack : NumberType → ℤ → Type 0
 ReadsBack kind number = IsTrue (holds (cell_of kind) number && is_sayable kind number) →
     number_read kind (shown kind number) ≡ Some number

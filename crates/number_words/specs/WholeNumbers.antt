@@ -16,7 +16,7 @@ abbrev pub decimal_in : List ℕ → Option ℤ
 decimal_in text = if slice_index text 0 == byte "-" then option_map neg_ℤ (number_of (drop 1 text))
     else number_of text
 
--- the least and the greatest number that a cell holds
+-- the least number that a cell holds
 abbrev pub least_in : Cell → ℤ
 least_in (Integer Int8) = neg_ℤ (pos 128)
 least_in (Integer Int16) = neg_ℤ (pos 32768)
@@ -25,6 +25,7 @@ least_in (Integer Int64) = neg_ℤ (pos 9223372036854775808)
 least_in Wide = neg_ℤ (pos (2 ^ 127))
 least_in _ = pos 0
 
+-- the greatest one
 abbrev pub greatest_in : Cell → ℤ
 greatest_in (Integer Int8) = pos 127
 greatest_in (Integer Int16) = pos 32767

@@ -14,7 +14,7 @@ use Rattle.sql_query.specs.declared.query.Place.{Place}
 use Rattle.table_versions.specs.Database.{Database}
 use Rattle.typed_plan.specs.declared.class.Class.{Class}
 use Rattle.typed_plan.specs.contracts.class.Class.{the_type}
-use Rattle.typed_plan.specs.Class.{same_class, bound_class}
+use Rattle.typed_plan.specs.Class.{same_class}
 use Rattle.query_binder.specs.NameRules.{crosses, equality_fault, joins_fault}
 use Rattle.typed_plan.specs.Faults.{◌then◌, must, first_in, compare_fault}
 use Rattle.query_binder.specs.NameClasses.{class_of_name}
@@ -22,9 +22,9 @@ use Rattle.typed_plan.specs.JoinedRows.{place_columns, scope_after}
 use Rattle.typed_plan.specs.Plan.{Tree, joined}
 use Rattle.query_binder.specs.PlannedTree.{place_tree, join_key, keys_of, joins_tree}
 use Rattle.typed_plan.specs.Scope.{Scope, numbered}
-use Rattle.typed_plan.specs.TypedPlans.{tree_types, class_of_number, key_fault, spans, IsTypedTree}
+use Rattle.typed_plan.specs.TypedPlans.{tree_types, key_class, key_fault, spans, IsTypedTree}
 use Rattle.typed_plan.proofs.ClassFollows.{compare_follows}
-use Rattle.query_binder.proofs.ScopeTypes.{type_in, scope_types, class_follows, place_types}
+use Rattle.query_binder.proofs.ScopeTypes.{type_in, scope_types, key_follows, place_types}
 use Rattle.typed_plan.proofs.TypedNames.{then_none}
 
 pub must_none : (test : Bool) (fault : Fault) → must test fault ≡ None → test ≡ true
@@ -41,12 +41,12 @@ compare_turned (Err fault) b e = cc
 
 -- a key of two columns of one class has no fault
 key_agrees : (types : List DataType) (seam one other : ℕ) →
-    compare_fault (class_of_number types one) (class_of_number types other) ≡ None →
+    compare_fault (key_class types one) (key_class types other) ≡ None →
     key_fault types (join_key seam one other) ≡ None
 key_agrees types seam one other e = elim (nat_lt one seam) as (λ b.
     key_fault types (if b then record { left = one; right = other } else record { left = other; right = one }) ≡ None) [
       | true ↦ e
-      | false ↦ compare_turned (class_of_number types one) (class_of_number types other) e
+      | false ↦ compare_turned (key_class types one) (key_class types other) e
     ]
 
 -- a key of two columns that cross has one on each side
@@ -70,8 +70,8 @@ equality_typed seam scope equality e =
     let b = class_of_name scope equality.right in
     let parts = then_none (compare_fault a b) (must (crosses seam left right) NotInSubset) e in (
       key_agrees (scope_types scope) seam left right
-          (compare_follows bound_class a b (class_of_number (scope_types scope) left) (class_of_number (scope_types scope) right)
-          (class_follows scope equality.left) (class_follows scope equality.right) parts.0),
+          (compare_follows (λ class. class) a b (key_class (scope_types scope) left) (key_class (scope_types scope) right)
+          (key_follows scope equality.left) (key_follows scope equality.right) parts.0),
       key_spans seam left right (must_none (crosses seam left right) NotInSubset parts.1),
     )
 

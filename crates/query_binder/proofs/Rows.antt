@@ -60,7 +60,7 @@ abbrev literally : Literal → Operand Term
 literally written = operand.Column (term.Literal written)
 
 abbrev whole : ℕ → Operand Term
-whole number = literally (literal.Number (pos number))
+whole n = literally (literal.Number number.Decimal (pos n))
 
 abbrev string : Name → Operand Term
 string bytes = literally (literal.Text bytes)
@@ -334,7 +334,7 @@ sum_of_dates = refl
 
 -- a < DATE '1994-01-01', which is the day 8766
 abbrev before_1994 : Pred Term
-before_1994 = comparing Less (column a) (literally (literal.Date (pos 8766)))
+before_1994 = comparing Less (column a) (literally (literal.Number number.Date (pos 8766)))
 
 some_dates : whole_meaning (all_where before_1994) (t_of (Number number.Date) (int 8000 ∷ Null ∷ int 8766 ∷ [])) ≡ (int 8000 ∷ []) ∷ []
 some_dates = refl
@@ -346,10 +346,10 @@ date_of_numbers : fault_of (all_where before_1994) (t_of (integer Int32) []) ≡
 date_of_numbers = refl
 
 -- a date next to a date, and next to a number
-between_dates : fault_of (all_where (comparing Less (literally (literal.Date (pos 0))) (literally (literal.Date (pos 1))))) three ≡ None
+between_dates : fault_of (all_where (comparing Less (literally (literal.Number number.Date (pos 0))) (literally (literal.Number number.Date (pos 1))))) three ≡ None
 between_dates = refl
 
-date_of_number : fault_of (all_where (comparing Less (literally (literal.Date (pos 0))) (whole 1))) three ≡ Some TypeClash
+date_of_number : fault_of (all_where (comparing Less (literally (literal.Number number.Date (pos 0))) (whole 1))) three ≡ Some TypeClash
 date_of_number = refl
 
 text_of_dates : fault_of (all_where (comparing Equal (column a) (string (codes "1994-01-01")))) (t_of (Number number.Date) []) ≡ Some TypeClash

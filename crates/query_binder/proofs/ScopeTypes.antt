@@ -1,6 +1,6 @@
 -- The types of the columns that the names of a query may stand for.
 use Rattle.std.proofs.Common.{◌≡◌, ◌<◌, ℕ, ◌+◌, true, false, if◌then◌else◌, List, [], ◌∷◌, map, length, nat_lt}
-use Rattle.std.proofs.Common.{Option, Some, None, option_map, Result, Ok, Err, refl, sym, ap, slice_get}
+use Rattle.std.proofs.Common.{Option, Some, None, option_map, Result, Ok, Err, refl, sym, ap, slice_get, get_or}
 use Rattle.std.proofs.Common.{◌∙◌, arith}
 use Rattle.std.proofs.lemmas.Bool.{lt-ltb}
 use Rattle.std.proofs.lemmas.List.{length-map}
@@ -22,15 +22,15 @@ use Rattle.sql_query.specs.Sentence.{place_name}
 use Rattle.table_versions.specs.Table.{Table}
 use Rattle.table_versions.specs.Database.{Database, table_at}
 use Rattle.typed_plan.specs.declared.class.Class.{Class}
-use Rattle.typed_plan.specs.Class.{literal_class, literal_value, bound_class, value_class}
+use Rattle.typed_plan.specs.Class.{type_class, literal_class, literal_value, bound_class, value_class}
 use Rattle.typed_plan.specs.Scope.{Scope, ScopeColumn, stands_for, named_numbers, the_only, column_of, numbered, number_in}
 use Rattle.typed_plan.specs.Scope.{term_operand}
 use Rattle.typed_plan.specs.Faults.{fault_in, operand_class}
 use Rattle.query_binder.specs.NameClasses.{class_at, class_of_column, class_of_name, class_of_term}
 use Rattle.typed_plan.specs.JoinedRows.{fields_in, place_columns}
 use Rattle.query_binder.specs.PlannedTree.{schema_in, place_tree}
-use Rattle.typed_plan.specs.TypedPlans.{types_of, tree_types, class_if_there, class_of_number}
-use Rattle.typed_plan.proofs.ClassFollows.{Follows}
+use Rattle.typed_plan.specs.TypedPlans.{types_of, tree_types, class_if_there, class_of_number, key_class_if_there, key_class}
+use Rattle.typed_plan.proofs.ClassFollows.{Follows, number_bound}
 
 abbrev pub type_in : ScopeColumn → DataType
 type_in column = column.field.data_type
@@ -81,30 +81,42 @@ pub numbered_there : (scope : Scope) (name : ColumnName) → fault_in (column_of
 numbered_there scope name e =
     rw (length-map scope type_in) (lt-ltb (numbered scope name) (length scope) (numbered_within scope name e))
 
--- the class of a name is that of its column's number
-pub class_follows : (scope : Scope) (name : ColumnName) →
-    Follows bound_class (class_of_name scope name) (class_of_number (scope_types scope) (numbered scope name))
-class_follows scope name class = of_result (column_of scope name) (meant_within scope name)
+-- what is kept of the class of a name is what is seen of its column's number
+name_follows : (kept : Class → Class) (seen : Option DataType → Result Class Fault) →
+    ((data_type : DataType) → seen (Some data_type) ≡ Ok (kept (type_class data_type))) →
+    (scope : Scope) (name : ColumnName) →
+    Follows kept (class_of_name scope name) (seen (slice_get (scope_types scope) (numbered scope name)))
+name_follows kept seen same scope name class = of_result (column_of scope name) (meant_within scope name)
   where
     of_result : (meant : Result ℕ Fault) → ((number : ℕ) → meant ≡ Ok number → number < length scope) →
         class_of_column scope meant ≡ Ok class →
-        class_of_number (scope_types scope) (number_in meant) ≡ Ok (bound_class class)
+        seen (slice_get (scope_types scope) (number_in meant)) ≡ Ok (kept class)
     of_result (Err fault) within e = cc
     of_result (Ok number) within e =
         let none : ScopeColumn = record { place = []; field = record { name = []; nullable = true; data_type = Utf8 } } in
         let there = slice_get-get_or scope number none (within number refl) in
         let said : Ok (class_at (slice_get scope number)) ≡ Ok class = e in
         let meant : class_at (slice_get scope number) ≡ class = cc in
-        ap class_if_there (slice_get-map type_in scope number ∙ ap (option_map type_in) there)
-        ∙ sym (ap (λ (column : Option ScopeColumn). Ok (bound_class (class_at column))) there)
-        ∙ ap (λ (found : Class). Ok (bound_class found)) meant
+        ap seen (slice_get-map type_in scope number ∙ ap (option_map type_in) there)
+        ∙ same (type_in (get_or scope number none))
+        ∙ sym (ap (λ (column : Option ScopeColumn). Ok (kept (class_at column))) there)
+        ∙ ap (λ (found : Class). Ok (kept found)) meant
+
+-- the class of a name is that of its column's number
+pub class_follows : (scope : Scope) (name : ColumnName) →
+    Follows bound_class (class_of_name scope name) (class_of_number (scope_types scope) (numbered scope name))
+class_follows scope name = name_follows bound_class class_if_there (λ data_type. refl) scope name
+
+-- and exactly so in a key
+pub key_follows : (scope : Scope) (name : ColumnName) →
+    Follows (λ class. class) (class_of_name scope name) (key_class (scope_types scope) (numbered scope name))
+key_follows scope name = name_follows (λ class. class) key_class_if_there (λ data_type. refl) scope name
 
 -- the value of a literal has its class
 literal_bound : (l : Literal) → value_class (literal_value l) ≡ bound_class (literal_class l)
 literal_bound (literal.Text bytes) = refl
 literal_bound (literal.Truth flag) = refl
-literal_bound (literal.Number number) = refl
-literal_bound (literal.Date day) = refl
+literal_bound (literal.Number kind number) = sym (number_bound kind)
 
 -- the class of a term is that of what stands for it
 pub term_follows : (scope : Scope) (written : Term) →

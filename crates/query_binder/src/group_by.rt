@@ -216,8 +216,11 @@ fn aggregate_name(alloc: Global, place: usize, alias: &Option<Text>) -> Result<T
 
 // The column of a COUNT.
 fn count_field(name: Text) -> Field
-    ensures { result
-        ≡ record { name = name; nullable = false; data_type = NumberColumn (WholeNumber SignedLong) } }
+    ensures { result ≡ record {
+      name = name;
+      nullable = false;
+      data_type = NumberColumn (WholeNumber SignedLong);
+    } }
 {
     Field {
         name,

@@ -63,8 +63,7 @@ fn bind_literal(literal: &Literal) -> Result<Value, AllocError>
     match literal {
         Literal::Text(text) => Ok(Value::Text(text.clone()?)),
         Literal::Truth(flag) => Ok(Value::Bool(*flag)),
-        Literal::Number(number) => Ok(Value::Int(*number)),
-        Literal::Date(day) => Ok(Value::Int(i128::from(*day))),
+        Literal::Number(_, number) => Ok(Value::Int(*number)),
     }
 }
 

@@ -55,7 +55,12 @@ fn put(alloc: Global, case: &str) -> Result<Put, Fault> {
 
 /// The version after such a put, which makes the table or appends to it.
 pub fn next_version(alloc: Global, snapshot: &Snapshot, case: &str) -> Result<Snapshot, Fault> {
-    let catalog = apply(alloc, snapshot, put(alloc, case)?)?;
+    let catalog = apply(
+        alloc,
+        snapshot.catalog(),
+        snapshot.number(),
+        put(alloc, case)?,
+    )?;
     let number = snapshot.number().saturating_add(1);
     Ok(Snapshot::new(number, Arc::new(alloc, catalog)?))
 }

@@ -165,7 +165,7 @@ pushed_wide ps (joined left right on) places h =
 -- ---- plans
 
 -- one that stands for another stands for what that one stands for, where the middle one reads what the old one reads
-stands_through : (new middle old : BoundAt) → ((database : Database) → IsOver (tree_of old.plan) database → IsOver (tree_of middle.plan) database) →
+pub stands_through : (new middle old : BoundAt) → ((database : Database) → IsOver (tree_of old.plan) database → IsOver (tree_of middle.plan) database) →
     ((places : List (List Row)) → AreWide (tree_of old.plan) places → AreWide (tree_of middle.plan) places) →
     StandsFor new middle → StandsFor middle old → StandsFor new old
 stands_through new middle old reads wider one other = record {

@@ -22,3 +22,4 @@ pub mod TreeWidths
 pub mod Databases
 pub mod PushedTrees
 pub mod FoldedPushed
+pub mod SingleKeys

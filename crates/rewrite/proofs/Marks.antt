@@ -5,11 +5,10 @@ use Rattle.std.proofs.Math.ListN.{length-replicate}
 use Rattle.std.proofs.lemmas.Bool.{and_from, and_parts, or_left, or_right, ltb-true, ltb-false, lt-ltb, le-ltb, eqb-true, eqb-false, eq-eqb}
 use Rattle.std.proofs.lemmas.List.{length-append, length-set, length-take-le, length-drop}
 use Rattle.arrow_types.specs.declared.data_type.DataType.{DataType}
-use Rattle.scan_base.specs.declared.comparison.Comparison.TheVariants.{Equal}
 use Rattle.scan_base.specs.declared.predicate.Operand.{Operand}
 use Rattle.scan_base.specs.declared.predicate.Operand.TheVariants as operand
 use Rattle.scan_base.specs.Predicate.{Pred, conjunction, disjunction, negation, truth_test, comparing, between, membership, null_test, constant, operand_names, names_only}
-use Rattle.typed_plan.proofs.TypedNames.{then_none, names_there}
+use Rattle.typed_plan.proofs.TypedNames.{then_none, names_there, key_there}
 use Rattle.typed_plan.specs.declared.plan.Aggregate.{Aggregate}
 use Rattle.typed_plan.specs.declared.plan.Aggregate.TheVariants.{Key, CountRows, Count, Sum}
 use Rattle.typed_plan.specs.declared.plan.Columns.TheVariants.{All, These}
@@ -260,8 +259,7 @@ module _ (uses : List Bool) (types : List DataType) (wide : length uses ≡ leng
   keys_used [] e all = refl
   keys_used (key ∷ on) e all =
       let faults = then_none (key_fault types key) (first_in (key_fault types) on) e in
-      let there = and_parts (nat_lt key.left (length types)) (nat_lt key.right (length types))
-      (names_there types (comparing Equal (operand.Column key.left) (operand.Column key.right)) faults.0) in
+      let there = key_there types key faults.0 in
       let l = ltb-true key.left (length types) there.0 in
       let r = ltb-true key.right (length types) there.1 in
       and_from (uses_key uses key) (list_all (uses_key uses) on)

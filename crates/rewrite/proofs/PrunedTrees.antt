@@ -25,7 +25,7 @@ use Rattle.typed_plan.specs.Faults.{◌then◌, compare_fault, first_in, predica
 use Rattle.typed_plan.specs.HeldTables.{tree_tables}
 use Rattle.typed_plan.specs.NumberedPredicates.{predicate_map}
 use Rattle.typed_plan.specs.Plan.{Tree, scan, filtered, joined}
-use Rattle.typed_plan.specs.TypedPlans.{class_if_there, class_of_number, has_columns, type_at, types_of, tree_types, is_place, key_fault, spans, IsTypedTree, has_item, item_type, output_types, HasOutput, is_grouping}
+use Rattle.typed_plan.specs.TypedPlans.{class_if_there, class_of_number, key_class_if_there, key_class, has_columns, type_at, types_of, tree_types, is_place, key_fault, spans, IsTypedTree, has_item, item_type, output_types, HasOutput, is_grouping}
 use Rattle.rewrite.specs.Places.{tree_width}
 use Rattle.rewrite.specs.PrunedColumns.{used_of, is_used, used_number, numbers_of, used_key, item_in, output_in, pruned, uses_key, uses_item, uses_output, AreUsed}
 use Rattle.rewrite.proofs.PrunedRows.{used_width}
@@ -85,6 +85,9 @@ module _ (uses : List Bool) (types : List DataType) (wide : length types ≡ len
       predicate_follows seen (class_of_number (used_of uses types)) (used_number uses) (λ n class s. s) p
       (sym (fault_agrees (is_used uses) (class_of_number types) seen class_kept p h) ∙ e)
 
+  key_kept : (n : ℕ) → is_used uses n ≡ true → key_class types n ≡ key_class (used_of uses types) (used_number uses n)
+  key_kept n e = ap key_class_if_there (sym (kept_at uses types n wide e))
+
   keys_kept : (on : List JoinKey) → list_all (uses_key uses) on ≡ true → first_in (key_fault types) on ≡ None →
       first_in (key_fault (used_of uses types)) (map (used_key uses) on) ≡ None
   keys_kept [] h e = refl
@@ -93,8 +96,8 @@ module _ (uses : List Bool) (types : List DataType) (wide : length types ≡ len
       let both = and_parts (is_used uses key.left) (is_used uses key.right) parts.0 in
       let faults = then_none (key_fault types key) (first_in (key_fault types) on) e in
       let here : key_fault (used_of uses types) (used_key uses key) ≡ None =
-      ap (λ class. compare_fault class (class_of_number (used_of uses types) (used_number uses key.right))) (sym (class_kept key.left both.0))
-      ∙ ap (compare_fault (class_of_number types key.left)) (sym (class_kept key.right both.1)) ∙ faults.0 in
+      ap (λ class. compare_fault class (key_class (used_of uses types) (used_number uses key.right))) (sym (key_kept key.left both.0))
+      ∙ ap (compare_fault (key_class types key.left)) (sym (key_kept key.right both.1)) ∙ faults.0 in
       ap (λ first. first then first_in (key_fault (used_of uses types)) (map (used_key uses) on)) here ∙ keys_kept on parts.1 faults.1
 
 keys_span : (uses : List Bool) (seam : ℕ) (on : List JoinKey) → list_all (uses_key uses) on ≡ true → list_all (spans seam) on ≡ true →

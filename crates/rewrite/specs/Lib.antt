@@ -6,3 +6,4 @@ pub mod PrunedColumns
 pub mod Uses
 pub mod FoldedPredicates
 pub mod SameRows
+pub mod SingleKeys

@@ -10,11 +10,12 @@ ghost use Rattle.typed_plan.specs.View.{plan_of, tree_of};
 use crate::literals::fold;
 use crate::pruning::prune;
 use crate::pushdown::push_down;
+use crate::single_keys::merge_keys;
 use std::alloc::{AllocError, Global};
 use typed_plan::TypedPlan;
 
-/// The plan with its literals worked out, its filters as low as they may stand, and scans that give
-/// those columns alone that something uses. It gives the same rows.
+/// The plan with each key of an ON once, its literals worked out, its filters as low as they may
+/// stand, and scans that give those columns alone that something uses. It gives the same rows.
 ///
 /// # Errors
 ///
@@ -25,7 +26,8 @@ pub fn rewrite(alloc: Global, plan: TypedPlan) -> Result<TypedPlan, AllocError>
     ensures below { IfOk result (λ made. is_pushed (tree_of made.plan) ≡ true) }
     ensures pruned { IfOk result (λ made. IsPruned (plan_of made)) }
 {
-    let folded = fold(plan);
+    let merged = merge_keys(alloc, plan)?;
+    let folded = fold(merged);
     let pushed = push_down(alloc, folded)?;
     prune(alloc, pushed)
 }

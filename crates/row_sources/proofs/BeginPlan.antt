@@ -1,30 +1,26 @@
 -- What gives the rows of a join of plans.
-use Rattle.std.proofs.Common.{◌≡◌, ◌≤◌, ◌<◌, ℕ, zero, suc, ◌+◌, Bool, true, false, List, [], ◌∷◌, ◌++◌, length, map, nat_lt, drop, slice_get, Option, Some, None, Result, Ok, Err, refl, sym, ap, ◌∙◌, subst, arith, length-append, length-drop, cond}
+use Rattle.std.proofs.Common.{◌≡◌, ◌≤◌, ◌<◌, ℕ, zero, suc, ◌+◌, Bool, true, false, List, [], ◌∷◌, ◌++◌, length, map, nat_lt, drop, None, refl, sym, ap, ◌∙◌, subst, arith, length-append, length-drop, cond}
 use Rattle.std.specs.Prelude.{◌-◌}
 use Rattle.std.specs.List.{AllZip, filter, flat_map, list_all, range_with_len, zip}
-use Rattle.std.proofs.lemmas.Bool.{lt-ltb}
 use Rattle.std.proofs.lemmas.List.{drop_all, length-map, map-append, take_all}
 use Rattle.std.proofs.lemmas.List.Elements.{filter-append, length_all_zip}
-use Rattle.std.proofs.lemmas.Option.{slice_get_within}
 use Rattle.arrow_types.specs.Answer.{LiesAs}
 use Rattle.arrow_types.specs.declared.data_type.DataType.{DataType}
 use Rattle.arrow_types.specs.declared.schema.Schema.{Schema}
 use Rattle.arrays.specs.Batch.{BatchAt, rows_of}
 use Rattle.scan_base.specs.Limits.{most_rows}
 use Rattle.scan_base.specs.Predicate.{cell_in}
-use Rattle.scan_base.specs.declared.fault.Fault.{Fault}
 use Rattle.table_versions.specs.StoredTables.{TableAt, table_of}
 use Rattle.table_versions.specs.Table.{Row}
 use Rattle.table_versions.proofs.Rowing.{length-rows_of, rows-cons}
-use Rattle.typed_plan.specs.declared.class.Class.{Class}
 use Rattle.typed_plan.specs.declared.plan.Columns.TheVariants as columns
 use Rattle.typed_plan.specs.declared.plan.JoinKey.{JoinKey}
-use Rattle.typed_plan.specs.Faults.{compare_fault, first_in}
+use Rattle.typed_plan.specs.Faults.{first_in}
 use Rattle.typed_plan.specs.HeldTables.{tree_schemas}
 use Rattle.typed_plan.specs.JoinedRows.{rows_between}
 use Rattle.typed_plan.specs.Plan.{Tree, scan, filtered, joined, is_true, joined_rows}
-use Rattle.typed_plan.specs.TypedPlans.{class_if_there, class_of_number, is_place, key_fault, spans, tree_types, IsTypedTree}
-use Rattle.typed_plan.proofs.TypedNames.{then_none}
+use Rattle.typed_plan.specs.TypedPlans.{is_place, key_fault, spans, tree_types, IsTypedTree}
+use Rattle.typed_plan.proofs.TypedNames.{then_none, key_there}
 use Rattle.row_sources.specs.JoinParts.{CanJoin, JoinsRows, numbered_fits}
 use Rattle.row_sources.specs.BegunRows.{IsBegun, tree_given}
 use Rattle.row_sources.specs.CollectedRows.{plain_rows}
@@ -205,19 +201,11 @@ joined_begun left right on (first ∷ more) last from to rows a b made l r count
     }
 
 -- a key's cells are there
-compare_there : (types : List DataType) (n : ℕ) (left : Result Class Fault) → compare_fault left (class_of_number types n) ≡ None → nat_lt n (length types) ≡ true
-compare_there types n left e = by (slice_get types n) refl left e
-  where
-    by : (found : Option DataType) → slice_get types n ≡ found → (some : Result Class Fault) → compare_fault some (class_if_there found) ≡ None → nat_lt n (length types) ≡ true
-    by (Some data_type) is some f = lt-ltb n (length types) (slice_get_within types n data_type is)
-    by None is (Ok class) f = cc
-    by None is (Err fault) f = cc
-
 keys_there : (types : List DataType) (on : List JoinKey) → first_in (key_fault types) on ≡ None → list_all (λ (key : JoinKey). nat_lt key.right (length types)) on ≡ true
 keys_there types [] h = refl
 keys_there types (key ∷ on) h =
     let p = then_none (key_fault types key) (first_in (key_fault types) on) h in
-    rw (compare_there types key.right (class_of_number types key.left) p.0, keys_there types on p.1) refl
+    rw ((key_there types key p.0).1, keys_there types on p.1) refl
 
 pub can_join : (left right : Tree) (on : List JoinKey) (lefts : List TableAt) (last : TableAt) (from to rows : ℕ) (a b : RowsAt) →
     IsTypedTree (joined left right on) → IsBegun left lefts from to a → IsBegun right (last ∷ []) 0 rows b → rows ≡ length (flat_map rows_of last.batches) → rows ≤ most_rows → CanJoin on a b

@@ -1,7 +1,8 @@
 -- What is printed of a table for people: its columns, aligned between bars, and how many rows it
 -- has.
-use Rattle.std.specs.Prelude.{ℕ, ◌+◌, ◌-◌, ◌==◌, ◌||◌, Bool, false, List, [], ◌∷◌, ◌++◌, map}
-use Rattle.std.specs.Prelude.{length, take, max, min, get_or, codes, chars, if◌then◌else◌, is_none}
+use Rattle.std.specs.Prelude.{ℕ, ◌+◌, ◌-◌, ◌*◌, ◌==◌, ◌||◌, ◌&&◌, not, nat_lt, Bool, false, List}
+use Rattle.std.specs.Prelude.{[], ◌∷◌, ◌++◌, map, length, take, drop, max, min, get_or, codes}
+use Rattle.std.specs.Prelude.{chars, if◌then◌else◌, is_none}
 use Rattle.std.specs.List.{count_by, flat_map}
 use Rattle.std.specs.Fmt.{decimal}
 use Rattle.unicode_width.specs.Width.{str_width}
@@ -13,17 +14,49 @@ use Rattle.arrow_types.specs.declared.schema.Field.{Field}
 use Rattle.arrow_types.specs.declared.schema.Schema.{Schema}
 use Rattle.number_words.specs.NumberTexts.{keyword, shown}
 use Rattle.row_text.specs.Rows.{Format, Notation, names_row, type_shown, value_text, values_row}
-use Rattle.row_text.specs.Lines.{escaped, line_notation}
+use Rattle.row_text.specs.Lines.{escaped_byte, line_notation}
 use Rattle.row_text.specs.declared.shape.Shape.{Shape}
 
 -- ---- what stands in a cell
+
+-- a byte that a line has as a backslash and a letter
+abbrev pub is_escaped : ℕ → Bool
+is_escaped byte = ((byte == 92) || (byte == 9)) || ((byte == 10) || (byte == 13))
+
+-- any other control byte, which a terminal would obey
+abbrev pub is_control : ℕ → Bool
+is_control byte = not (is_escaped byte) && (nat_lt byte 32 || (byte == 127))
+
+-- the texts for the control bytes below 16, and for those below 32
+abbrev pub low_controls : List ℕ
+low_controls =
+    codes "\\x00\\x01\\x02\\x03\\x04\\x05\\x06\\x07\\x08\\x09\\x0A\\x0B\\x0C\\x0D\\x0E\\x0F"
+
+abbrev pub high_controls : List ℕ
+high_controls =
+    codes "\\x10\\x11\\x12\\x13\\x14\\x15\\x16\\x17\\x18\\x19\\x1A\\x1B\\x1C\\x1D\\x1E\\x1F"
+
+-- the text for a control byte
+abbrev pub control_text : ℕ → List ℕ
+control_text byte =
+    if nat_lt byte 16 then take 4 (drop (4 * byte) low_controls) else
+    if nat_lt byte 32 then take 4 (drop (4 * (byte - 16)) high_controls) else
+    codes "\\x7F"
+
+-- a byte of a name or a text: as in a line, but no control byte is printed
+abbrev pub cell_byte : ℕ → List ℕ
+cell_byte byte = if is_control byte then control_text byte else escaped_byte byte
+
+-- a name or a text
+abbrev pub cell_text : List ℕ → List ℕ
+cell_text text = flat_map cell_byte text
 
 -- values: as in a line, but a text and a number stand without quotes
 abbrev pub table_notation : Notation
 table_notation = record {
   null = line_notation.null;
   truth = line_notation.truth;
-  text = escaped;
+  text = cell_text;
   number = shown;
 }
 
@@ -33,15 +66,12 @@ table_notation = record {
 abbrev pub most_width : ℕ
 most_width = 40
 
--- a byte that is written as two
-abbrev pub is_escaped : ℕ → Bool
-is_escaped byte = ((byte == 92) || (byte == 9)) || ((byte == 10) || (byte == 13))
-
 -- how many columns of a terminal a text takes, counted no further than matters; an escape takes one
--- more than its byte
+-- more than its byte, and the text for a control byte three more
 abbrev pub text_width : List ℕ → ℕ
 text_width text =
     min most_width (str_width false (chars text)) + min most_width (count_by is_escaped text)
+    + 3 * min most_width (count_by is_control text)
 
 -- how many a value takes
 abbrev pub value_width : DataType → Value → ℕ
@@ -101,7 +131,7 @@ value_cell shape value = padded shape (value_width shape.data_type value)
 
 -- a column's name
 abbrev pub name_cell : Shape → List ℕ → List ℕ
-name_cell shape name = padded shape (text_width name) (escaped name)
+name_cell shape name = padded shape (text_width name) (cell_text name)
 
 -- ---- rows
 

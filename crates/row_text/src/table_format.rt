@@ -5,7 +5,7 @@ ghost use Rattle.row_text.specs.Tables.{shape_of};
 
 use crate::format::{Cell, RowFormat};
 use crate::shape::{Shape, before, behind};
-use crate::text::{BackslashEscapes, send_spelled};
+use crate::text::{CellEscapes, send_spelled};
 use crate::value::{TypedValue, ValueFormat, send_value, type_shown};
 use crate::widths::{text_width, value_width};
 use arrow_types::{Field, NumberType};
@@ -50,7 +50,7 @@ impl<'a> ValueFormat for TableFormat<'a> {
         outbox: &mut Outbox,
         text: &str,
     ) -> Result<(), Fault> {
-        send_spelled(&BackslashEscapes, writer, outbox, text)
+        send_spelled(&CellEscapes, writer, outbox, text)
     }
 
     fn number<'b>(&self, room: &'b mut NumberText, kind: NumberType, number: i128) -> &'b str {
@@ -86,7 +86,7 @@ impl<'a> RowFormat for TableFormat<'a> {
         let name = field.name.as_str();
         let taken = text_width(name);
         outbox.send_part(writer, before(shape, taken))?;
-        send_spelled(&BackslashEscapes, writer, outbox, name)?;
+        send_spelled(&CellEscapes, writer, outbox, name)?;
         outbox.send_part(writer, behind(shape, taken))
     }
 

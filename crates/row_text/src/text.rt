@@ -4,6 +4,7 @@ ghost use Rattle.std.specs.Prelude.{◌≡◌, ◌∷◌, [], ℕ, List, MatchOp
 ghost use Rattle.std.specs.List.{flat_map};
 ghost use Rattle.grpc_frame.specs.Ends.{CanFail, CountsFailure, FailsByTransport};
 ghost use Rattle.grpc_frame.specs.Sending.{Sends};
+ghost use Rattle.row_text.specs.Tables.{control_text, is_control, is_escaped};
 
 use grpc_frame::{Outbox, Output};
 use scan_base::Fault;
@@ -35,6 +36,57 @@ impl Spelling for BackslashEscapes {
             b'\r' => Some(b"\\r"),
             _ => None,
         }
+    }
+}
+
+// The texts for the control bytes below 16, and for those below 32, of four bytes each.
+const LOW_CONTROLS: &[u8] =
+    b"\\x00\\x01\\x02\\x03\\x04\\x05\\x06\\x07\\x08\\x09\\x0A\\x0B\\x0C\\x0D\\x0E\\x0F";
+
+const HIGH_CONTROLS: &[u8] =
+    b"\\x10\\x11\\x12\\x13\\x14\\x15\\x16\\x17\\x18\\x19\\x1A\\x1B\\x1C\\x1D\\x1E\\x1F";
+
+/// Whether a line has a byte as a backslash and a letter.
+pub(crate) fn is_escaped(byte: u8) -> bool
+    ensures { result ≡ is_escaped byte }
+{
+    byte == b'\\' || byte == b'\t' || byte == b'\n' || byte == b'\r'
+}
+
+/// Whether a byte is any other control byte, which a terminal would obey.
+pub(crate) fn is_control(byte: u8) -> bool
+    ensures { result ≡ is_control byte }
+{
+    !is_escaped(byte) && (byte < 32 || byte == 127)
+}
+
+// The text for a control byte.
+fn control_text(byte: u8) -> &'static [u8]
+    ensures { result.now ≡ control_text byte }
+{
+    let place = usize::from(byte);
+    if place < 16 {
+        return &LOW_CONTROLS[4 * place..4 * place + 4];
+    }
+    if place < 32 {
+        return &HIGH_CONTROLS[4 * (place - 16)..4 * (place - 16) + 4];
+    }
+    b"\\x7F"
+}
+
+/// In a cell of a table no control byte is printed.
+pub(crate) struct CellEscapes;
+
+impl Spelling for CellEscapes {
+    ghost use Rattle.row_text.specs.Tables.{cell_byte};
+
+    ghost spelled = { cell_byte };
+
+    fn escape(&self, byte: u8) -> Option<&'static [u8]> {
+        if is_control(byte) {
+            return Some(control_text(byte));
+        }
+        BackslashEscapes.escape(byte)
     }
 }
 

@@ -6,9 +6,11 @@ ghost use Rattle.scan_base.specs.Limits.{most_columns};
 ghost use Rattle.scan_base.specs.Value.{value_of};
 ghost use Rattle.arrays.specs.Batch.{rows_of};
 ghost use Rattle.arrays.specs.Column.{values_of};
-ghost use Rattle.row_text.specs.Tables.{values_of_column, column_width, greatest, is_escaped};
+ghost use Rattle.row_text.specs.Tables.{values_of_column, column_width, greatest, is_control};
+ghost use Rattle.row_text.specs.Tables.{is_escaped};
 ghost use Rattle.row_text.specs.Tables.{text_width, value_width, widths_from};
 
+use crate::text::{is_control, is_escaped};
 use crate::value::numbers_of;
 use arrays::{Batch, Cells, Column};
 use arrayvec::ArrayVec;
@@ -19,13 +21,6 @@ use unicode_width::UnicodeWidthStr;
 
 /// No column is wider than this.
 pub(crate) const MOST_WIDTH: usize = 40;
-
-// Whether a byte is written as two.
-fn is_escaped(byte: u8) -> bool
-    ensures { result ≡ is_escaped byte }
-{
-    byte == b'\\' || byte == b'\t' || byte == b'\n' || byte == b'\r'
-}
 
 // How many bytes of a text are written as two.
 fn escapes(text: &[u8]) -> usize
@@ -40,11 +35,27 @@ fn escapes(text: &[u8]) -> usize
     count
 }
 
+// How many bytes of a text are other control bytes.
+fn controls(text: &[u8]) -> usize
+    ensures { result ≡ count_by is_control text.now }
+{
+    let mut count = 0;
+    for byte in text {
+        if is_control(*byte) {
+            count += 1;
+        }
+    }
+    count
+}
+
 /// How many columns a text takes, counted no further than matters.
 pub(crate) fn text_width(text: &str) -> usize
     ensures { result ≡ text_width text.now }
 {
-    text.width().min(MOST_WIDTH) + escapes(text.as_bytes()).min(MOST_WIDTH)
+    let bytes = text.as_bytes();
+    text.width().min(MOST_WIDTH)
+        + escapes(bytes).min(MOST_WIDTH)
+        + 3 * controls(bytes).min(MOST_WIDTH)
 }
 
 /// How many columns a value takes.

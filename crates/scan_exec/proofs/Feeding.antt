@@ -1,7 +1,8 @@
 -- The rows of a part of the batches, fed slice by slice.
-use Rattle.std.proofs.Common.{◌≡◌, ◌≤◌, ◌<◌, ℕ, suc, ◌+◌, ◌-◌, Bool, true, false, cond, List, [], ◌∷◌, ◌++◌, length, map, take, drop, get_or, Result, refl, sym, ap, ◌∙◌, subst, arith, append-nil, append_assoc, length-drop}
+use Rattle.std.proofs.Common.{◌≡◌, ◌≤◌, ◌<◌, ℕ, suc, ◌+◌, ◌-◌, Bool, true, false, cond, List, [], ◌∷◌, ◌++◌, length, map, take, drop, get_or, Result, Ok, Err, Option, None, refl, sym, ap, ◌∙◌, subst, arith, append-nil, append_assoc, length-drop}
+use Rattle.std.specs.Prelude.{nat_eq}
 use Rattle.std.specs.List.{filter, flat_map, range_with_len}
-use Rattle.std.specs.Result.{IfOk}
+use Rattle.std.specs.Result.{IfOk, OnOk}
 use Rattle.std.proofs.Math.Seq.{take-length, take-suc}
 use Rattle.std.proofs.lemmas.Grind.{flat_map-append}
 use Rattle.std.proofs.lemmas.List.{map-append, length-append, length-take, get_or_default, get_or-drop, drop_more, take_all, take-append-drop}
@@ -10,14 +11,19 @@ use Rattle.std.proofs.lemmas.List.FromFn.{length-range_with_len, take-map-range_
 use Rattle.kernels.proofs.PushedRows.{filter_more}
 use Rattle.arrays.specs.Batch.{BatchAt, row_of, rows_of}
 use Rattle.array_select.specs.Room.{most_batch_rows}
+use borrow.Author.Tests.{ne_eqb}
 use Rattle.scan_base.specs.Limits.{most_rows}
+use Rattle.scan_base.specs.View.{pred_of}
+use Rattle.scan_base.specs.declared.predicate.Predicate.{Predicate}
 use Rattle.scan_base.specs.declared.fault.Fault.{Fault}
 use Rattle.table_versions.specs.Table.{Row}
 use Rattle.table_versions.proofs.Rowing.{length-rows_of}
-use Rattle.grouping.specs.FedRows.{GroupsAt, Holds, HasFed, IsNew, batch_at}
+use Rattle.grouping.specs.FedRows.{GroupsAt, Holds, HasFed, Feeds, IsNew, batch_at}
 use Rattle.row_sources.specs.CollectedRows.{IsBatchOf}
-use Rattle.row_sources.specs.Picking.{PickAt, IsPick, holds}
-use Rattle.row_sources.proofs.Giving.{filter-map}
+use Rattle.row_sources.specs.declared.batch_slice.BatchSlice.{BatchSlice}
+use Rattle.row_sources.specs.declared.picker.Picker.{Picker}
+use Rattle.row_sources.specs.Picking.{PickAt, IsPick, chosen_rows, holds, pick_of, rows_of_part}
+use Rattle.row_sources.proofs.Giving.{all_hold, filter-map}
 use Rattle.row_sources.proofs.JoinSteps.{as_many}
 use Rattle.scan_exec.specs.GroupWork.{AreGroupsOf, CanBeGrouped, GroupsOfAll, GroupsOfPart, GroupWorkAt, IsPartFed, IsPartOf, IsSamePart, PartAt, batches_between, part_at, passing, row_count_between, rows_so_far}
 
@@ -59,6 +65,32 @@ module _ (pick : PickAt) (batch : BatchAt) where
   pub chosen_few : (from end : ℕ) → length (chosen_in pick batch from end) ≤ end - from
   chosen_few from end =
       omega (arith, passing_few (λ row. holds pick (row_of batch.columns row)) (range_with_len from (end - from)), length-range_with_len from (end - from))
+
+-- no filter is seen where there is none
+pub none_seen : (picker : Picker) → nat_eq picker.filters.len 0 ≡ true → (pick_of picker).filters ≡ []
+none_seen picker none = by picker.filters.items (subst (λ (n : ℕ). nat_eq n 0 ≡ true) picker.filters.ok.0 none)
+  where
+    by : (filters : List (Predicate ℕ)) → nat_eq (length filters) 0 ≡ true → map pred_of filters ≡ []
+    by [] none = refl
+    by (filter ∷ filters) none = let some : nat_eq (length (filter ∷ filters)) 0 ≡ false = ne_eqb _ _ (λ (h : length (filter ∷ filters) ≡ 0). omega arith) in cc
+
+-- where there is no filter, all rows of the slice are fed
+pub fed_unfiltered : (pick : PickAt) (part : BatchSlice) (batch : BatchAt) (before after : GroupsAt) (result : Result (Unit {0}) Fault) → pick.filters ≡ [] → batch ≡ part.batch.now →
+    before.refused ≡ None → Feeds before result after (map (row_of batch.columns) (rows_of_part part)) →
+    OnOk result (HasFed before after (map (row_of part.batch.now.columns) (chosen_rows pick part)))
+fed_unfiltered pick part batch before after (Err fault) open_all is none fed = tt
+fed_unfiltered pick part batch before after (Ok done) open_all is none fed =
+    let now : HasFed (record before { refused = None }) after (map (row_of batch.columns) (rows_of_part part)) =
+    subst (λ (refused : Option Fault). Feeds (record before { refused = refused }) (Ok done) after (map (row_of batch.columns) (rows_of_part part))) none fed in
+    let same : map (row_of batch.columns) (rows_of_part part) ≡ map (row_of part.batch.now.columns) (chosen_rows pick part) =
+    ap (λ (b : BatchAt). map (row_of b.columns) (rows_of_part part)) is ∙ ap (map (row_of part.batch.now.columns)) (all_hold pick part open_all) in
+    subst (HasFed before after) same
+    (record {
+      alike = record { batches = now.alike.batches; types = now.alike.types; keys = now.alike.keys; items = now.alike.items };
+      refused = now.refused;
+      count = now.count;
+      held = λ earlier h. now.held earlier (record { found = h.found; count = h.count; many = h.many; tallied = h.tallied });
+    })
 
 -- ---- one batch more
 

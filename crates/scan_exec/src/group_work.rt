@@ -164,7 +164,8 @@ struct BatchFeed<'a> {
     picker: &'a Picker,
 }
 
-// Feeds those rows of a slice that the filters let through. The selection's memory is used again.
+// Feeds those rows of a slice that the filters let through. The selection's memory is used again:
+// it is not used where there is no filter and no key.
 fn feed_slice(
     alloc: Global,
     groups: &mut Groups<'_>,
@@ -184,6 +185,9 @@ fn feed_slice(
         (map (row_of feeding.now.slice.batch.now.columns)
         (chosen_rows (pick_of feeding.now.picker.now) feeding.now.slice))) }
 {
+    if feeding.picker.filters.is_empty() && groups.has_one_group() {
+        return groups.feed_span(feeding.number, feeding.slice.from, feeding.slice.to);
+    }
     selection.clear();
     feeding.picker.select(alloc, &feeding.slice, selection)?;
     groups.feed(alloc, feeding.number, selection)

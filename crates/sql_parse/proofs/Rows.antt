@@ -18,9 +18,11 @@ use Rattle.sql_text.specs.Standard.{Lexeme}
 use Rattle.sql_text.specs.Reading.{pair, single, mark_front, front_at, tokens_within, tokens_from, tokens_in}
 use Rattle.sql_text.specs.Values.{number_of, unquoted}
 use Rattle.sql_text.specs.Words.{word_kind}
+use Rattle.jiff_core.specs.Calendar.{days_from_civil, day_count, days_of_years, days_of_months}
 use Rattle.grammar.specs.Reading.{begins, token, reads, read}
 use Rattle.grammar.specs.Sentence.{Begins, Offends}
 use Rattle.sql_query.specs.declared.query.ColumnName.{ColumnName}
+use Rattle.arrow_types.specs.declared.data_type.NumberType.TheVariants.{Decimal, Date}
 use Rattle.sql_query.specs.declared.query.Literal.{Literal}
 use Rattle.sql_query.specs.declared.query.Literal.TheVariants as literals
 use Rattle.sql_query.specs.declared.query.Term.{Term}
@@ -354,7 +356,7 @@ abbrev literally : Literal → Operand Term
 literally written = Column (term.Literal written)
 
 abbrev int : ℕ → Operand Term
-int value = literally (literals.Number (pos value))
+int value = literally (literals.Number Decimal (pos value))
 
 abbrev equals : Operand Term → ℕ → Pred Term
 equals operand value = comparing Equal operand (int value)
@@ -376,6 +378,11 @@ quote_in_string : Means (codes "SELECT a FROM t WHERE a = 'it''s'")
     (Ok (filtered (comparing Equal a (literally (literals.Text (codes "it's"))))))
 unfolding answer
 quote_in_string = worked refl
+
+a_date : Means (codes "SELECT a FROM t WHERE a = DATE '1994-01-01'")
+    (Ok (filtered (comparing Equal a (literally (literals.Number Date (pos 8766))))))
+unfolding answer days_from_civil day_count days_of_years days_of_months
+a_date = worked refl
 
 a_truth : Means (codes "SELECT a FROM t WHERE a = TRUE") (Ok (filtered (comparing Equal a (literally (literals.Truth true)))))
 unfolding answer
@@ -404,7 +411,7 @@ unfolding answer
 between_and = worked refl
 
 not_in : Means (codes "SELECT a FROM t WHERE a NOT IN (-1, b)")
-    (Ok (filtered (membership true a (literally (literals.Number (negsuc 0)) ∷ b ∷ []))))
+    (Ok (filtered (membership true a (literally (literals.Number Decimal (negsuc 0)) ∷ b ∷ []))))
 unfolding answer
 not_in = worked refl
 

@@ -4,6 +4,10 @@ use Rattle.std.proofs.Common.{None, Ok, Err, refl, ◌∙◌, ap, sym, append_as
 use Rattle.std.specs.Prelude.{◌==◌, ℤ}
 use Rattle.sql_text.specs.Values.{number_of}
 use Rattle.std.proofs.lemmas.Bool.{ne_eqb}
+use Rattle.jiff_core.specs.Calendar.{days_from_civil, day_count, days_of_years, days_of_months}
+use Rattle.arrow_types.specs.declared.data_type.NumberType.{NumberType}
+use Rattle.arrow_types.specs.declared.data_type.NumberType.TheVariants.{Date}
+use Rattle.sql_text.specs.declared.word.Keyword.{Keyword}
 use Rattle.sql_text.specs.declared.word.Keyword.TheVariants as word
 use Rattle.sql_text.specs.declared.symbol.Symbol.TheVariants as symbol
 use Rattle.grammar.specs.Reading.{Outcome, Read, Stuck, Over, Reader, and_then, kept, reads, read, entered, begins}
@@ -11,21 +15,21 @@ use Rattle.grammar.specs.Reading.{starts}
 use Rattle.grammar.proofs.Determined.{well_made}
 use Rattle.sql_text.specs.Words.{is_name}
 use Rattle.sql_text.specs.Values.{unquoted}
-use Rattle.sql_parse.specs.Tokens.{Mark, is_word, is_symbol, same_word, same_symbol}
+use Rattle.sql_parse.specs.Tokens.{Mark, is_word, is_symbol, same_word, same_symbol, date_token}
 use Rattle.sql_parse.specs.Answers.{Answer, seen, ◌>>=◌}
 use Rattle.scan_base.specs.declared.predicate.Operand.{Operand}
 use Rattle.scan_base.specs.Predicate.{conjunction, disjunction, negation}
 use Rattle.grammar.specs.Rule.{many, make}
 use Rattle.grammar.proofs.Deep.{flat_alike}
 use Rattle.sql_query.specs.declared.query.Term.{Term}
-use Rattle.sql_parse.specs.Productions.{name, column, minus, digits, date, number, string, literal, operand}
+use Rattle.sql_parse.specs.Productions.{name, column, minus, digits, number_after, date, number, string, literal, operand}
 use Rattle.sql_parse.specs.Productions.{compare}
 use Rattle.sql_parse.specs.Notation.{Condition}
 use Rattle.sql_parse.specs.Productions.{negated}
 use Rattle.sql_parse.specs.PredicateProductions.{truth_value, conj, pred, inner}
 use Rattle.sql_parse.specs.Notation.{a_word, a_symbol, ◌⊳◌, ◌⊲◌}
 use Rattle.sql_parse.specs.FactoredGrammar.{compared, nulled, ranged, among, tail, forms, primary, test, factor_by_operand}
-use Rattle.sql_parse.specs.Steps.{at, token_at, name_at, column_at, minus_at, numbered, digits_at, date_at, number_at}
+use Rattle.sql_parse.specs.Steps.{at, token_at, name_at, column_at, minus_at, numbered, digits_at, number_after_at, number_at}
 use Rattle.sql_parse.specs.Steps.{literal_at, operand_at, compare_at}
 use Rattle.sql_parse.specs.PredicateSteps.{negated_at, truth_at, compared_at, nulled_at, ranged_at}
 use Rattle.sql_parse.specs.PredicateSteps.{operands_at, among_at, tail_at, factor_at, ands_at, conj_at, ors_at, pred_at}
@@ -88,9 +92,14 @@ then_same : {A : Type 0} (o : Answer A) → (o >>= λ p. Ok (p.0, p.1)) ≡ o
 then_same (Ok p) = refl
 then_same (Err e) = refl
 
-date_same : (D : Nest) (ts : List Mark) → seen (reads D date ts) ≡ date_at ts
-unfolding date date_at token_at
-date_same D ts = simp (flat, seen_kept, then_same)
+number_after_same : (before : Keyword) (kind : NumberType) (D : Nest) (t : Mark) (ts : List Mark) →
+    seen (reads D (number_after before kind t) ts) ≡ number_after_at before kind ts
+unfolding number_after_at token_at
+number_after_same before kind D t ts = simp (flat, seen_kept, then_same)
+
+date_same : (D : Nest) (ts : List Mark) → seen (reads D date ts) ≡ number_after_at word.Date Date ts
+unfolding date
+date_same D ts = number_after_same word.Date Date D date_token ts
 
 number_same : (D : Nest) (ts : List Mark) → seen (reads D number ts) ≡ number_at ts
 unfolding number number_at token_at
@@ -258,7 +267,7 @@ pub nil_after : {A : Type 0} (xs ys : List A) (x : A) → (xs ++ x ∷ []) ++ ys
 nil_after xs ys x = append_assoc xs (x ∷ []) ys
 
 operand_made : well_made (a_symbol symbol.Comma ⊳ operand) ≡ true
-unfolding literal operand column name number minus digits date string same_symbol same_word number_of unquoted
+unfolding literal operand column name number minus digits date string same_symbol same_word number_of unquoted days_from_civil day_count days_of_years days_of_months
 operand_made = refl
 
 operands_flat : (D : Nest) (ts : List Mark) →

@@ -1,20 +1,23 @@
 -- The grammar of operands, production by production.
 use Rattle.std.specs.Prelude.{Bool, true, false, ℕ, ℤ, neg_ℤ, List, Option, Some, None}
+use Rattle.arrow_types.specs.declared.data_type.NumberType.{NumberType}
+use Rattle.arrow_types.specs.declared.data_type.NumberType.TheVariants.{Decimal, Date}
 use Rattle.scan_base.specs.declared.comparison.Comparison.{Comparison}
 use Rattle.scan_base.specs.declared.comparison.Comparison.TheVariants as comparison
 use Rattle.scan_base.specs.declared.predicate.Operand.{Operand}
 use Rattle.scan_base.specs.declared.predicate.Operand.TheVariants.{Column}
+use Rattle.sql_text.specs.declared.word.Keyword.{Keyword}
 use Rattle.sql_text.specs.declared.word.Keyword.TheVariants as word
 use Rattle.sql_text.specs.declared.symbol.Symbol.TheVariants as symbol
 use Rattle.grammar.specs.Rule.{one, empty, both, either, make}
 use Rattle.sql_query.specs.declared.query.ColumnName.{ColumnName}
 use Rattle.sql_query.specs.declared.query.Literal.{Literal}
-use Rattle.sql_query.specs.declared.query.Literal.TheVariants.{Text, Truth, Number, Date}
+use Rattle.sql_query.specs.declared.query.Literal.TheVariants.{Text, Truth, Number}
 use Rattle.sql_query.specs.declared.query.Term.{Term}
 use Rattle.sql_query.specs.declared.query.Term.TheVariants as term
-use Rattle.number_words.specs.Dates.{day_in}
+use Rattle.number_words.specs.NumberTexts.{number_read}
 use Rattle.sql_text.specs.Words.{is_name}
-use Rattle.sql_parse.specs.Tokens.{is_string, is_digits}
+use Rattle.sql_parse.specs.Tokens.{Mark, is_string, is_digits}
 use Rattle.sql_parse.specs.Tokens.{name_token, string_token, digits_token, date_token}
 use Rattle.sql_text.specs.Calls.{said, numeral}
 use Rattle.sql_parse.specs.Notation.{Of, a_word, a_symbol, word_for, symbol_for, ◌⊳◌}
@@ -56,15 +59,20 @@ number = make (λ p. signed p.0 p.1) (both minus digits)
 unfoldable pub string : Of (List ℕ)
 string = one is_string (λ t. Some (said t.0 t.1.1)) string_token
 
--- DATE string, where the string is a date: its day number
-unfoldable pub date : Of ℤ
-date = a_word word.Date ⊳ one is_string (λ t. day_in (said t.0 t.1.1)) date_token
+-- a word and a string, where the string is a number of the type; and such a string
+abbrev pub number_after : Keyword → NumberType → Mark → Of Literal
+number_after before kind token = make (Number kind)
+    (a_word before ⊳ one is_string (λ t. number_read kind (said t.0 t.1.1)) token)
+
+-- DATE string, where the string is a date
+unfoldable pub date : Of Literal
+date = number_after word.Date Date date_token
 
 -- DATE string | string | TRUE | FALSE | number
 unfoldable pub literal : Of Literal
-literal = either (make Date date) (either (make Text string)
+literal = either date (either (make Text string)
     (either (word_for word.True (Truth true)) (either (word_for word.False (Truth false))
-    (make Number number))))
+    (make (Number Decimal) number))))
 
 -- column | literal
 unfoldable pub operand : Of (Operand Term)

@@ -1,21 +1,24 @@
 -- Inside: what the parser of names, numbers and operands answers, step by step.
 use Rattle.std.specs.Prelude.{ℕ, Bool, true, false, if◌then◌else◌, List, length, Option}
 use Rattle.std.specs.Prelude.{Some, None, Ok, Err, ℤ}
+use Rattle.arrow_types.specs.declared.data_type.NumberType.{NumberType}
+use Rattle.arrow_types.specs.declared.data_type.NumberType.TheVariants.{Decimal, Date}
 use Rattle.scan_base.specs.declared.comparison.Comparison.{Comparison}
 use Rattle.scan_base.specs.declared.comparison.Comparison.TheVariants as comparison
 use Rattle.scan_base.specs.declared.predicate.Operand.{Operand}
 use Rattle.scan_base.specs.declared.predicate.Operand.TheVariants.{Column}
+use Rattle.sql_text.specs.declared.word.Keyword.{Keyword}
 use Rattle.sql_text.specs.declared.word.Keyword.TheVariants as word
 use Rattle.sql_text.specs.declared.symbol.Symbol.TheVariants as symbol
 use Rattle.sql_text.specs.declared.token.TokenKind.{TokenKind}
 use Rattle.grammar.specs.Reading.{begins, token}
 use Rattle.sql_query.specs.declared.query.ColumnName.{ColumnName}
 use Rattle.sql_query.specs.declared.query.Literal.{Literal}
-use Rattle.sql_query.specs.declared.query.Literal.TheVariants.{Text, Truth, Number, Date}
+use Rattle.sql_query.specs.declared.query.Literal.TheVariants.{Text, Truth, Number}
 use Rattle.sql_query.specs.declared.query.Term.{Term}
 use Rattle.sql_query.specs.declared.query.Term.TheVariants as term
 use Rattle.sql_parse.specs.declared.refusal.Refusal.TheVariants as refusal
-use Rattle.number_words.specs.Dates.{day_in}
+use Rattle.number_words.specs.NumberTexts.{number_read}
 use Rattle.sql_text.specs.Words.{is_name}
 use Rattle.sql_parse.specs.Tokens.{Mark, is_word, is_symbol, is_string, is_digits, value_of}
 use Rattle.sql_parse.specs.Tokens.{number_in}
@@ -67,25 +70,25 @@ number_at ts = do
   n ← digits_at m.1
   Ok (signed m.0 n.0, n.1)
 
-unfoldable pub date_at : List Mark → Answer ℤ
-date_at ts = do
-  w ← token_at (is_word word.Date) ts
+unfoldable pub number_after_at : Keyword → NumberType → List Mark → Answer Literal
+number_after_at before kind ts = do
+  w ← token_at (is_word before) ts
   t ← token_at is_string w.1
-  numbered (day_in (value_of t.0)) w.1 t.1
+  n ← numbered (number_read kind (value_of t.0)) w.1 t.1
+  Ok (Number kind n.0, n.1)
 
 unfoldable pub literal_at : List Mark → Answer Literal
 literal_at ts =
-    if at (is_word word.Date) ts then (do
-      d ← date_at ts
-      Ok (Date d.0, d.1)) else (if at is_string ts then (do
-        t ← token_at is_string ts
-        Ok (Text (value_of t.0), t.1)) else (if at (is_word word.True) ts then (do
-          t ← token_at (is_word word.True) ts
-          Ok (Truth true, t.1)) else (if at (is_word word.False) ts then (do
-            t ← token_at (is_word word.False) ts
-            Ok (Truth false, t.1)) else (do
-              n ← number_at ts
-              Ok (Number n.0, n.1)))))
+    if at (is_word word.Date) ts then number_after_at word.Date Date ts
+    else (if at is_string ts then (do
+      t ← token_at is_string ts
+      Ok (Text (value_of t.0), t.1)) else (if at (is_word word.True) ts then (do
+        t ← token_at (is_word word.True) ts
+        Ok (Truth true, t.1)) else (if at (is_word word.False) ts then (do
+          t ← token_at (is_word word.False) ts
+          Ok (Truth false, t.1)) else (do
+            n ← number_at ts
+            Ok (Number Decimal n.0, n.1)))))
 
 unfoldable pub operand_at : List Mark → Answer (Operand Term)
 operand_at ts =

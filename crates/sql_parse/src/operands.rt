@@ -7,7 +7,8 @@ ghost use Rattle.sql_parse.specs.Steps as steps;
 
 use crate::refusal::Refusal;
 use crate::tokens::{Class, Rest};
-use number_words::day_in;
+use arrow_types::NumberType;
+use number_words::read;
 use scan_base::{Comparison, Operand, Text};
 use sql_query::{ColumnName, Literal, Term};
 use sql_text::{Keyword, Symbol};
@@ -89,17 +90,23 @@ fn signed_number<'t>(tokens: Rest<'t>) -> Result<(i128, Rest<'t>), Refusal>
     Ok((if negative { -number } else { number }, rest))
 }
 
-// DATE string, where the string is a date: its day number
-#[tactic(auto, unfolding(crate::specs::Steps::date_at))]
-fn date<'t>(alloc: Global, tokens: Rest<'t>) -> Result<(i32, Rest<'t>), Refusal>
-    ensures exact { Gives (λ x. (x.0, unread x.1)) result (steps.date_at (unread tokens.entry)) }
+// a word and a string, where the string is a number of the type
+#[tactic(auto, unfolding(crate::specs::Steps::number_after_at))]
+fn number_after<'t>(
+    alloc: Global,
+    tokens: Rest<'t>,
+    word: Keyword,
+    kind: NumberType,
+) -> Result<(Literal, Rest<'t>), Refusal>
+    ensures exact { Gives (λ x. (x.0, unread x.1)) result
+        (steps.number_after_at word kind (unread tokens.entry)) }
     ensures shorter { IfOk result (λ x. remaining x.1 < remaining tokens.entry) }
 {
-    let (_, behind) = tokens.take(Class::Word(Keyword::Date))?;
+    let (_, behind) = tokens.take(Class::Word(word))?;
     let (token, rest) = behind.take(Class::String)?;
     let text = token.value(alloc)?;
-    match day_in(text.as_str()) {
-        Some(day) => Ok((day, rest)),
+    match read(kind, text.as_str()) {
+        Some(number) => Ok((Literal::Number(kind, number), rest)),
         None => Err(Refusal::Offends(behind.tokens.len())),
     }
 }
@@ -111,8 +118,7 @@ fn literal<'t>(alloc: Global, tokens: Rest<'t>) -> Result<(Literal, Rest<'t>), R
     ensures shorter { IfOk result (λ x. remaining x.1 < remaining tokens.entry) }
 {
     if tokens.at(Class::Word(Keyword::Date)) {
-        let (day, rest) = date(alloc, tokens)?;
-        Ok((Literal::Date(day), rest))
+        number_after(alloc, tokens, Keyword::Date, NumberType::Date)
     } else if tokens.at(Class::String) {
         let (token, rest) = tokens.take(Class::String)?;
         Ok((Literal::Text(token.value(alloc)?), rest))
@@ -124,7 +130,7 @@ fn literal<'t>(alloc: Global, tokens: Rest<'t>) -> Result<(Literal, Rest<'t>), R
         Ok((Literal::Truth(false), rest))
     } else {
         let (number, rest) = signed_number(tokens)?;
-        Ok((Literal::Number(number), rest))
+        Ok((Literal::Number(NumberType::Decimal, number), rest))
     }
 }
 

@@ -7,6 +7,7 @@ ghost use Rattle.sql_query.specs.Sentence.{sentence_of, is_aggregate, has_aggreg
 ghost use Rattle.sql_query.specs.Sentence.{place_name};
 ghost use Rattle.sql_query.specs.Sentence.{is_left_out_whole};
 
+use arrow_types::NumberType;
 use scan_base::{Items, Predicate, Text};
 
 /// A column, by its name, or by the name of its place and its own.
@@ -22,17 +23,16 @@ impl Drop for ColumnName {
     }
 }
 
-/// A literal as it is written. Binding says which value it is.
+/// A literal, which says its own type. Binding makes a value of it.
 #[derive(Drop)]
 pub enum Literal {
     /// What stands between single quotes.
     Text(Text),
     /// `TRUE` or `FALSE`
     Truth(bool),
-    /// What a sign and digits say.
-    Number(i128),
-    /// The day number of the date after `DATE`, where 1970-01-01 is 0.
-    Date(i32),
+    /// A number of a type: of Decimal what a sign and digits say, of another type what the string
+    /// after its word says.
+    Number(NumberType, i128),
 }
 
 /// A side of a comparison as it is written.

@@ -1,13 +1,13 @@
 -- What an accepted put tells.
-use Rattle.std.proofs.Common.{◌≡◌, ◌≤◌, Bool, true, false, List, [], ◌∷◌, ◌++◌, length, Option, Some, None, Ok, refl, arith, rules, length-append, nat_lt, take, drop}
+use Rattle.std.proofs.Common.{◌≡◌, ◌≤◌, ℕ, Bool, true, false, List, [], ◌∷◌, ◌++◌, length, Option, Some, None, Ok, refl, ap, ◌∙◌, arith, rules, length-append, nat_le, nat_lt, take, drop}
 use Rattle.scan_base.specs.declared.fault.Fault.{Fault}
 use Rattle.scan_base.specs.declared.fault.Fault.TheVariants.{LimitReached}
 use Rattle.scan_base.specs.Reading.{first_fault, unless}
 use Rattle.scan_base.specs.declared.put_options.IfExists.{IfExists}
 use Rattle.scan_base.specs.declared.put_options.IfExists.TheVariants.{Unspecified, Fail, Append, Replace}
-use Rattle.scan_base.specs.Limits.{most_rows}
+use Rattle.scan_base.specs.Limits.{most_rows, most_commits}
 use Rattle.table_versions.specs.Table.{Table}
-use Rattle.table_versions.specs.Database.{Put, table_at, with_table, table_after, put_faults}
+use Rattle.table_versions.specs.Database.{Database, Put, after, table_at, with_table, table_after, put_faults}
 use Rattle.table_versions.specs.Laws.{AcceptedPutsAreFew}
 
 -- where there is no fault, the first test is false, and so are the others
@@ -25,6 +25,27 @@ among (row ∷ front) test fault rest h = among front test fault rest (passed ro
 pub unrefused : {A : Type 0} (fault : Option Fault) (x y : A) → unless fault x ≡ Ok y → fault ≡ None
 unrefused (Some fault) x y h = cc
 unrefused None x y h = refl
+
+-- and that value is what is given
+pub given : {A : Type 0} (fault : Option Fault) (x y : A) → unless fault x ≡ Ok y → x ≡ y
+given (Some fault) x y h = cc
+given None x y h = cc
+
+-- where the last test is met by none, none is met where it never is
+unmet : (front : List (Bool × Fault)) (test : Bool) (fault : Fault) → first_fault (front ++ (test, fault) ∷ []) ≡ None →
+    first_fault (front ++ (false, fault) ∷ []) ≡ None
+unmet [] test fault h = refl
+unmet ((true, cause) ∷ front) test fault h = cc
+unmet ((false, cause) ∷ front) test fault h = unmet front test fault h
+
+-- a put that is accepted where some versions stand above the floor is accepted where none do
+pub accepted_by_tables : (old : Database) (n : ℕ) (put : Put) (new : Database) → after old n put ≡ Ok new → after old 0 put ≡ Ok new
+accepted_by_tables old n put new h =
+    let faults = put_faults old n put in
+    let made = with_table put.table (table_after put.if_exists (table_at old put.table) put) old in
+    let none = unrefused (first_fault faults) made new h in
+    let still : first_fault (put_faults old 0 put) ≡ None = unmet (take 8 faults) (nat_le most_commits n) LimitReached none in
+    ap (λ refused. unless refused made) still ∙ ap (λ d. Ok d) (given (first_fault faults) made new h)
 
 -- the rows of a put are among those of its table
 rows-after : (if_exists : IfExists) (there : Option Table) (put : Put) → length put.rows ≤ length (table_after if_exists there put).rows

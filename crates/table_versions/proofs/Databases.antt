@@ -9,8 +9,9 @@ use Rattle.std.proofs.lemmas.Grind.{common_steps}
 use Rattle.std.proofs.lemmas.Option.{slice_get_within}
 use Rattle.scan_base.specs.declared.fault.Fault.{Fault}
 use Rattle.table_versions.specs.Table.{Name}
-use Rattle.table_versions.specs.Database.{Database, Put, table_at, with_table, after, accepted, after_all, database_after, version_after, AreAccepted, logged}
+use Rattle.table_versions.specs.Database.{Database, Put, table_at, with_table, after, accepted, with_put, with_all, database_after, version_after, AreAccepted, logged}
 use Rattle.table_versions.specs.Laws.{TablesAreFound, LogsGrow, LogsStay, LogsHoldAcceptedPuts}
+use Rattle.table_versions.proofs.Accepted.{accepted_by_tables}
 
 -- two tests that do not both hold go in either order
 skipped : {X : Type 0} (a b : Bool) (x y z : X) → (a ≡ true → b ≡ false) →
@@ -41,28 +42,27 @@ tables_are_found n m t (e ∷ es) =
           ]
     ] refl
 
--- the database after one put more
-after_all-push : (old : Database) (n : ℕ) (log : List Put) (put : Put) →
-    after_all old n (log ++ put ∷ []) ≡ accepted (after_all old n log) (after (after_all old n log) (n + length log) put)
-after_all-push old n [] put = let e : n + 0 ≡ n = omega arith in rw e refl
-after_all-push old n (first ∷ log) put =
-    let e : n + 1 + length log ≡ n + suc (length log) = omega arith in
-    rw (← e) (after_all-push (accepted old (after old n first)) (n + 1) log put)
+-- the database with one put more
+with_all-push : (old : Database) (log : List Put) (put : Put) → with_all old (log ++ put ∷ []) ≡ with_put (with_all old log) put
+with_all-push old [] put = refl
+with_all-push old (first ∷ log) put = with_all-push (with_put old first) log put
 
-database_of-push : (log : List Put) (put : Put) → database_after (log ++ put ∷ []) ≡ accepted (database_after log) (after (database_after log) (length log) put)
-database_of-push log put = let e : 0 + length log ≡ length log = omega arith in rw (← e) (after_all-push [] 0 log put)
+-- an accepted put gives the database after it, however many versions stand above the floor
+pub database_of-more : (n : ℕ) (log : List Put) (put : Put) (database : Database) → after (database_after log) n put ≡ Ok database →
+    database_after (log ++ put ∷ []) ≡ database
+database_of-more n log put database h = with_all-push [] log put ∙ ap (accepted (database_after log)) (accepted_by_tables (database_after log) n put database h)
 
 pub logs_grow : LogsGrow
-logs_grow log put database h = (longer, ap database_after longer ∙ database_of-push log put ∙ rw h refl, earlier)
+logs_grow n log put database h = (longer, ap database_after longer ∙ database_of-more n log put database h, earlier)
   where
-    longer : logged log put ≡ log ++ put ∷ []
+    longer : logged n log put ≡ log ++ put ∷ []
     longer = rw h refl
 
-    earlier : (n : ℕ) → n ≤ length log → version_after (logged log put) n ≡ version_after log n
-    earlier n small = ap (λ puts. database_after (take n puts)) longer ∙ ap database_after (take-append-le n log (put ∷ []) small)
+    earlier : (k : ℕ) → k ≤ length log → version_after (logged n log put) k ≡ version_after log k
+    earlier k small = ap (λ puts. database_after (take k puts)) longer ∙ ap database_after (take-append-le k log (put ∷ []) small)
 
 pub logs_stay : LogsStay
-logs_stay log put fault h = rw h refl
+logs_stay n log put fault h = rw h refl
 
 -- an item of a list with one more after it: one of the list's, or that one
 pushed_at : {X G : Type 0} (xs : List X) (y z : X) (n : ℕ) → slice_get (xs ++ y ∷ []) n ≡ Some z →
@@ -73,17 +73,17 @@ pushed_at (x ∷ xs) y z zero h old new = old h
 pushed_at (x ∷ xs) y z (suc n) h old new = pushed_at xs y z n h old (λ e. new (ap suc e))
 
 -- a log with an accepted put after it
-pub longer_log : (log : List Put) (put : Put) (database : Database) → AreAccepted log → after (database_after log) (length log) put ≡ Ok database →
+longer_log : (m : ℕ) (log : List Put) (put : Put) (database : Database) → AreAccepted log → after (database_after log) m put ≡ Ok database →
     AreAccepted (log ++ put ∷ [])
-longer_log log put database is h n other at = pushed_at log put other n at old new
+longer_log m log put database is h n other at = pushed_at log put other n at old new
   where
     earlier : (i : ℕ) → i ≤ length log → version_after (log ++ put ∷ []) i ≡ version_after log i
     earlier i small = ap database_after (take-append-le i log (put ∷ []) small)
 
-    old : slice_get log n ≡ Some other → after (version_after (log ++ put ∷ []) n) n other ≡ Ok (version_after (log ++ put ∷ []) (n + 1))
+    old : slice_get log n ≡ Some other → after (version_after (log ++ put ∷ []) n) 0 other ≡ Ok (version_after (log ++ put ∷ []) (n + 1))
     old here =
         let within = slice_get_within log n other here in
-        ap (λ d. after d n other) (earlier n (omega (arith, within))) ∙ is n other here
+        ap (λ d. after d 0 other) (earlier n (omega (arith, within))) ∙ is n other here
         ∙ ap (λ d. Ok d) (sym (earlier (n + 1) (omega (arith, within))))
 
     whole : take (length log) log ≡ log
@@ -92,16 +92,17 @@ longer_log log put database is h n other at = pushed_at log put other n at old n
     all : take (length log + 1) (log ++ put ∷ []) ≡ log ++ put ∷ []
     all = grind (arith, common_steps)
 
-    new : n ≡ length log → put ≡ other → after (version_after (log ++ put ∷ []) n) n other ≡ Ok (version_after (log ++ put ∷ []) (n + 1))
+    new : n ≡ length log → put ≡ other → after (version_after (log ++ put ∷ []) n) 0 other ≡ Ok (version_after (log ++ put ∷ []) (n + 1))
     new e same =
         rw (e, sym same)
-        (ap (λ d. after d (length log) put) (earlier (length log) (omega arith) ∙ ap database_after whole) ∙ h
-        ∙ ap (λ d. Ok d) (sym (ap database_after all ∙ database_of-push log put ∙ rw h refl)))
+        (ap (λ d. after d 0 put) (earlier (length log) (omega arith) ∙ ap database_after whole)
+        ∙ accepted_by_tables (database_after log) m put database h
+        ∙ ap (λ d. Ok d) (sym (ap database_after all ∙ database_of-more m log put database h)))
 
 pub logs_hold_accepted_puts : LogsHoldAcceptedPuts
-logs_hold_accepted_puts = (λ n put at. cc, λ log put is. kept log put is (after (database_after log) (length log) put) refl)
+logs_hold_accepted_puts = (λ n put at. cc, λ n log put is. kept n log put is (after (database_after log) n put) refl)
   where
-    kept : (log : List Put) (put : Put) → AreAccepted log → (result : Result Database Fault) → after (database_after log) (length log) put ≡ result →
-        AreAccepted (logged log put)
-    kept log put is (Ok database) h = subst (λ (l : List Put). AreAccepted l) (sym (logs_grow log put database h).0) (longer_log log put database is h)
-    kept log put is (Err fault) h = subst (λ (l : List Put). AreAccepted l) (sym (logs_stay log put fault h)) is
+    kept : (n : ℕ) (log : List Put) (put : Put) → AreAccepted log → (result : Result Database Fault) → after (database_after log) n put ≡ result →
+        AreAccepted (logged n log put)
+    kept n log put is (Ok database) h = subst (λ (l : List Put). AreAccepted l) (sym (logs_grow n log put database h).0) (longer_log n log put database is h)
+    kept n log put is (Err fault) h = subst (λ (l : List Put). AreAccepted l) (sym (logs_stay n log put fault h)) is

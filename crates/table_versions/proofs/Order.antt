@@ -1,5 +1,5 @@
 -- Names stay in byte order.
-use Rattle.std.proofs.Common.{◌≡◌, ℕ, ◌+◌, Bool, true, false, if◌then◌else◌, List, [], ◌∷◌, Option, Some, None, refl, sym, ap, ◌∙◌, subst}
+use Rattle.std.proofs.Common.{◌≡◌, Bool, true, false, if◌then◌else◌, List, [], ◌∷◌, Option, Some, None, refl, sym, ap, ◌∙◌, subst}
 use Rattle.std.specs.Str.{bytes_eq}
 use Rattle.std.specs.Cmp.Lexicographic.{slice_cmp, same_text, texts_ties}
 use Rattle.std.specs.Ordering.{nat_cmp, is_lt, is_eq, ordering_reverse}
@@ -9,7 +9,7 @@ use Rattle.std.proofs.lemmas.Cmp.{nat_list_cmp_total}
 use Rattle.scan_base.specs.declared.fault.Fault.{Fault}
 use Rattle.scan_base.specs.Reading.{first_fault, unless}
 use Rattle.table_versions.specs.Table.{Name}
-use Rattle.table_versions.specs.Database.{Database, Put, table_at, with_table, table_after, put_faults, after, accepted, after_all}
+use Rattle.table_versions.specs.Database.{Database, Put, table_at, with_table, table_after, put_faults, accepted, with_put, with_all}
 use Rattle.table_versions.specs.Order.{StandsBefore, IsInOrder}
 use Rattle.table_versions.specs.Laws.{NamesAreInOrder}
 
@@ -48,18 +48,17 @@ module _ {T : Type 0} (name : Name) (table : T) where
             ] refl
       ] refl
 
-in_order-after : (database : Database) (n : ℕ) (put : Put) → IsInOrder database → IsInOrder (accepted database (after database n put))
-in_order-after database n put h = told (first_fault (put_faults database n put))
+in_order-with_put : (database : Database) (put : Put) → IsInOrder database → IsInOrder (with_put database put)
+in_order-with_put database put h = told (first_fault (put_faults database 0 put))
   where
     told : (refused : Option Fault) →
         IsInOrder (accepted database (unless refused (with_table put.table (table_after put.if_exists (table_at database put.table) put) database)))
     told (Some fault) = h
     told None = in_order-with_table put.table (table_after put.if_exists (table_at database put.table) put) database h
 
-in_order-after_all : (database : Database) (n : ℕ) (log : List Put) → IsInOrder database → IsInOrder (after_all database n log)
-in_order-after_all database n [] h = h
-in_order-after_all database n (put ∷ log) h =
-    in_order-after_all (accepted database (after database n put)) (n + 1) log (in_order-after database n put h)
+in_order-with_all : (database : Database) (log : List Put) → IsInOrder database → IsInOrder (with_all database log)
+in_order-with_all database [] h = h
+in_order-with_all database (put ∷ log) h = in_order-with_all (with_put database put) log (in_order-with_put database put h)
 
 pub names_are_in_order : NamesAreInOrder
-names_are_in_order log = in_order-after_all [] 0 log tt
+names_are_in_order log = in_order-with_all [] log tt

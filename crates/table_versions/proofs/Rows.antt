@@ -5,8 +5,8 @@ use Rattle.scan_base.specs.declared.value.Value.TheVariants.{Int, Null, Text}
 use Rattle.scan_base.specs.declared.fault.Fault.TheVariants.{TableMissing, TableExists, LimitReached, BadBatch, SchemaMismatch}
 use Rattle.arrow_types.specs.declared.data_type.DataType.{DataType}
 use Rattle.arrow_types.specs.declared.data_type.DataType.TheVariants.{Number, Utf8, Dictionary}
-use Rattle.arrow_types.specs.declared.data_type.NumberType.TheVariants.{Integer}
-use Rattle.arrow_types.specs.declared.data_type.IntegerType.TheVariants.{Int8, Int64, UInt8}
+use Rattle.arrow_types.specs.declared.data_type.NumberType.TheVariants.{Integer, Date}
+use Rattle.arrow_types.specs.declared.data_type.IntegerType.TheVariants.{Int8, Int32, Int64, UInt8}
 use Rattle.arrow_types.specs.declared.schema.Field.{Field}
 use Rattle.arrays.specs.Batch.{BatchAt}
 use Rattle.scan_base.specs.declared.put_options.IfExists.{IfExists}
@@ -105,6 +105,20 @@ two_alike = refl
 other_type : after (database_after (created ∷ [])) 1 (appended (Number (Integer UInt8)) []) ≡ Err SchemaMismatch
 other_type = refl
 
+-- a date is no integer, though it lies in a slot as an Int32 does
+abbrev of_type : DataType → Put
+of_type data_type = put absent.Create Fail data_type (int 1 ∷ [])
+
+date_onto_int32 : after (database_after (of_type (Number (Integer Int32)) ∷ [])) 1 (appended (Number Date) (int 2 ∷ [])) ≡ Err SchemaMismatch
+date_onto_int32 = refl
+
+int32_onto_date : after (database_after (of_type (Number Date) ∷ [])) 1 (appended (Number (Integer Int32)) (int 2 ∷ [])) ≡ Err SchemaMismatch
+int32_onto_date = refl
+
+date_onto_date : after (database_after (of_type (Number Date) ∷ [])) 1 (appended (Number Date) (int 2 ∷ []))
+    ≡ Ok ((codes "t", table (Number Date) (int 1 ∷ int 2 ∷ [])) ∷ [])
+date_onto_date = refl
+
 other_name : after (database_after (created ∷ [])) 1 (record (appended int64 []) { schema = record { fields = field (codes "b") int64 ∷ [] } })
     ≡ Err SchemaMismatch
 other_name = refl
@@ -161,19 +175,29 @@ text-65536 = refl
 text-65537 : after [] 0 (long 65537) ≡ Err LimitReached
 text-65537 = refl
 
--- the last commit and the one after it
-commit-65536 : after [] 65535 (put absent.Create Fail int64 []) ≡ Ok ((codes "t", table int64 []) ∷ [])
-commit-65536 = refl
+-- the last version above the floor, and the one after it
+version-65536 : after [] 65535 (put absent.Create Fail int64 []) ≡ Ok ((codes "t", table int64 []) ∷ [])
+version-65536 = refl
 
-commit-65537 : after [] 65536 created ≡ Err LimitReached
-commit-65537 = refl
+version-65537 : after [] 65536 created ≡ Err LimitReached
+version-65537 = refl
+
+-- any other fault comes before that one
+version-65537-present : after (database_after (created ∷ [])) 65536 created ≡ Err TableExists
+version-65537-present = refl
 
 -- a refused put is not logged, and an accepted one is
-not_logged : logged (created ∷ []) created ≡ created ∷ []
+not_logged : logged 1 (created ∷ []) created ≡ created ∷ []
 not_logged = refl
 
-is_logged : logged (created ∷ []) replaced ≡ created ∷ replaced ∷ []
+is_logged : logged 1 (created ∷ []) replaced ≡ created ∷ replaced ∷ []
 is_logged = refl
+
+logged-65536 : logged 65535 (created ∷ []) replaced ≡ created ∷ replaced ∷ []
+logged-65536 = refl
+
+not_logged-65537 : logged 65536 (created ∷ []) replaced ≡ created ∷ []
+not_logged-65537 = refl
 
 refused_in_log : AreAccepted (created ∷ created ∷ []) → ⊥
 refused_in_log is = let no : Err TableExists ≡ Ok (version_after (created ∷ created ∷ []) 2) = is 1 created refl in cc

@@ -1,5 +1,5 @@
 -- Every version has tables alone.
-use Rattle.std.proofs.Common.{◌≡◌, ◌≤◌, ◌==◌, ◌||◌, ◌&&◌, not, ℕ, ◌+◌, Bool, true, false, if◌then◌else◌, List, [], ◌∷◌, ◌++◌, length, take, drop, nat_lt, Option, Some, None, Result, Ok, Err, refl, sym, subst, ◌∙◌, rules, All}
+use Rattle.std.proofs.Common.{◌≡◌, ◌≤◌, ◌==◌, ◌||◌, ◌&&◌, not, ℕ, Bool, true, false, if◌then◌else◌, List, [], ◌∷◌, ◌++◌, length, take, drop, nat_lt, Option, Some, None, Result, Ok, Err, refl, sym, subst, ◌∙◌, rules, All}
 use Rattle.std.specs.List.{list_any}
 use Rattle.std.specs.Str.{bytes_eq}
 use Rattle.std.specs.Cmp.Lexicographic.{slice_cmp}
@@ -9,17 +9,17 @@ use Rattle.std.proofs.lemmas.Bool.{not-false}
 use Rattle.scan_base.specs.declared.fault.Fault.{Fault}
 use Rattle.scan_base.specs.declared.fault.Fault.TheVariants.{BadBatch, SchemaMismatch, LimitReached}
 use Rattle.scan_base.specs.Lists.{repeats}
-use Rattle.scan_base.specs.Reading.{first_fault, unless}
+use Rattle.scan_base.specs.Reading.{first_fault}
 use Rattle.arrow_types.specs.declared.schema.Field.{Field}
 use Rattle.scan_base.specs.Value.{is_null}
 use Rattle.scan_base.specs.declared.put_options.IfExists.{IfExists}
 use Rattle.scan_base.specs.declared.put_options.IfExists.TheVariants.{Unspecified, Fail, Append, Replace}
 use Rattle.scan_base.specs.Limits.{most_name_bytes, most_rows}
 use Rattle.table_versions.specs.Table.{Name, Row, Table, same_name, same_fields, has_bad_null, is_long_text}
-use Rattle.table_versions.specs.Database.{Database, Put, table_at, with_table, table_after, columns_of, differs, put_faults, after, accepted, after_all}
+use Rattle.table_versions.specs.Database.{Database, Put, table_at, with_table, table_after, columns_of, differs, put_faults, after, accepted, with_put, with_all}
 use Rattle.table_versions.specs.Valid.{IsRow, IsTable, IsName, IsDatabase, HasTypes, IsPut}
 use Rattle.table_versions.specs.Laws.{AcceptedPutsKeepDatabases, VersionsAreDatabases}
-use Rattle.table_versions.proofs.Accepted.{among, unrefused}
+use Rattle.table_versions.proofs.Accepted.{among, unrefused, given}
 use Rattle.table_versions.proofs.Alike.{row_alike}
 use Rattle.table_versions.proofs.Order.{in_order-with_table}
 use Rattle.table_versions.proofs.Storable.{first_false, second_false}
@@ -143,10 +143,6 @@ name_is name h =
     let few = second_false (length name == 0) (nat_lt most_name_bytes (length name)) h in
     record { some = search (rules, some); few = search (rules, few) }
 
-given : {A : Type 0} (fault : Option Fault) (x y : A) → unless fault x ≡ Ok y → x ≡ y
-given (Some fault) x y h = cc
-given None x y h = cc
-
 pub accepted_puts_keep_databases : AcceptedPutsKeepDatabases
 accepted_puts_keep_databases old n put new is rows h =
     let there = table_at old put.table in
@@ -167,10 +163,10 @@ kept : (old : Database) (n : ℕ) (put : Put) (result : Result Database Fault) �
 kept old n put (Ok new) h is rows = accepted_puts_keep_databases old n put new is rows h
 kept old n put (Err fault) h is rows = is
 
-all_kept : (old : Database) (n : ℕ) (log : List Put) → IsDatabase old → All IsPut log → IsDatabase (after_all old n log)
-all_kept old n [] is puts = is
-all_kept old n (put ∷ log) is puts =
-    all_kept (accepted old (after old n put)) (n + 1) log (kept old n put (after old n put) refl is (All-head IsPut put log puts)) (All-tail IsPut put log puts)
+all_kept : (old : Database) (log : List Put) → IsDatabase old → All IsPut log → IsDatabase (with_all old log)
+all_kept old [] is puts = is
+all_kept old (put ∷ log) is puts =
+    all_kept (with_put old put) log (kept old 0 put (after old 0 put) refl is (All-head IsPut put log puts)) (All-tail IsPut put log puts)
 
 none : IsDatabase []
 none = record {
@@ -180,4 +176,4 @@ none = record {
 }
 
 pub versions_are_databases : VersionsAreDatabases
-versions_are_databases log puts n = all_kept [] 0 (take n log) none (All-take IsPut n log puts)
+versions_are_databases log puts n = all_kept [] (take n log) none (All-take IsPut n log puts)

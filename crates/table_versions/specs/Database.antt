@@ -62,7 +62,7 @@ columns_of (Some table) = Some table.schema
 columns_of None = None
 
 -- why a put is refused, in this order, where this is the table of its name, there are so many
--- tables, and n puts were accepted before it
+-- tables, and n versions stand above the floor
 abbrev pub faults_at : Option Table → ℕ → ℕ → Put → List (Bool × Fault)
 faults_at there tables n put =
     (length put.table == 0 || nat_lt most_name_bytes (length put.table), LimitReached) ∷
@@ -77,11 +77,11 @@ faults_at there tables n put =
     (not (is_some there) && nat_le most_tables tables, LimitReached) ∷
     (nat_le most_commits n, LimitReached) ∷ []
 
--- why a put is refused at a database
+-- why a put is refused at a database, where n versions stand above the floor
 abbrev pub put_faults : Database → ℕ → Put → List (Bool × Fault)
 put_faults database n put = faults_at (table_at database put.table) (length database) n put
 
--- the database after a put, or the first fault
+-- the database after a put, or the first fault, where n versions stand above the floor
 abbrev pub after : Database → ℕ → Put → Result Database Fault
 after database n put =
     unless (first_fault (put_faults database n put))
@@ -92,28 +92,32 @@ abbrev pub accepted : Database → Result Database Fault → Database
 accepted old (Ok new) = new
 accepted old (Err fault) = old
 
--- the database after these puts, where n were accepted before them
-abbrev pub after_all : Database → ℕ → List Put → Database
-after_all database n [] = database
-after_all database n (put ∷ puts) =
-    after_all (accepted database (after database n put)) (n + 1) puts
+-- the database with a put, which no number of versions refuses
+abbrev pub with_put : Database → Put → Database
+with_put database put = accepted database (after database 0 put)
 
--- the database after puts, of which those that are refused are passed over
+-- the database with these puts
+abbrev pub with_all : Database → List Put → Database
+with_all database [] = database
+with_all database (put ∷ puts) = with_all (with_put database put) puts
+
+-- the database after puts, of which those that the tables refuse are passed over
 abbrev pub database_after : List Put → Database
-database_after puts = after_all [] 0 puts
+database_after puts = with_all [] puts
 
 -- version n is the database after the first n puts
 abbrev pub version_after : List Put → ℕ → Database
 version_after puts n = database_after (take n puts)
 
--- all of these puts are accepted: put n by version n, and it gives version n + 1
+-- the tables refuse none of these puts: put n gives version n + 1 at version n
 abbrev pub AreAccepted : List Put → Type 0
 AreAccepted puts = (n : ℕ) (put : Put) → slice_get puts n ≡ Some put →
-    after (version_after puts n) n put ≡ Ok (version_after puts (n + 1))
+    after (version_after puts n) 0 put ≡ Ok (version_after puts (n + 1))
 
--- the puts after one more: an accepted one stands at their end, and a refused one changes nothing
-abbrev pub logged : List Put → Put → List Put
-logged puts put = going (after (database_after puts) (length puts) put)
+-- the puts after one more, where n versions stand above the floor: an accepted one stands at their
+-- end, and a refused one changes nothing
+abbrev pub logged : ℕ → List Put → Put → List Put
+logged n puts put = going (after (database_after puts) n put)
   where
     going : Result Database Fault → List Put
     going (Ok database) = puts ++ put ∷ []

@@ -19,24 +19,24 @@ TablesAreFound =
     ≡ (if bytes_eq name other then Some table else table_at database other)
 
 -- after puts, an accepted one is logged, gives the database after them all, and changes no earlier
--- version
+-- version, however many versions stand above the floor
 abbrev pub LogsGrow : Type 0
 LogsGrow =
-    (puts : List Put) (put : Put) (database : Database) →
-    after (database_after puts) (length puts) put ≡ Ok database →
-    (logged puts put ≡ puts ++ put ∷ []) × (database_after (logged puts put) ≡ database)
-    × ((n : ℕ) → n ≤ length puts → version_after (logged puts put) n ≡ version_after puts n)
+    (n : ℕ) (puts : List Put) (put : Put) (database : Database) →
+    after (database_after puts) n put ≡ Ok database →
+    (logged n puts put ≡ puts ++ put ∷ []) × (database_after (logged n puts put) ≡ database)
+    × ((k : ℕ) → k ≤ length puts → version_after (logged n puts put) k ≡ version_after puts k)
 
 -- a refused put is not logged
 abbrev pub LogsStay : Type 0
 LogsStay =
-    (puts : List Put) (put : Put) (fault : Fault) →
-    after (database_after puts) (length puts) put ≡ Err fault → logged puts put ≡ puts
+    (n : ℕ) (puts : List Put) (put : Put) (fault : Fault) →
+    after (database_after puts) n put ≡ Err fault → logged n puts put ≡ puts
 
 -- no puts at all are accepted ones, and so are those that are logged after accepted ones
 abbrev pub LogsHoldAcceptedPuts : Type 0
 LogsHoldAcceptedPuts = AreAccepted []
-    × ((puts : List Put) (put : Put) → AreAccepted puts → AreAccepted (logged puts put))
+    × ((n : ℕ) (puts : List Put) (put : Put) → AreAccepted puts → AreAccepted (logged n puts put))
 
 -- the names of every version are in byte order, and each stands once
 abbrev pub NamesAreInOrder : Type 0

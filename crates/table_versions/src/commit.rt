@@ -22,7 +22,6 @@ use crate::fields::{has_repeat, same_fields};
 use crate::growing_table::GrowingTable;
 use crate::limits::{MAX_COMMITS, MAX_ROWS, MAX_TABLES};
 use crate::put::Put;
-use crate::snapshot::Snapshot;
 use crate::table::TableVersion;
 use arrays::laws::values_are_of_their_type;
 use arrow_types::{MAX_NAME_BYTES, Schema};
@@ -77,10 +76,11 @@ fn overflows(old: Option<&TableVersion>, put: &Put) -> bool
     }
 }
 
-// Why a put is refused, if it is, where this is the table of its name and there are so many tables.
-fn refusal_at(old: Option<&TableVersion>, tables: usize, number: u64, put: &Put) -> Option<Fault>
+// Why a put is refused, if it is, where this is the table of its name, there are so many tables, and
+// so many versions above the floor.
+fn refusal_at(old: Option<&TableVersion>, tables: usize, above: u64, put: &Put) -> Option<Fault>
     ensures first { result
-        ≡ first_fault (faults_at (plain (option_copied old.entry)) tables number (put_of put.now)) }
+        ≡ first_fault (faults_at (plain (option_copied old.entry)) tables above (put_of put.now)) }
     ensures stand { result ≡ None → All Stands put.now.batches }
 {
     if is_bad_name(&put.table) {
@@ -101,7 +101,7 @@ fn refusal_at(old: Option<&TableVersion>, tables: usize, number: u64, put: &Put)
     if has_long_row(put.batches.as_slice()) || overflows(old, put) {
         return Some(Fault::LimitReached);
     }
-    if old.is_none() && tables >= MAX_TABLES || number >= MAX_COMMITS {
+    if old.is_none() && tables >= MAX_TABLES || above >= MAX_COMMITS {
         return Some(Fault::LimitReached);
     }
     None
@@ -172,26 +172,29 @@ fn made(
     Ok((name, table))
 }
 
-fn next_catalog(alloc: Global, snapshot: &Snapshot, put: Put) -> Result<CatalogVersion, Fault>
-    ensures exact { GivesUnlessMemory (λ catalog. catalog) result
-        (catalog_after snapshot.now.catalog snapshot.now.number put) }
-    ensures refused { RefusesFirst result
-        (catalog_after snapshot.now.catalog snapshot.now.number put) }
+fn next_catalog(
+    alloc: Global,
+    catalog: &CatalogVersion,
+    above: u64,
+    put: Put,
+) -> Result<CatalogVersion, Fault>
+    ensures exact { GivesUnlessMemory (λ new. new) result (catalog_after catalog.now above put) }
+    ensures refused { RefusesFirst result (catalog_after catalog.now above put) }
     ensures typed { IfOk result (λ _. IsPut (put_of put)) }
 {
     values_are_of_their_type();
-    let catalog = snapshot.catalog();
     let old = catalog.get(&put.table);
-    if let Some(fault) = refusal_at(old, catalog.len(), snapshot.number(), &put) {
+    if let Some(fault) = refusal_at(old, catalog.len(), above, &put) {
         return Err(fault);
     }
     let (name, table) = made(alloc, old, put)?;
     Ok(catalog.with(alloc, name, table)?)
 }
 
-/// The catalog after a put, where the snapshot's number counts the puts that were accepted before:
-/// a table that is absent is made of the put's schema and batches, an append goes on with them
-/// after the old batches, and a replace has them alone. The snapshot stays as it is.
+/// The catalog after a put, where it is the tables of the newest version, and so many versions
+/// stand above the floor: a table that is absent is made of the put's schema and batches, an append
+/// goes on with them after the old batches, and a replace has them alone. The old catalog stays as
+/// it is.
 ///
 /// Old tables and batches are shared: a put copies a handle for each table, and an append at most
 /// 255 handles of batches and one for each 256 batches before those. Values are looked at for nulls
@@ -211,19 +214,22 @@ fn next_catalog(alloc: Global, snapshot: &Snapshot, put: Put) -> Result<CatalogV
 ///   dictionary's id and index type are not compared.
 /// - F8 (`Fault::BadBatch`) where a cell is null in a column that takes no null.
 /// - F12 (`Fault::LimitReached`) where a text of a row has more than 65,536 bytes, where the table
-///   would have more than 16,777,216 rows, for a 257th table, and for a put after 65,536 accepted
-///   ones.
+///   would have more than 16,777,216 rows, for a 257th table, and where 65,536 versions stand above
+///   the floor.
 ///
 /// F21 (`Fault::OutOfMemory`) is answered where memory is refused, and not for a put that is
 /// refused: to check it takes no memory.
-pub fn apply(alloc: Global, snapshot: &Snapshot, put: Put) -> Result<CatalogVersion, Fault>
-    ensures batches { GivesUnlessMemory (λ catalog. catalog) result
-        (catalog_after snapshot.now.catalog snapshot.now.number put) }
+pub fn apply(
+    alloc: Global,
+    catalog: &CatalogVersion,
+    above: u64,
+    put: Put,
+) -> Result<CatalogVersion, Fault>
+    ensures batches { GivesUnlessMemory (λ new. new) result (catalog_after catalog.now above put) }
     ensures rows { GivesUnlessMemory tables_of result
-        (after (tables_of snapshot.now.catalog) snapshot.now.number (put_of put)) }
-    ensures refused { RefusesFirst result
-        (after (tables_of snapshot.now.catalog) snapshot.now.number (put_of put)) }
+        (after (tables_of catalog.now) above (put_of put)) }
+    ensures refused { RefusesFirst result (after (tables_of catalog.now) above (put_of put)) }
     ensures typed { IfOk result (λ _. IsPut (put_of put)) }
 {
-    next_catalog(alloc, snapshot, put)
+    next_catalog(alloc, catalog, above, put)
 }

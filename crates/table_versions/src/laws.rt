@@ -13,15 +13,15 @@ pub fn tables_are_found()
     ensures { TablesAreFound }
 {}
 
-/// An accepted put is logged, gives the log's database, and changes no earlier version. A refused
-/// put is not logged.
+/// An accepted put is logged, gives the log's database, and changes no earlier version, however many
+/// versions stand above the floor. A refused put is not logged.
 pub fn logs_grow()
     ensures accepted { LogsGrow }
     ensures refused { LogsStay }
 {}
 
-/// What is logged is a log: each of its puts was accepted by the version before it, and gives the
-/// version after it.
+/// What is logged is a log: the version before each of its puts accepts it, and it gives the version
+/// after it.
 pub fn logs_hold_accepted_puts()
     ensures { LogsHoldAcceptedPuts }
 {}

@@ -9,5 +9,5 @@ pub const MAX_ROWS: usize = 16_777_216;
 /// The most tables of a version.
 pub const MAX_TABLES: usize = 256;
 
-/// The most puts that are accepted.
+/// The most versions above the floor.
 pub const MAX_COMMITS: u64 = 65_536;

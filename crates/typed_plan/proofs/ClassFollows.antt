@@ -1,6 +1,8 @@
 -- A predicate without a fault has none where other operands stand for what it names, if these have the classes that are kept.
 use Rattle.std.proofs.Common.{◌≡◌, Bool, true, false, List, [], ◌∷◌, map, None, Result, Ok, Err, refl, sym, ap, ◌∙◌}
 use denote.Enum.Bare.{same_true, true_same}
+use Rattle.arrow_types.specs.declared.data_type.NumberType.{NumberType}
+use Rattle.arrow_types.specs.declared.data_type.NumberType.TheVariants as number
 use Rattle.scan_base.specs.declared.fault.Fault.{Fault}
 use Rattle.scan_base.specs.declared.fault.Fault.TheVariants.{TypeClash}
 use Rattle.scan_base.specs.declared.predicate.Operand.{Operand}
@@ -10,7 +12,8 @@ use Rattle.scan_base.specs.Predicate.{Pred, conjunction, disjunction, negation, 
 use Rattle.scan_base.specs.Predicate.{membership, null_test, constant}
 use Rattle.typed_plan.specs.contracts.class.Class.{the_type}
 use Rattle.typed_plan.specs.declared.class.Class.{Class}
-use Rattle.typed_plan.specs.Class.{same_class, value_class}
+use Rattle.typed_plan.specs.declared.class.Class.TheVariants.{Number}
+use Rattle.typed_plan.specs.Class.{same_class, number_class, bound_class, value_class}
 use Rattle.typed_plan.specs.Faults.{◌then◌, must, fault_in, operand_class, compare_fault, items_fault, predicate_fault}
 use Rattle.typed_plan.specs.NumberedPredicates.{operand_bind, predicate_bind, predicate_map}
 use Rattle.typed_plan.proofs.TypedNames.{then_none}
@@ -18,6 +21,12 @@ use Rattle.typed_plan.proofs.TypedNames.{then_none}
 -- of a class that one says, the other says what is kept of it
 abbrev pub Follows : (Class → Class) → Result Class Fault → Result Class Fault → Type 0
 Follows kept one other = (class : Class) → one ≡ Ok class → other ≡ Ok (kept class)
+
+-- a number of any type is a number where it is bound
+pub number_bound : (kind : NumberType) → bound_class (number_class kind) ≡ Number
+number_bound (number.Integer integer) = refl
+number_bound number.Decimal = refl
+number_bound number.Date = refl
 
 fault_follows : (kept : Class → Class) (a b : Result Class Fault) → Follows kept a b → fault_in a ≡ None → fault_in b ≡ None
 fault_follows kept (Ok class) b same e = ap fault_in (same class refl)

@@ -12,7 +12,9 @@ use Rattle.scan_base.specs.Predicate.{conjunction, disjunction, negation, truth_
 use Rattle.scan_base.specs.Predicate.{null_test, constant, operand_names, names_only}
 use Rattle.typed_plan.specs.declared.class.Class.{Class}
 use Rattle.typed_plan.specs.Faults.{◌then◌, fault_in, operand_class, compare_fault, items_fault, predicate_fault}
-use Rattle.typed_plan.specs.TypedPlans.{class_if_there, class_of_number, TypedPredicatesNameColumns}
+use Rattle.typed_plan.specs.declared.plan.JoinKey.{JoinKey}
+use Rattle.typed_plan.specs.TypedPlans.{class_if_there, class_of_number, key_class_if_there, key_class, key_fault}
+use Rattle.typed_plan.specs.TypedPlans.{TypedPredicatesNameColumns}
 
 pub then_none : (a b : Option Fault) → (a then b) ≡ None → (a ≡ None) × (b ≡ None)
 then_none None b e = (refl, e)
@@ -26,6 +28,22 @@ compare_parts : (a b : Result Class Fault) → compare_fault a b ≡ None → (f
 compare_parts (Ok a) (Ok b) e = (refl, refl)
 compare_parts (Ok a) (Err fault) e = cc
 compare_parts (Err fault) b e = cc
+
+-- a key's cell is there
+cell_there : (types : List DataType) (column : ℕ) → fault_in (key_class types column) ≡ None →
+    is_there types column ≡ true
+cell_there types column e = of_type (slice_get types column) refl e
+  where
+    of_type : (there : Option DataType) → slice_get types column ≡ there → fault_in (key_class_if_there there) ≡ None →
+        is_there types column ≡ true
+    of_type None is f = cc
+    of_type (Some data_type) is f = lt-ltb column (length types) (slice_get_within types column data_type is)
+
+pub key_there : (types : List DataType) (key : JoinKey) → key_fault types key ≡ None →
+    (nat_lt key.left (length types) ≡ true) × (nat_lt key.right (length types) ≡ true)
+key_there types key e =
+    let parts = compare_parts (key_class types key.left) (key_class types key.right) e in
+    (cell_there types key.left parts.0, cell_there types key.right parts.1)
 
 operand_there : (types : List DataType) (o : Operand ℕ) → fault_in (operand_class (class_of_number types) o) ≡ None →
     operand_names (is_there types) o ≡ true

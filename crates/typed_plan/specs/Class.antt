@@ -34,17 +34,15 @@ type_class (type.Dictionary encoding) = Text
 abbrev pub literal_class : Literal → Class
 literal_class (literal.Text bytes) = Text
 literal_class (literal.Truth flag) = Truth
-literal_class (literal.Number number) = Number
-literal_class (literal.Date day) = Date
+literal_class (literal.Number kind number) = number_class kind
 
--- the value of a literal: of a date it is the day number
+-- the value of a literal: of a number the number, whatever its type
 abbrev pub literal_value : Literal → Value
 literal_value (literal.Text bytes) = value.Text bytes
 literal_value (literal.Truth flag) = value.Bool flag
-literal_value (literal.Number number) = value.Int number
-literal_value (literal.Date day) = value.Int day
+literal_value (literal.Number kind number) = value.Int number
 
--- the class where literals are values: a number is one, whatever it means
+-- the class of a bound operand: a literal there is a value, so a date is a number
 abbrev pub bound_class : Class → Class
 bound_class Date = Number
 bound_class class = class

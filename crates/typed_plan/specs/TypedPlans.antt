@@ -1,4 +1,5 @@
 -- What a plan that is well typed has: each column is there, and what is compared is of one class.
+-- In a predicate a date is a number, since a literal there is a value. In a key it is none.
 use Rattle.std.specs.Prelude.{◌≡◌, ℕ, Bool, true, false, not, ◌&&◌, IsTrue, List, ◌++◌, length, map}
 use Rattle.std.specs.Prelude.{nat_lt, slice_get, get_or, unwrap_or}
 use Rattle.std.specs.Prelude.{Option, Some, None, Result, Ok, Err}
@@ -49,14 +50,24 @@ tree_types (scan table schema columns) = types_taken columns (types_of schema.fi
 tree_types (filtered predicate tree) = tree_types tree
 tree_types (joined left right on) = tree_types left ++ tree_types right
 
--- the class of a type's values where literals are bound, or that there is no such column
+-- the class of a type's values in a predicate, where a date is a number, or that there is no such
+-- column
 abbrev pub class_if_there : Option DataType → Result Class Fault
 class_if_there (Some data_type) = Ok (bound_class (type_class data_type))
 class_if_there None = Err UnknownName
 
--- the class of the column of a number
+-- the class of a type's values in a key, where a date is no number, or that there is no such column
+abbrev pub key_class_if_there : Option DataType → Result Class Fault
+key_class_if_there (Some data_type) = Ok (type_class data_type)
+key_class_if_there None = Err UnknownName
+
+-- the class of the column of a number, in a predicate
 abbrev pub class_of_number : List DataType → ℕ → Result Class Fault
 class_of_number types number = class_if_there (slice_get types number)
+
+-- the class of the column of a number, in a key
+abbrev pub key_class : List DataType → ℕ → Result Class Fault
+key_class types number = key_class_if_there (slice_get types number)
 
 -- whether a tree reads one place alone
 abbrev pub is_place : Tree → Bool
@@ -64,17 +75,16 @@ is_place (scan table schema columns) = true
 is_place (filtered predicate tree) = is_place tree
 is_place (joined left right on) = false
 
--- a key's cells are there, and of one class
+-- a key's cells are there, and of one class: a date and a number are not
 abbrev pub key_fault : List DataType → JoinKey → Option Fault
-key_fault types key =
-    compare_fault (class_of_number types key.left) (class_of_number types key.right)
+key_fault types key = compare_fault (key_class types key.left) (key_class types key.right)
 
 -- whether a key has a cell of the first `seam` and one after them
 abbrev pub spans : ℕ → JoinKey → Bool
 spans seam key = nat_lt key.left seam && not (nat_lt key.right seam)
 
--- each column is there, and what a predicate and a key compare is of one class; each further place
--- is joined alone
+-- each column is there; what a key compares is of one class, and so is what a predicate compares,
+-- where a date is a number; each further place is joined alone
 abbrev pub IsTypedTree : Tree → Type 0
 IsTypedTree (scan table schema columns) = IsTrue (has_columns (length schema.fields) columns)
 IsTypedTree (filtered predicate tree) =

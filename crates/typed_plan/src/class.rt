@@ -1,7 +1,7 @@
 //! Which values may be compared.
 
 ghost use Rattle.std.specs.Prelude.{◌≡◌};
-ghost use Rattle.typed_plan.specs.Class.{type_class, literal_class, value_class};
+ghost use Rattle.typed_plan.specs.Class.{number_class, type_class, literal_class, value_class};
 
 use arrow_types::{DataType, NumberType};
 use scan_base::Value;
@@ -26,10 +26,19 @@ impl Class {
         ensures { result ≡ type_class data_type }
     {
         match data_type {
-            DataType::Number(NumberType::Integer(_) | NumberType::Decimal) => Class::Number,
-            DataType::Number(NumberType::Date) => Class::Date,
+            DataType::Number(kind) => Class::of_number(kind),
             DataType::Utf8 | DataType::Dictionary(_) => Class::Text,
             DataType::Bool => Class::Truth,
+        }
+    }
+
+    // The class of the numbers of a type.
+    fn of_number(kind: NumberType) -> Class
+        ensures { result ≡ number_class kind }
+    {
+        match kind {
+            NumberType::Integer(_) | NumberType::Decimal => Class::Number,
+            NumberType::Date => Class::Date,
         }
     }
 
@@ -40,8 +49,7 @@ impl Class {
         match literal {
             Literal::Text(_) => Class::Text,
             Literal::Truth(_) => Class::Truth,
-            Literal::Number(_) => Class::Number,
-            Literal::Date(_) => Class::Date,
+            Literal::Number(kind, _) => Class::of_number(*kind),
         }
     }
 

@@ -5,9 +5,8 @@ use Rattle.scan_base.specs.declared.fault.Fault.TheVariants.{LimitReached}
 use Rattle.scan_base.specs.Limits.{most_commits}
 use Rattle.scan_base.specs.Reading.{first_fault, RefusesFirst}
 use Rattle.table_versions.specs.Database.{Database, Put, table_at, with_table, table_after, put_faults}
-use Rattle.version_log.specs.Log.{Log, puts_in, database_of}
+use Rattle.version_log.specs.Log.{Log, above_floor, database_of, after_log}
 use Rattle.table_versions.proofs.Accepted.{among, unrefused}
-use Rattle.version_cell.specs.Puts.{after_log}
 
 -- what comes first for one kind of value comes first for another
 pub first_for : (X Y : Type 0) {Z : Type 0} (fault : Fault) (read : Result Z Fault) → RefusesFirst {X = X} (Err fault) read → RefusesFirst {X = Y} (Err fault) read
@@ -24,11 +23,11 @@ pub accepted_is : {Z : Type 0} (read : Result Z Fault) → IsOk read → (z : Z)
 accepted_is (Ok z) accepts = (z, refl)
 accepted_is (Err cause) accepts = let no : false ≡ true = accepts in cc
 
--- an accepted put comes after fewer than there may be
-pub few_before : (log : Log) (put : Put) (new : Database) → after_log log put ≡ Ok new → puts_in log < most_commits
+-- an accepted put meets fewer versions above the floor than there may be
+pub few_before : (log : Log) (put : Put) (new : Database) → after_log log put ≡ Ok new → above_floor log < most_commits
 few_before log put new accepts =
     let old = database_of log in
-    let faults = put_faults old (puts_in log) put in
+    let faults = put_faults old (above_floor log) put in
     let none = unrefused (first_fault faults) (with_table put.table (table_after put.if_exists (table_at old put.table) put) old) new accepts in
-    let few : nat_le most_commits (puts_in log) ≡ false = among (take 8 faults) (nat_le most_commits (puts_in log)) LimitReached (drop 9 faults) none in
+    let few : nat_le most_commits (above_floor log) ≡ false = among (take 8 faults) (nat_le most_commits (above_floor log)) LimitReached (drop 9 faults) none in
     search (rules, few)

@@ -4,10 +4,10 @@ use Rattle.scan_base.specs.declared.fault.Fault.{Fault}
 use Rattle.scan_base.specs.Reading.{RefusesFirst}
 use Rattle.table_versions.specs.Database.{Put}
 use Rattle.version_log.specs.Expiry.{IsExpired}
-use Rattle.version_log.specs.Log.{Entry, Log, added, expired, Begins}
+use Rattle.version_log.specs.Log.{Entry, Log, added, expired, after_log, Begins}
 use Rattle.version_cell.specs.Expiries.{ExpiresBehind}
 use Rattle.version_cell.specs.PlacedEntries.{Placed}
-use Rattle.version_cell.specs.Puts.{IsAnswered, PutsBehind, after_log}
+use Rattle.version_cell.specs.Puts.{IsAnswered, PutsBehind}
 use Rattle.version_cell.specs.Seats.{Seat, MakesNone}
 use Rattle.version_cell.specs.SignedEntries.{SignedEntry, log_of}
 use Rattle.version_cell.proofs.Logs.{log_of-length}

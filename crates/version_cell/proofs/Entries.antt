@@ -1,8 +1,7 @@
 -- Entries one by one, and logs of accepted puts.
-use Rattle.std.proofs.Common.{◌≡◌, ◌+◌, ◌≤◌, false, true, List, [], ◌∷◌, ◌++◌, length, Option, Some, None, IsSome, IfSome, ap, ◌∙◌, arith, length-append}
-use Rattle.version_log.specs.Log.{Entry, Log, added, expired, puts_of, puts_in, IsLog}
-use Rattle.version_log.proofs.Logs.{puts_of-append, is_log-added, is_log-expired}
-use Rattle.version_cell.specs.Puts.{after_log}
+use Rattle.std.proofs.Common.{◌≡◌, ◌+◌, ◌≤◌, false, true, List, [], ◌∷◌, ◌++◌, length, Option, Some, None, IsSome, IfSome, sym, subst, ap, ◌∙◌, arith, length-append}
+use Rattle.version_log.specs.Log.{Entry, Log, added, expired, puts_of, puts_in, after_log, IsLog}
+use Rattle.version_log.proofs.Logs.{puts_of-append, is_log-none, is_log-added, is_log-expired}
 use Rattle.version_cell.specs.Rules.{read_or, Accepts}
 use Rattle.version_cell.specs.SignedEntries.{SignedEntry, log_of}
 use Rattle.version_cell.proofs.Accepting.{accepted_is}
@@ -29,6 +28,10 @@ is_log_behind log (added put) is accepts =
     let new = accepted_is (after_log log put) accepts in
     is_log-added log put new.0 is new.1
 is_log_behind log (expired version) is accepts = is_log-expired log version is
+
+-- no entries are such a log
+pub nothing_is_log : (entries : List SignedEntry) → entries ≡ [] → IsLog (log_of entries)
+nothing_is_log entries none = subst (λ (es : List SignedEntry). IsLog (log_of es)) (sym none) is_log-none
 
 -- what is read of a value that is there, and is such a log
 pub read_is_log : {X : Type 0} (seen_of : X → List SignedEntry) (P : X → Type 0) (found : Option X) → IsSome found → IfSome found (λ x. P x × IsLog (log_of (seen_of x)))

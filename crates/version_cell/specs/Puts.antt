@@ -3,13 +3,9 @@ use Rattle.std.specs.Prelude.{◌≡◌, ◌≢◌, [], ◌∷◌, ◌++◌, len
 use Rattle.scan_base.specs.declared.fault.Fault.{Fault}
 use Rattle.scan_base.specs.declared.fault.Fault.TheVariants.{OutOfMemory}
 use Rattle.scan_base.specs.Reading.{RefusesFirst}
-use Rattle.table_versions.specs.Database.{Put, Database, after}
-use Rattle.version_log.specs.Log.{Log, added, puts_in, database_of, Begins}
+use Rattle.table_versions.specs.Database.{Put}
+use Rattle.version_log.specs.Log.{Log, added, after_log, Begins}
 use Rattle.version_cell.specs.Seats.{Seat, MakesNone}
-
--- the database after a put that meets this log, or the first fault
-abbrev pub after_log : Log → Put → Result Database Fault
-after_log log put = after (database_of log) (puts_in log) put
 
 -- A put that meets a log, with the log after it: an accepted one stands last. A refused one changes
 -- nothing, and its fault is the first one, or memory was refused.

@@ -1,9 +1,8 @@
 -- Inside: the rule of the book, and what its step tells.
 use Rattle.std.specs.Prelude.{ℕ, ◌≡◌, ◌≤◌, ◌==◌, true, List, [], ◌∷◌, ◌++◌, length, IsOk, MatchBool}
 use Rattle.std.specs.Prelude.{Option, Some, None}
-use Rattle.version_log.specs.Log.{Entry, Log, added, expired, puts_in}
+use Rattle.version_log.specs.Log.{Entry, Log, added, expired, puts_in, after_log}
 use Rattle.logbook.specs.Pages.{Cell, Step, View, Book, Named}
-use Rattle.version_cell.specs.Puts.{after_log}
 use Rattle.version_cell.specs.SignedEntries.{SignedEntry}
 
 -- the first word is the length of the log. A book has two words, of which this one leaves the

@@ -5,12 +5,11 @@ ghost use Rattle.std.specs.Prelude.{IsOk, Err};
 ghost use Rattle.std.specs.Arc.{arc_value};
 ghost use Rattle.scan_base.specs.Reading.{RefusesFirst};
 ghost use Rattle.scan_base.specs.declared.fault.Fault.TheVariants.{OutOfMemory};
-ghost use Rattle.scan_base.specs.Limits.{most_commits};
 ghost use Rattle.version_log.specs.Expiry.{RefusesExpiry};
 ghost use Rattle.version_log.specs.Log.{added, expired, puts_in, floor_of, database_of, version};
+ghost use Rattle.version_log.specs.Log.{after_log};
 ghost use Rattle.table_versions.specs.StoredTables.{put_of, tables_of};
 ghost use Rattle.table_versions.specs.Valid.{IsPut};
-ghost use Rattle.version_cell.specs.Puts.{after_log};
 ghost use Rattle.version_cell.specs.SignedEntries.{log_of};
 ghost use Rattle.version_log.specs.Versions.{IsIndexOf};
 
@@ -56,7 +55,6 @@ impl Store {
         ensures number { result.now.number ≡ puts_in (log_of self.now.history.seen.log) }
         ensures tables { tables_of result.now.catalog
             ≡ database_of (log_of self.now.history.seen.log) }
-        ensures few { puts_in (log_of self.now.history.seen.log) ≤ most_commits }
         ensures kept { floor_of (log_of self.now.history.seen.log)
             ≤ puts_in (log_of self.now.history.seen.log) }
     {
@@ -94,13 +92,14 @@ impl Store {
         ensures first { RefusesFirst result
             (after_log (log_of self.now.history.seen.log) (put_of put)) }
     {
-        let catalog = apply(alloc, self.newest(), put)?;
-        let longer = self.index.with(alloc, catalog)?;
-        let index = Arc::new(alloc, longer)?;
+        let newest = self.newest();
+        let above = newest.number() - self.floor();
+        let catalog = apply(alloc, newest.catalog(), above, put)?;
         if self.history.is_full() {
             return Err(Fault::OutOfMemory);
         }
-        Ok(index)
+        let longer = self.index.with(alloc, catalog)?;
+        Ok(Arc::new(alloc, longer)?)
     }
 
     // The versions after an expiry of those below a number, after a handle.

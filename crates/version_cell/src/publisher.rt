@@ -6,10 +6,10 @@ ghost use Rattle.std.specs.Arc.{arc_value};
 ghost use Rattle.scan_base.specs.Reading.{RefusesFirst};
 ghost use Rattle.scan_base.specs.declared.fault.Fault.TheVariants.{OutOfMemory};
 ghost use Rattle.version_log.specs.Expiry.{IsExpired};
-ghost use Rattle.version_log.specs.Log.{added, expired, puts_in, IsLog};
+ghost use Rattle.version_log.specs.Log.{added, expired, puts_in, after_log, IsLog};
 ghost use Rattle.table_versions.specs.StoredTables.{put_of};
 ghost use Rattle.table_versions.specs.Valid.{IsPut};
-ghost use Rattle.version_cell.specs.Puts.{after_log, IsAnswered};
+ghost use Rattle.version_cell.specs.Puts.{IsAnswered};
 ghost use Rattle.version_cell.specs.Rules.{head_of, Accepts};
 ghost use Rattle.version_cell.specs.SignedEntries.{log_of, signed};
 ghost use Rattle.version_log.specs.Versions.{IsIndexOf};
@@ -130,6 +130,11 @@ impl<C: CellName, R: Wait + Drop> Publisher<C, R> {
             thread::yield_now();
         }
         unreachable!()
+    }
+
+    // One handle more of the versions that are shown, unless it is refused.
+    pub(crate) fn versions(&self) -> Option<Arc<VersionIndex>> {
+        Arc::try_clone(&self.store().index).ok()
     }
 
     // The log so far. It takes no memory.

@@ -3,11 +3,11 @@
 ghost use Rattle.std.specs.Prelude.{◌≡◌, [], IfOk};
 ghost use Rattle.scan_base.specs.Reading.{RefusesFirst};
 ghost use Rattle.version_log.specs.Expiry.{IsExpired};
-ghost use Rattle.version_log.specs.Log.{puts_in, IsLog};
+ghost use Rattle.version_log.specs.Log.{puts_in, after_log, IsLog};
 ghost use Rattle.table_versions.specs.StoredTables.{put_of};
 ghost use Rattle.table_versions.specs.Valid.{IsPut};
 ghost use Rattle.version_cell.specs.Counts.{Counted};
-ghost use Rattle.version_cell.specs.Puts.{after_log, IsAnswered};
+ghost use Rattle.version_cell.specs.Puts.{IsAnswered};
 ghost use Rattle.version_cell.specs.SignedEntries.{log_of};
 
 use crate::book::CellName;

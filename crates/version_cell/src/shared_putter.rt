@@ -25,10 +25,10 @@ use crate::tally::Tally;
 use crate::told_log::Told;
 use scan_base::Fault;
 use std::alloc::Global;
-use std::sync::{Mutex, Wait};
+use std::sync::{Arc, Mutex, Wait};
 use std::thread;
 use table_versions::Put;
-use version_log::Entry;
+use version_log::{Entry, VersionIndex};
 
 // Who publishes, how many entries were made through all seats, and how many through each, by the
 // numbers of the seats. Whenever the lock is free the log has so many: each entry of it was made
@@ -150,6 +150,11 @@ impl<C: CellName, R: Wait + Drop> CountedPublisher<C, R> {
         Ok(floor)
     }
 
+    // The versions that are shown. As long as they are held, no expiry drops them.
+    fn versions(&self) -> Option<Arc<VersionIndex>> {
+        self.publisher.versions()
+    }
+
     // No seat yet, with the log so far.
     fn gather(&mut self) -> GatheredSeats<C>
         ensures none { (result.seats ≡ 0) × (result.made ≡ 0) }
@@ -264,8 +269,8 @@ impl<C: CellName, R: Wait + Drop> SharedPutter<C, R> {
     }
 
     /// Marks the versions below a number as expired, lets the seat see the log after the mark, also
-    /// of a refused expiry, and gives the floor. The lock is held as `put` holds it. It is no
-    /// enter.
+    /// of a refused expiry, and gives the floor. The lock is held as `put` holds it, and what was
+    /// expired is dropped once it is free. It is no enter.
     ///
     /// # Errors
     ///
@@ -287,7 +292,11 @@ impl<C: CellName, R: Wait + Drop> SharedPutter<C, R> {
         for _ in rt.forever() {
             let mut counting = self.counting.lock(rt);
             if counting.accounts_for(seat) {
-                return counting.expire(alloc, seat, version);
+                let before = counting.versions();
+                let floor = counting.expire(alloc, seat, version);
+                drop(counting);
+                drop(before);
+                return floor;
             }
             drop(counting);
             thread::yield_now();

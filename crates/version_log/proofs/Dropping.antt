@@ -26,18 +26,18 @@ newest_kept floor next versions newest le lt is =
       last = last;
       kept = kept;
       tables = slice_get-drop (next - floor) (newest.number - next) versions ∙ ap (slice_get versions) place ∙ is.tables;
-      few = is.few;
+      few = omega (arith, is.few, length-drop (next - floor) versions);
     }
 
 -- a version that comes after is the newest
-pub newest_added : (floor : ℕ) (versions : List CatalogAt) (newest next : VersionAt) → floor + length versions ≤ most_commits
+pub newest_added : (floor : ℕ) (versions : List CatalogAt) (newest next : VersionAt) → length versions ≤ most_commits
     → next.number ≡ newest.number + 1 → IsNewest (index_at floor versions) newest → IsNewest (index_at floor (versions ++ next.catalog ∷ [])) next
 newest_added floor versions newest next room number is =
     let was : newest.number + 1 ≡ floor + length versions = is.last in
     let low : floor ≤ newest.number = is.kept in
     let last : next.number + 1 ≡ floor + length (versions ++ next.catalog ∷ []) = omega (arith, was, number, length-append versions (next.catalog ∷ [])) in
     let kept : floor ≤ next.number = omega (arith, low, number) in
-    let few : next.number ≤ most_commits = omega (arith, was, number, room) in
+    let few : length (versions ++ next.catalog ∷ []) ≤ most_commits + 1 = omega (arith, room, length-append versions (next.catalog ∷ [])) in
     let place : next.number - floor ≡ length versions + 0 = omega (arith, was, low, number) in record {
       last = last;
       kept = kept;

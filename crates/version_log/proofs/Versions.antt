@@ -6,42 +6,42 @@ use Rattle.std.proofs.lemmas.Grind.{common_steps}
 use Rattle.std.proofs.lemmas.List.{map-append, length-map, length-drop, drop-drop, drop-map, drop-append-le}
 use Rattle.std.proofs.lemmas.Option.{slice_get-map}
 use Rattle.scan_base.specs.Limits.{most_commits}
-use Rattle.table_versions.specs.Database.{Database, Put, after, accepted, after_all}
+use Rattle.table_versions.specs.Database.{Database, Put, with_put, with_all}
 use Rattle.table_versions.specs.Database as puts
-use Rattle.version_log.specs.Log.{Log, added, expired, puts_of, puts_in, floor_of, database_of, version}
+use Rattle.version_log.specs.Log.{Log, added, expired, puts_of, puts_in, floor_of, above_floor, database_of, after_log, version}
 use Rattle.table_versions.specs.StoredTables.{CatalogAt, VersionAt, tables_of}
-use Rattle.table_versions.proofs.Databases.{logs_grow}
+use Rattle.table_versions.proofs.Databases.{database_of-more}
 use Rattle.version_log.proofs.Logs.{puts_of-added, puts_of-expired, floor_of-added, floor_of-expired}
 use Rattle.version_log.specs.Index.{IndexAt, index_at}
 use Rattle.version_log.specs.Versions.{versions_from, versions_of, IsIndexOf}
 use Rattle.version_log.proofs.Dropping.{slice_get-drop}
 
-length-from : (old : Database) (n : ℕ) (log : List Put) → length (versions_from old n log) ≡ suc (length log)
-length-from old n [] = refl
-length-from old n (put ∷ puts) = ap suc (length-from (accepted old (after old n put)) (n + 1) puts)
+length-from : (old : Database) (log : List Put) → length (versions_from old log) ≡ suc (length log)
+length-from old [] = refl
+length-from old (put ∷ puts) = ap suc (length-from (with_put old put) puts)
 
-from-at : (old : Database) (n : ℕ) (log : List Put) (k : ℕ) → k ≤ length log → slice_get (versions_from old n log) k ≡ Some (after_all old n (take k log))
-from-at old n [] zero le = refl
-from-at old n [] (suc k) le = absurd (omega (arith, le))
-from-at old n (put ∷ puts) zero le = refl
-from-at old n (put ∷ puts) (suc k) le = from-at (accepted old (after old n put)) (n + 1) puts k (omega (arith, le))
+from-at : (old : Database) (log : List Put) (k : ℕ) → k ≤ length log → slice_get (versions_from old log) k ≡ Some (with_all old (take k log))
+from-at old [] zero le = refl
+from-at old [] (suc k) le = absurd (omega (arith, le))
+from-at old (put ∷ puts) zero le = refl
+from-at old (put ∷ puts) (suc k) le = from-at (with_put old put) puts k (omega (arith, le))
 
-from-more : (old : Database) (n : ℕ) (log : List Put) (put : Put) →
-    versions_from old n (log ++ put ∷ []) ≡ versions_from old n log ++ after_all old n (log ++ put ∷ []) ∷ []
-from-more old n [] put = refl
-from-more old n (p ∷ ps) put = ap (λ l. old ∷ l) (from-more (accepted old (after old n p)) (n + 1) ps put)
+from-more : (old : Database) (log : List Put) (put : Put) →
+    versions_from old (log ++ put ∷ []) ≡ versions_from old log ++ with_all old (log ++ put ∷ []) ∷ []
+from-more old [] put = refl
+from-more old (p ∷ ps) put = ap (λ l. old ∷ l) (from-more (with_put old p) ps put)
 
 pub length-versions : (log : List Put) → length (versions_of log) ≡ suc (length log)
 unfolding versions_of
-length-versions log = length-from [] 0 log
+length-versions log = length-from [] log
 
 pub versions-at : (log : List Put) (k : ℕ) → k ≤ length log → slice_get (versions_of log) k ≡ Some (puts.version_after log k)
 unfolding versions_of
-versions-at log k le = from-at [] 0 log k le
+versions-at log k le = from-at [] log k le
 
 pub versions-more : (log : List Put) (put : Put) → versions_of (log ++ put ∷ []) ≡ versions_of log ++ puts.database_after (log ++ put ∷ []) ∷ []
 unfolding versions_of
-versions-more log put = from-more [] 0 log put
+versions-more log put = from-more [] log put
 
 same_some : {X : Type 0} {a b : X} → Some a ≡ Some b → a ≡ b
 same_some e = cc
@@ -88,19 +88,23 @@ module _ (index : IndexAt) (log : Log) (kept : IsIndexOf index log) where
       let floor = kept.floor in
       let many = count_of in (omega (arith, there, floor), omega (arith, there, within, floor, many))
 
-  pub has_room : floor_of log ≤ puts_in log → puts_in log < most_commits → index.floor + length index.versions ≤ most_commits
+  pub has_room : floor_of log ≤ puts_in log → above_floor log < most_commits → length index.versions ≤ most_commits
   has_room there few =
+      let many = count_of in omega (arith, there, few, many)
+
+  -- and it has the next number
+  pub next_number : floor_of log ≤ puts_in log → index.floor + length index.versions ≡ puts_in log + 1
+  next_number there =
       let floor = kept.floor in
-      let many = count_of in omega (arith, there, few, floor, many)
+      let many = count_of in omega (arith, there, floor, many)
 
   -- one more
-  pub kept_more : (put : Put) (catalog : CatalogAt) → floor_of log ≤ puts_in log → after (database_of log) (puts_in log) put ≡ Ok (tables_of catalog)
+  pub kept_more : (put : Put) (catalog : CatalogAt) → floor_of log ≤ puts_in log → after_log log put ≡ Ok (tables_of catalog)
       → IsIndexOf (index_at index.floor (index.versions ++ catalog ∷ [])) (log ++ added put ∷ [])
   kept_more put catalog there accepts =
       let old = puts_of log in
       let floor = floor_of log in
-      let grown = logs_grow old put (tables_of catalog) accepts in
-      let new : puts.database_after (old ++ put ∷ []) ≡ tables_of catalog = ap puts.database_after (sym grown.0) ∙ grown.1 in
+      let new : puts.database_after (old ++ put ∷ []) ≡ tables_of catalog = database_of-more (above_floor log) old put (tables_of catalog) accepts in
       let within : floor ≤ length (versions_of old) = omega (arith, there, length-versions old) in
       let tables : map tables_of (index.versions ++ catalog ∷ []) ≡ drop floor (versions_of (old ++ put ∷ [])) =
       map-append tables_of index.versions (catalog ∷ []) ∙ ap (λ l. l ++ tables_of catalog ∷ []) kept.tables ∙ ap (λ d. drop floor (versions_of old) ++ d ∷ []) (sym new)

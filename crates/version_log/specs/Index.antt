@@ -16,4 +16,4 @@ pub record IsNewest (index : IndexAt) (newest : VersionAt) : Type 0 where
   pub last : newest.number + 1 ≡ index.floor + length index.versions
   pub kept : index.floor ≤ newest.number
   pub tables : slice_get index.versions (newest.number - index.floor) ≡ Some newest.catalog
-  pub few : newest.number ≤ most_commits
+  pub few : length index.versions ≤ most_commits + 1

@@ -1,5 +1,6 @@
 -- The log: what was accepted, in order: puts, and expiries, each of which is a mark.
-use Rattle.std.specs.Prelude.{◌≡◌, ℕ, max, List, [], ◌∷◌, ◌++◌, length}
+use Rattle.std.specs.Prelude.{◌≡◌, ℕ, ◌-◌, max, List, [], ◌∷◌, ◌++◌, length, Result, Ok}
+use Rattle.scan_base.specs.declared.fault.Fault.{Fault}
 use Rattle.table_versions.specs.Database.{Database, Put}
 use Rattle.table_versions.specs.Database as puts
 
@@ -36,9 +37,18 @@ database_of log = puts.database_after (puts_of log)
 abbrev pub version : Log → ℕ → Database
 version log n = puts.version_after (puts_of log) n
 
--- each put of a log was accepted by the version before it
+-- how many versions stand above the floor
+abbrev pub above_floor : Log → ℕ
+above_floor log = puts_in log - floor_of log
+
+-- the database after a put that meets a log, or the first fault
+abbrev pub after_log : Log → Put → Result Database Fault
+after_log log put = puts.after (database_of log) (above_floor log) put
+
+-- each put of a log was accepted by the log before it
 abbrev pub IsLog : Log → Type 0
-IsLog log = puts.AreAccepted (puts_of log)
+IsLog log = (before rest : Log) (put : Put) → log ≡ before ++ added put ∷ rest →
+    after_log before put ≡ Ok (database_of (before ++ added put ∷ []))
 
 -- a log goes on from another
 abbrev pub Begins : Log → Log → Type 0

@@ -1,18 +1,17 @@
 -- Inside: the versions of a log, and those that an index has.
-use Rattle.std.specs.Prelude.{◌≡◌, ℕ, ◌+◌, List, [], ◌∷◌, drop, map}
-use Rattle.table_versions.specs.Database.{Database, Put, after, accepted}
+use Rattle.std.specs.Prelude.{◌≡◌, List, [], ◌∷◌, drop, map}
+use Rattle.table_versions.specs.Database.{Database, Put, with_put}
 use Rattle.version_log.specs.Log.{Log, puts_of, floor_of}
 use Rattle.table_versions.specs.StoredTables.{tables_of}
 use Rattle.version_log.specs.Index.{IndexAt}
 
--- this database, and those after each of these puts, where n were accepted before them
-abbrev pub versions_from : Database → ℕ → List Put → List Database
-versions_from database n [] = database ∷ []
-versions_from database n (put ∷ puts) =
-    database ∷ versions_from (accepted database (after database n put)) (n + 1) puts
+-- this database, and those after each of these puts
+abbrev pub versions_from : Database → List Put → List Database
+versions_from database [] = database ∷ []
+versions_from database (put ∷ puts) = database ∷ versions_from (with_put database put) puts
 
 unfoldable pub versions_of : List Put → List Database
-versions_of puts = versions_from [] 0 puts
+versions_of puts = versions_from [] puts
 
 -- the versions of a log from its floor on
 pub record IsIndexOf (index : IndexAt) (log : Log) : Type 0 where

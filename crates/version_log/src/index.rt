@@ -1,6 +1,6 @@
 //! Versions by number.
 
-ghost use Rattle.std.specs.Prelude.{◌≡◌, ◌<◌, ◌≤◌, ◌+◌, ◌-◌, ◌∷◌, ◌++◌, [], Some, length, drop};
+ghost use Rattle.std.specs.Prelude.{◌≡◌, ◌<◌, ◌≤◌, ◌+◌, ◌-◌, ◌^◌, ◌∷◌, ◌++◌, [], Some, length, drop};
 ghost use Rattle.std.specs.Prelude.{map, IfOk, slice_get};
 ghost use Rattle.std.specs.Arc.{arc_value};
 ghost use Rattle.scan_base.specs.Limits.{most_commits};
@@ -14,9 +14,9 @@ use std::marker::Model;
 use std::sync::Arc;
 use table_versions::{CatalogVersion, Snapshot};
 
-/// All versions so far, but for those that were dropped: at most 65,537, numbered from 0. Those
-/// from some number on stand in pages of 256, and the few before them in a list of their own. A
-/// longer index shares that list, the full pages and all versions. Contracts see it as the number
+/// All versions so far, but for those that were dropped, numbered from 0: at most 65,537 are there.
+/// Those from some number on stand in pages of 256, and the few before them in a list of their own.
+/// A longer index shares that list, the full pages and all versions. Contracts see it as the number
 /// of the oldest version that is there, and the tables of all versions from it on.
 #[derive(Drop)]
 pub struct VersionIndex {
@@ -74,7 +74,7 @@ impl VersionIndex {
         ensures kept { self.now.floor ≤ result.now.number }
         ensures tables { slice_get self.now.versions (result.now.number - self.now.floor)
             ≡ Some result.now.catalog }
-        ensures few { result.now.number ≤ most_commits }
+        ensures few { length self.now.versions ≤ most_commits + 1 }
     {
         &self.newest
     }
@@ -86,7 +86,8 @@ impl VersionIndex {
     ///
     /// `AllocError` where memory is refused.
     pub fn with(&self, alloc: Global, version: CatalogVersion) -> Result<VersionIndex, AllocError>
-        requires room { self.now.floor + length self.now.versions ≤ most_commits }
+        requires room { length self.now.versions ≤ most_commits }
+        requires number { self.now.floor + length self.now.versions < 2 ^ 64 }
         ensures { IfOk result
             (λ index. index ≡ index_at self.now.floor (self.now.versions ++ version ∷ [])) }
     {

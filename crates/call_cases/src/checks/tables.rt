@@ -91,9 +91,9 @@ fn bare(alloc: Global, seed: HashSeed, number: u64) -> Result<Snapshot, Fault> {
     Ok(Snapshot::new(number, Arc::new(alloc, catalog)?))
 }
 
-// The version after a put.
+// The version after a put, where none is expired.
 fn after(alloc: Global, snapshot: &Snapshot, put: Put) -> Result<Snapshot, Fault> {
-    let catalog = apply(alloc, snapshot, put)?;
+    let catalog = apply(alloc, snapshot.catalog(), snapshot.number(), put)?;
     let number = snapshot.number().saturating_add(1);
     Ok(Snapshot::new(number, Arc::new(alloc, catalog)?))
 }
@@ -137,7 +137,7 @@ fn fault_of(
     rows: usize,
 ) -> Result<Option<Fault>, Fault> {
     let put = put(alloc, first(alloc, b't', is_append)?, zeros(alloc, rows)?)?;
-    Ok(apply(alloc, snapshot, put).err())
+    Ok(apply(alloc, snapshot.catalog(), snapshot.number(), put).err())
 }
 
 // The version of a table of the most rows.
@@ -163,12 +163,15 @@ fn most_rows(alloc: Global, seed: HashSeed) -> Result<()> {
     Ok(())
 }
 
-// The 65,536th put is taken and the one after it is not.
+// Where 65,535 versions stand above the floor, a put is taken, and the one after it is not. It is
+// where a version is expired.
 fn most_commits(alloc: Global, seed: HashSeed) -> Result<()> {
     let before = bare(alloc, seed, 65_535)?;
     let last = after(alloc, &before, two(alloc, b't')?)?;
-    let past = apply(alloc, &last, two(alloc, b't')?);
-    ensure!(past.err() == Some(Fault::LimitReached));
+    for (above, fault) in [(65_536, Some(Fault::LimitReached)), (65_535, None)] {
+        let past = apply(alloc, last.catalog(), above, two(alloc, b't')?);
+        ensure!(past.err() == fault);
+    }
     Ok(())
 }
 

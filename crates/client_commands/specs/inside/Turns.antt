@@ -1,6 +1,7 @@
 -- Inside: runs are written one after the other, while the next one's first stream is begun.
 use Rattle.std.specs.Prelude.{◌≡◌, ◌⊎◌, ◌≤◌, ℕ, ◌+◌, List, [], ◌∷◌, ◌++◌, map, length, Some, None}
 use Rattle.std.specs.Prelude.{Result, Ok, Err}
+use Rattle.scan_base.specs.declared.fault.Fault.{Fault}
 use Rattle.flight_proto.specs.FlightInfo.{EndpointSaid}
 use Rattle.flight_proto.specs.InfoCommand.{InfoCommand}
 use Rattle.flight_info.specs.Payloads.{Payload}
@@ -143,8 +144,10 @@ StreamsOrNot Gives Shares format streams wanted old new (Err (Unconnected error)
     StreamsUnconnected Gives Shares format streams wanted old new first last out out'
 
 -- nothing is said where all was written; and else the failure, or that there was no connection
-abbrev pub TellsStreamed : Result (Unit {0}) FetchFailure → ExitStatus → Said → Said → Type 0
-TellsStreamed (Ok done) status old new = TellsEnd (Ok done) status old new
-TellsStreamed (Err (Failed failure)) status old new = TellsEnd (Err failure) status old new
-TellsStreamed (Err (Unconnected error)) status old new =
+abbrev pub TellsStreamed : (Fault → List ℕ) → Result (Unit {0}) FetchFailure → ExitStatus → Said →
+    Said → Type 0
+TellsStreamed hint (Ok done) status old new = TellsEnd hint (Ok done) status old new
+TellsStreamed hint (Err (Failed failure)) status old new =
+    TellsEnd hint (Err failure) status old new
+TellsStreamed hint (Err (Unconnected error)) status old new =
     (status ≡ FaultAtThisEnd) × ((cause : List ℕ) × Prints (cause_lines cause) old new)

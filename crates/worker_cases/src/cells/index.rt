@@ -15,7 +15,9 @@ fn longer(alloc: Global, index: &VersionIndex) -> Result<VersionIndex, Fault>
     ensures { IfOk result (λ next. (next.floor ≡ index.now.floor)
         × (length next.versions ≡ length index.now.versions + 1)) }
 {
-    let catalog = apply(alloc, index.newest(), one_row(alloc, "t")?)?;
+    let newest = index.newest();
+    let above = newest.number() - index.floor();
+    let catalog = apply(alloc, newest.catalog(), above, one_row(alloc, "t")?)?;
     Ok(index.with(alloc, catalog)?)
 }
 

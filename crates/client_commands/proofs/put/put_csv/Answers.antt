@@ -14,13 +14,13 @@ seen_apart form view status old new said said' (inr given) = inr (record { text 
 pub returns-in-Ok : goal.returns-in-Ok
 returns-in-Ok g c =
     let given = c.in-Ok.ensures.reads in
-    inr (record {
+    inr (inr (record {
       text = c.in-Ok.text;
       middle = said_of g.E.Output c.read_csv.new.faults;
       reads = record { text = given.text; gives = given.gives; reads = given.reads };
       puts = c.put_text.ensures;
-    })
+    }))
 
 pub returns-in-Err : goal.returns-in-Err
 returns-in-Err g c =
-    inl (record { reads = seen_apart _ _ _ _ _ _ _ c.in-Err.ensures.reads; alone = refl; nothing = refl })
+    inr (inl (record { reads = seen_apart _ _ _ _ _ _ _ c.in-Err.ensures.reads; alone = refl; nothing = refl }))

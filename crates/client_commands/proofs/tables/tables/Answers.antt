@@ -10,4 +10,4 @@ seen names = names.items
 
 pub returns : goal.returns
 returns g c =
-    inr (names_told _ seen c.fetch_names-fetched.result c.in-Ok.ensures.0 _ _ _ _ c.in-Ok.ensures.1 (rw c.in-Ok.ensures.2 at c.fetch_names-fetched.ensures) c.tell_names.ensures)
+    inr (names_told _ _ seen c.fetch_names-fetched.result c.in-Ok.ensures.0 _ _ _ _ c.in-Ok.ensures.1 (rw c.in-Ok.ensures.2 at c.fetch_names-fetched.ensures) c.tell_names.ensures)

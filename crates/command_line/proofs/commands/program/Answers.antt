@@ -13,7 +13,8 @@ returns-clause-shape c =
     let three = shape_with_below _ _ _ _ _ two c.put.ensures.shape c.put.ensures.local c.in_ok-putting.ensures in
     let four = shape_with_below _ _ _ _ _ three c.query.ensures.shape c.query.ensures.local c.in_ok-asking.ensures in
     let five = shape_with_below _ _ _ _ _ four c.tables.ensures.shape c.tables.ensures.local c.in_ok-listing.ensures in
-    last_shape_with_below _ _ _ _ _ five c.expire.ensures.shape c.expire.ensures.local c.with_below-6.ensures
+    let six = shape_with_below _ _ _ _ _ five c.describe.ensures.shape c.describe.ensures.local c.in_ok-describing.ensures in
+    last_shape_with_below _ _ _ _ _ six c.expire.ensures.shape c.expire.ensures.local c.with_below-7.ensures
 
 pub returns-clause-local : goal.returns-clause-local
 returns-clause-local c =
@@ -24,4 +25,5 @@ returns-clause-local c =
     let three = local_with_below _ _ _ two c.put.ensures.local c.in_ok-putting.ensures in
     let four = local_with_below _ _ _ three c.query.ensures.local c.in_ok-asking.ensures in
     let five = local_with_below _ _ _ four c.tables.ensures.local c.in_ok-listing.ensures in
-    last_local_with_below _ _ _ five c.expire.ensures.local c.with_below-6.ensures
+    let six = local_with_below _ _ _ five c.describe.ensures.local c.in_ok-describing.ensures in
+    last_local_with_below _ _ _ six c.expire.ensures.local c.with_below-7.ensures

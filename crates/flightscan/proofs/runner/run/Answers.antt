@@ -9,3 +9,6 @@ returns-in-Query-clause-asks g c = rw c.in-Query.is c.run_query.ensures
 
 pub returns-in-Expire-clause-asks : goal.returns-in-Expire-clause-asks
 returns-in-Expire-clause-asks g c = rw c.in-Expire.is (rw c.from-version.ensures at c.expire.ensures, refl)
+
+pub returns-in-Describe-clause-asks : goal.returns-in-Describe-clause-asks
+returns-in-Describe-clause-asks g c = rw c.in-Describe.is (c.describe.ensures, refl)

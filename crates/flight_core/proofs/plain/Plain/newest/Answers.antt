@@ -20,3 +20,9 @@ overflow_sub-result c =
     let kept = c.self.inside.kept.items in
     let long = kept_length c.self.inside.floor (map numbered kept) c.self.inside.log.value.entries c.self.invariant in
     omega (arith, long, length-map kept numbered, c.len.ensures)
+
+pub overflow_add-result : goal.overflow_add-result
+overflow_add-result c =
+    let kept = c.self.inside.kept.items in
+    let long = kept_length c.self.inside.floor (map numbered kept) c.self.inside.log.value.entries c.self.invariant in
+    omega (arith, long, length-map kept numbered, c.len.ensures, c.self.invariant.few)

@@ -1,8 +1,7 @@
 use Rattle.std.proofs.Common.{◌++◌}
 use Rattle.std.proofs.lemmas.Result.{err_from_is_err_and}
 use Rattle.grpc_frame.proofs.Sending.{head_not_sent, second_not_sent, sent_behind}
-use Rattle.row_text.specs.Lines.{escaped}
-use Rattle.row_text.specs.Tables.{before, behind, shape_of, text_width}
+use Rattle.row_text.specs.Tables.{before, behind, cell_text, shape_of, text_width}
 use Rattle.row_text.proofs.table_format.TableFormatRowFormat.send_name.Goals as goal
 
 pub returns-in_err-send_part-clause-bytes : goal.returns-in_err-send_part-clause-bytes
@@ -11,7 +10,7 @@ returns-in_err-send_part-clause-bytes g c =
     let name = c.args.field.now.name in
     let shape = shape_of c.args.self.now.fields.now c.args.self.now.widths.now c.args.number in
     rw p.1
-    (head_not_sent _ _ _ _ (before shape (text_width name)) (escaped name ++ behind shape (text_width name))
+    (head_not_sent _ _ _ _ (before shape (text_width name)) (cell_text name ++ behind shape (text_width name))
     (rw (c.before-2.ensures, c.text_width-taken.ensures, c.as_str-name.ensures, c.shape-shape.ensures) at c.in_err-send_part.ensures.bytes))
 
 pub returns-in_err-send_spelled-clause-bytes : goal.returns-in_err-send_spelled-clause-bytes
@@ -20,15 +19,15 @@ returns-in_err-send_spelled-clause-bytes g c =
     let name = c.args.field.now.name in
     let shape = shape_of c.args.self.now.fields.now c.args.self.now.widths.now c.args.number in
     rw p.1
-    (second_not_sent _ _ _ _ _ _ (before shape (text_width name)) (escaped name ++ behind shape (text_width name))
+    (second_not_sent _ _ _ _ _ _ (before shape (text_width name)) (cell_text name ++ behind shape (text_width name))
     (rw (c.before-2.ensures, c.text_width-taken.ensures, c.as_str-name.ensures, c.shape-shape.ensures) at c.in_ok-send_part.ensures.bytes)
-    (head_not_sent _ _ _ _ (escaped name) (behind shape (text_width name)) (rw c.as_str-name.ensures at c.in_err-send_spelled.ensures.bytes)))
+    (head_not_sent _ _ _ _ (cell_text name) (behind shape (text_width name)) (rw c.as_str-name.ensures at c.in_err-send_spelled.ensures.bytes)))
 
 pub returns-clause-bytes : goal.returns-clause-bytes
 returns-clause-bytes g c =
     let name = c.args.field.now.name in
     let shape = shape_of c.args.self.now.fields.now c.args.self.now.widths.now c.args.number in
-    sent_behind _ _ _ _ _ _ _ (before shape (text_width name)) (escaped name ++ behind shape (text_width name))
+    sent_behind _ _ _ _ _ _ _ (before shape (text_width name)) (cell_text name ++ behind shape (text_width name))
     (rw (c.before-2.ensures, c.text_width-taken.ensures, c.as_str-name.ensures, c.shape-shape.ensures) at c.in_ok-send_part.ensures.bytes)
-    (sent_behind _ _ _ _ _ _ _ (escaped name) (behind shape (text_width name)) (rw c.as_str-name.ensures at c.in_ok-send_spelled.ensures.bytes)
+    (sent_behind _ _ _ _ _ _ _ (cell_text name) (behind shape (text_width name)) (rw c.as_str-name.ensures at c.in_ok-send_spelled.ensures.bytes)
     (rw (c.behind.ensures, c.text_width-taken.ensures, c.as_str-name.ensures, c.shape-shape.ensures) at c.send_part-2.ensures.bytes))

@@ -1,6 +1,5 @@
 use Rattle.version_log.specs.Versions.{IsIndexOf}
 use Rattle.version_log.proofs.Versions.{newest_number, newest_tables}
-use Rattle.std.proofs.Common.{arith}
 use Rattle.version_cell.specs.SignedEntries.{log_of}
 use Rattle.version_cell.proofs.cell_rule.Store.newest.Goals as goal
 
@@ -15,13 +14,6 @@ returns-clause-tables c =
     let log = log_of c.args.self.now.history.seen.log in
     let kept : IsIndexOf c.deref.result.now log = rw c.deref.ensures c.args.self.now.kept in
     newest_tables c.deref.result.now log kept c.newest.result.now.number c.newest.result.now.catalog c.newest.ensures.last c.newest.ensures.kept c.newest.ensures.tables
-
-pub returns-clause-few : goal.returns-clause-few
-returns-clause-few c =
-    let log = log_of c.args.self.now.history.seen.log in
-    let kept : IsIndexOf c.deref.result.now log = rw c.deref.ensures c.args.self.now.kept in
-    let number = newest_number c.deref.result.now log kept c.newest.result.now.number c.newest.ensures.last c.newest.ensures.kept in
-    omega (arith, number.0, c.newest.ensures.few)
 
 pub returns-clause-kept : goal.returns-clause-kept
 returns-clause-kept c =

@@ -1,6 +1,6 @@
 use Rattle.std.proofs.lemmas.Result.{err_from_is_err_and}
 use Rattle.table_versions.specs.StoredTables.{put_of}
-use Rattle.version_cell.specs.Puts.{after_log}
+use Rattle.version_log.specs.Log.{after_log}
 use Rattle.version_cell.specs.SignedEntries.{log_of}
 use Rattle.version_cell.proofs.Accepting.{first_for, none_first}
 use Rattle.version_cell.proofs.publisher.Publisher.put.Goals as goal

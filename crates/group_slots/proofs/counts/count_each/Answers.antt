@@ -4,8 +4,8 @@ use Rattle.std.proofs.lemmas.List.Elements.{All-get_or}
 use Rattle.typed_plan.specs.declared.plan.Aggregate.TheVariants.{Count}
 use Rattle.group_slots.specs.HeldTallies.{count_tally}
 use Rattle.group_slots.proofs.Counted.{count_few, count_step, counted_more}
-use Rattle.group_slots.proofs.counts.count_values.Goals as goal
-use Rattle.group_slots.proofs.counts.count_values.Goals.{In-loop-k}
+use Rattle.group_slots.proofs.counts.count_each.Goals as goal
+use Rattle.group_slots.proofs.counts.count_each.Goals.{In-loop-k}
 
 -- the group is there
 there : (c : In-loop-k) → get_or c.args.part.now.groups.now c.loop-k.k 0 < length c.loop-k.counts

@@ -1,0 +1,193 @@
+//! What a client says of a fault on the lines after the fault's own.
+
+ghost use Rattle.std.specs.Prelude.{◌≡◌, IfOk};
+ghost use Rattle.fault_hints.specs.Hints.{batch_line, call_line, expiry_hint, hint_of, lent};
+ghost use Rattle.fault_hints.specs.Hints.{put_hint, put_limit, put_line, query_hint, query_limit};
+ghost use Rattle.fault_hints.specs.Hints.{query_line, schema_line, spelling_lines, type_line};
+
+use crate::left_out::left_out_lines;
+use crate::marked_lines::marked;
+use crate::question::Question;
+use crate::refused_types::{column_line, refused_type_line};
+use arrow_schema::MAX_NAME_BYTES;
+use scan_base::{Fault, PutMode};
+use sql_text::MOST_BYTES;
+use std::alloc::{AllocError, Global};
+
+// Of any call: who answered, and how the connection ended.
+fn call_line(fault: Fault) -> &'static [u8]
+    ensures { result.now ≡ call_line fault }
+{
+    match fault {
+        Fault::BadFrame => b"what listens at this port is no flightscan server\n",
+        Fault::Transport => b"the connection ended before the answer did\n",
+        _ => b"",
+    }
+}
+
+// Which limit a query passes.
+fn query_limit(alloc: Global, sql: &str) -> Result<Vec<u8>, AllocError>
+    ensures { IfOk result (λ lines. lines.items ≡ query_limit sql.now) }
+{
+    let len = sql.len();
+    if len > MOST_BYTES {
+        let line = format!(in alloc; "the query has {len} bytes, and at most 16384 are taken\n")?;
+        return Vec::from_slice(alloc, line.as_bytes());
+    }
+    Vec::from_slice(
+        alloc,
+        b"a query has at most 4 tables, 64 items and names of 64 bytes, an IN 256 values\n",
+    )
+}
+
+// What is said of a query's fault whatever the query is.
+fn query_line(fault: Fault) -> &'static [u8]
+    ensures { result.now ≡ query_line fault }
+{
+    match fault {
+        Fault::TableMissing => b"`flightscan tables` prints the names; their case counts\n",
+        Fault::UnknownName => { b"a name stands for no column, or for several; its case counts\n" }
+        Fault::TypeClash => {
+            b"compare numbers with numbers, 'texts' with texts, DATE '2026-11-28' with dates\n"
+        }
+        Fault::BadTicket => b"the tables are no longer those of the query: ask again\n",
+        Fault::VersionExpired => b"the tables of the query have expired: ask again\n",
+        Fault::ResultTooLarge => {
+            b"67108864 rows are the most: select fewer, or serve with more --parts\n"
+        }
+        Fault::Transport => {
+            b"the connection or the output failed; `head` ends the output early\n"
+        }
+        _ => call_line(fault),
+    }
+}
+
+// Of a query: the place in it, or what it has that is left out.
+fn query_hint(alloc: Global, sql: &str, fault: Fault) -> Result<Vec<u8>, AllocError>
+    ensures { IfOk result (λ lines. lines.items ≡ query_hint sql.now fault) }
+{
+    match fault {
+        Fault::BadSql { position } => marked(alloc, sql, position),
+        Fault::NotInSubset => left_out_lines(alloc, sql),
+        Fault::LimitReached => query_limit(alloc, sql),
+        _ => Vec::from_slice(alloc, query_line(fault)),
+    }
+}
+
+// Which limit a put passes.
+fn put_limit(table: &str) -> &'static [u8]
+    ensures { result.now ≡ put_limit table.now }
+{
+    if table.is_empty() || table.len() > MAX_NAME_BYTES {
+        return b"a table's name has 1 to 64 bytes\n";
+    }
+    b"the most: 64 columns, 64 bytes a name, 65536 a text, 16777216 rows, 256 tables\n"
+}
+
+// Which schemas differ.
+fn schema_line(mode: PutMode) -> &'static [u8]
+    ensures { result.now ≡ schema_line mode }
+{
+    match mode {
+        PutMode::Append => {
+            b"the table has other columns: names, types and nulls must agree, in their order\n"
+        }
+        PutMode::Create | PutMode::Replace => b"two columns have one name\n",
+    }
+}
+
+// What is wrong with what is put.
+fn batch_line(header: Option<&[u8]>) -> &'static [u8]
+    ensures { result.now ≡ batch_line (lent header.entry) }
+{
+    match header {
+        None => b"the input is empty\n",
+        Some(_) => b"a column without nulls has one, or a batch is not as Arrow's layout says\n",
+    }
+}
+
+// What is said of a put's fault whatever is put.
+fn put_line(fault: Fault) -> &'static [u8]
+    ensures { result.now ≡ put_line fault }
+{
+    match fault {
+        Fault::MessageTooLarge => {
+            b"a batch has more than 16777216 bytes: write batches of 65536 rows\n"
+        }
+        Fault::TableMissing => b"no table has this name: --mode create makes it\n",
+        Fault::TableExists => {
+            b"--mode append adds to the table, and --mode replace replaces it\n"
+        }
+        _ => call_line(fault),
+    }
+}
+
+// Which type is not taken.
+fn type_line(alloc: Global, header: Option<&[u8]>) -> Result<Vec<u8>, AllocError>
+    ensures { IfOk result (λ lines. lines.items ≡ type_line (lent header.entry)) }
+{
+    let line = match header {
+        Some(header) => refused_type_line(alloc, header)?,
+        None => column_line(alloc, None)?,
+    };
+    Vec::from_slice(alloc, line.as_bytes())
+}
+
+// Of a put into a table by a mode, of a stream whose first message has this header.
+fn put_hint(
+    alloc: Global,
+    table: &str,
+    mode: PutMode,
+    header: Option<&[u8]>,
+    fault: Fault,
+) -> Result<Vec<u8>, AllocError>
+    ensures { IfOk result
+        (λ lines. lines.items ≡ put_hint table.now mode (lent header.entry) fault) }
+{
+    match fault {
+        Fault::UnsupportedArrow => type_line(alloc, header),
+        Fault::BadBatch => Vec::from_slice(alloc, batch_line(header)),
+        Fault::SchemaMismatch => Vec::from_slice(alloc, schema_line(mode)),
+        Fault::LimitReached => Vec::from_slice(alloc, put_limit(table)),
+        _ => Vec::from_slice(alloc, put_line(fault)),
+    }
+}
+
+/// How columns of CSV are spelled, where a text spells none.
+pub fn spelling_lines(fault: Fault) -> &'static [u8]
+    ensures { result.now ≡ spelling_lines fault }
+{
+    match fault {
+        Fault::BadBatch => {
+            b"'a:int8, b:utf8?': int8 to int64, uint8 to uint64, decimal, date, bool or utf8\n"
+        }
+        Fault::LimitReached => b"64 columns, and 64 bytes of a name, are the most\n",
+        _ => b"",
+    }
+}
+
+// Of an expiry.
+fn expiry_hint(fault: Fault) -> &'static [u8]
+    ensures { result.now ≡ expiry_hint fault }
+{
+    match fault {
+        Fault::VersionUnknown => b"no put has made this version yet\n",
+        _ => call_line(fault),
+    }
+}
+
+/// What a client says of a fault of what was asked, in lines.
+///
+/// # Errors
+///
+/// `AllocError` where memory is refused.
+pub fn hint(alloc: Global, question: Question<'_>, fault: Fault) -> Result<Vec<u8>, AllocError>
+    ensures { IfOk result (λ lines. lines.items ≡ hint_of question.entry fault) }
+{
+    match question {
+        Question::Rows(sql) => query_hint(alloc, sql, fault),
+        Question::Put(table, mode, header) => put_hint(alloc, table, mode, header, fault),
+        Question::Names => Vec::from_slice(alloc, call_line(fault)),
+        Question::Expiry => Vec::from_slice(alloc, expiry_hint(fault)),
+    }
+}

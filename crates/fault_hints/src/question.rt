@@ -1,0 +1,17 @@
+//! A question to a server.
+
+use scan_base::PutMode;
+
+/// A question to a server.
+#[derive(Clone, Copy, Debug, PartialEq, Eq)]
+pub enum Question<'a> {
+    /// The rows of a query.
+    Rows(&'a str),
+    /// A put into the table of this name, by a mode, of a stream whose first message has this
+    /// header; none, where the stream is empty.
+    Put(&'a str, PutMode, Option<&'a [u8]>),
+    /// The names of the tables.
+    Names,
+    /// An expiry.
+    Expiry,
+}
