@@ -5,4 +5,5 @@ pub mod Texts
 pub mod Printed
 pub mod Signs
 pub mod TypeWords
+pub mod MomentTexts
 pub mod Back

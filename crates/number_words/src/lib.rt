@@ -3,6 +3,7 @@
 
 mod calendar;
 pub mod laws;
+mod moment;
 mod number_text;
 mod reading;
 mod whole_number;
