@@ -1,5 +1,6 @@
 -- The grammar can be read with one token to look ahead at.
 use Rattle.std.proofs.Common.{◌≡◌, true, false, refl}
+use Rattle.jiff_core.specs.Calendar.{days_from_civil, day_count, days_of_years, days_of_months}
 use Rattle.sql_text.specs.Values.{number_of}
 use Rattle.grammar.specs.Reading.{nullable, starts}
 use Rattle.grammar.proofs.Determined.{well_made, is_guarded, covers, determined}
@@ -21,7 +22,7 @@ one_way = refl
 
 pub made_well : well_made factor_by_operand ≡ true
 unfolding number_of same_word same_symbol name column minus digits date number string literal operand compare negated conj pred
-    truth_value compared nulled ranged among tail forms primary test factor_by_operand unquoted
+    truth_value compared nulled ranged among tail forms primary test factor_by_operand unquoted days_from_civil day_count days_of_years days_of_months
 made_well = refl
 
 pub guarded : is_guarded factor_by_operand ≡ true

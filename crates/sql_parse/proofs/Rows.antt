@@ -19,6 +19,7 @@ use Rattle.sql_text.specs.Reading.{pair, single, mark_front, front_at, tokens_wi
 use Rattle.number_words.specs.LiteralWords.{tokens_in}
 use Rattle.sql_text.specs.Values.{number_of, unquoted}
 use Rattle.sql_text.specs.Words.{word_kind}
+use Rattle.jiff_core.specs.Calendar.{days_from_civil, day_count, days_of_years, days_of_months}
 use Rattle.grammar.specs.Reading.{begins, token, reads, read}
 use Rattle.grammar.specs.Sentence.{Begins, Offends}
 use Rattle.sql_query.specs.declared.query.ColumnName.{ColumnName}
@@ -381,7 +382,7 @@ quote_in_string = worked refl
 
 a_date : Means (codes "SELECT a FROM t WHERE a = DATE '1994-01-01'")
     (Ok (filtered (comparing Equal a (literally (literals.Number Date (pos 8766))))))
-unfolding answer
+unfolding answer days_from_civil day_count days_of_years days_of_months
 a_date = worked refl
 
 a_truth : Means (codes "SELECT a FROM t WHERE a = TRUE") (Ok (filtered (comparing Equal a (literally (literals.Truth true)))))
