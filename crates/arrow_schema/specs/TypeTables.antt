@@ -85,7 +85,7 @@ decimal_of table = do
   _ ← demand ((precision == 38) && (scale == 0) && (bits == 128)) UnsupportedArrow
   Ok (Number Decimal)
 
--- ---- Date
+-- ---- Date, Timestamp
 
 -- a Date table: its unit is DAY (0), where the default is MILLISECOND (1)
 pub record SaysDate (table : TableAt) : Type 0 where
@@ -98,10 +98,7 @@ date_of table = do
   _ ← demand (unit == 0) UnsupportedArrow
   Ok (Number Date)
 
--- ---- Timestamp
-
--- what a Timestamp table says: its unit is MICROSECOND (2), where the default is SECOND (0), and no
--- offset leads to a zone
+-- what a Timestamp table says: its unit is MICROSECOND (2), and no offset leads to a zone
 unfoldable pub timestamp_of : TableAt → Result DataType Fault
 timestamp_of table = do
   unit ← scalar_of 2 table 0 0

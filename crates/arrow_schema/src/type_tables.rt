@@ -7,7 +7,6 @@ ghost use Rattle.arrow_types.specs.Schema.{IsType};
 ghost use Rattle.arrow_schema.specs.Fields.{table_wanted};
 ghost use Rattle.arrow_schema.specs.TypeTables.{integer_type, integer_of, decimal_of, date_of};
 ghost use Rattle.arrow_schema.specs.TypeTables.{type_of, integer_part, type_number, type_part};
-ghost use Rattle.arrow_schema.specs.TypeTables.{timestamp_of};
 
 use crate::header::table_wanted;
 use arrow_types::{DataType, IntegerType, NumberType};
@@ -66,20 +65,9 @@ fn date(table: &Table<'_>) -> Result<DataType, Fault>
     Ok(DataType::Number(NumberType::Date))
 }
 
-// A timestamp of microseconds, whose zone has no offset.
-#[tactic(auto, unfolding(crate::specs::TypeTables::timestamp_of))]
-fn timestamp(table: &Table<'_>) -> Result<DataType, Fault>
-    ensures value { Gives (λ timestamp. timestamp) result (timestamp_of table.now) }
-    ensures valid { IfOk result IsType }
-{
-    if table.scalar(0, Width::Two, 0)? != 2 || table.scalar(1, Width::Four, 0)? != 0 {
-        return Err(Fault::UnsupportedArrow);
-    }
-    Ok(DataType::Number(NumberType::Timestamp))
-}
-
 /// The type of a field's values, by the number of its kind. It refuses an unknown kind before an
 /// absent table.
+#[tactic(auto, unfolding(crate::specs::TypeTables::timestamp_of))]
 pub(crate) fn type_from(kind: u64, field: &Table<'_>) -> Result<DataType, Fault>
     ensures value { Gives (λ data_type. data_type) result
         (type_of kind (table_wanted field.now 3)) }
@@ -98,7 +86,13 @@ pub(crate) fn type_from(kind: u64, field: &Table<'_>) -> Result<DataType, Fault>
         }
         7 => decimal(&table?),
         8 => date(&table?),
-        10 => timestamp(&table?),
+        10 => {
+            let table = table?;
+            if table.scalar(0, Width::Two, 0)? != 2 || table.scalar(1, Width::Four, 0)? != 0 {
+                return Err(Fault::UnsupportedArrow);
+            }
+            Ok(DataType::Number(NumberType::Timestamp))
+        }
         _ => Err(Fault::UnsupportedArrow),
     }
 }
