@@ -6,4 +6,6 @@ pub mod Printed
 pub mod Signs
 pub mod TypeWords
 pub mod MomentTexts
+pub mod LiteralNames
+pub mod Fractions
 pub mod Back

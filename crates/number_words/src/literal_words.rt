@@ -18,6 +18,7 @@ use std::alloc::{AllocError, Global};
 /// # Errors
 ///
 /// Those of [`sql_text::tokens`].
+#[tactic(auto, unfolding(crate::specs::LiteralWords::tokens_in))]
 pub fn tokens(alloc: Global, sql: &str) -> Result<Vec<Token<'_>>, Fault>
     ensures exact { GivesUnlessMemory (λ tokens. map lexeme_of tokens.items) result
         (tokens_in sql.now) }
@@ -27,7 +28,8 @@ pub fn tokens(alloc: Global, sql: &str) -> Result<Vec<Token<'_>>, Fault>
         (demand (nat_le (length sql.now) most_query_bytes) LimitReached) }
 {
     let found = sql_text::tokens(alloc, sql)?;
-    Ok(with_words(alloc, &found)?)
+    let tokens = with_words(alloc, &found)?;
+    Ok(tokens)
 }
 
 // The tokens, in which a name TIMESTAMP is a word where a string follows.

@@ -77,8 +77,8 @@ fn fraction_in(text: &[u8]) -> Option<u32>
     if !is_fraction_form(text) {
         return None;
     }
-    let micros = 1_000 * three_digits(text, 1) + three_digits(text, 4);
-    Some(1_000 * micros + three_digits(text, 7))
+    let micros = 1_000 * three_digits(text, 4) + three_digits(text, 7);
+    Some(1_000_000 * three_digits(text, 1) + micros)
 }
 
 // Whether no byte stands there, or a point and 1 to 9 digits.
