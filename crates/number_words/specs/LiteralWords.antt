@@ -7,17 +7,16 @@ use Rattle.sql_text.specs.declared.word.Keyword.TheVariants as word
 use Rattle.sql_text.specs.declared.token.TokenKind.{TokenKind}
 use Rattle.sql_text.specs.declared.token.TokenKind.TheVariants as kind
 use Rattle.sql_text.specs.Standard.{Lexeme}
-use Rattle.sql_text.specs.Reading.{tokens_in as plain_tokens_in}
-
--- whether a token is a string
-abbrev pub is_string : TokenKind → Bool
-is_string kind.String = true
-is_string other = false
+use Rattle.sql_text.specs.Reading.{tokens_in}
 
 -- whether a string comes first
 abbrev pub begins_with_string : List Lexeme → Bool
 begins_with_string [] = false
-begins_with_string (token ∷ more) = is_string token.kind
+begins_with_string (token ∷ more) = is_a_string token.kind
+  where
+    is_a_string : TokenKind → Bool
+    is_a_string kind.String = true
+    is_a_string other = false
 
 -- what a token is, where a string follows or not
 abbrev pub kind_before : TokenKind → List ℕ → Bool → TokenKind
@@ -34,5 +33,5 @@ with_words (token ∷ more) =
     ∷ with_words more
 
 -- the tokens of a query's text, with the words of literals
-unfoldable pub tokens_in : List ℕ → Result (List Lexeme) Fault
-tokens_in text = plain_tokens_in text >>= λ tokens. Ok (with_words tokens)
+unfoldable pub worded_tokens_in : List ℕ → Result (List Lexeme) Fault
+worded_tokens_in text = tokens_in text >>= λ tokens. Ok (with_words tokens)

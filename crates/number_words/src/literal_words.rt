@@ -5,8 +5,8 @@ ghost use Rattle.scan_base.specs.declared.fault.Fault.TheVariants.{LimitReached}
 ghost use Rattle.scan_base.specs.Limits.{most_query_bytes};
 ghost use Rattle.scan_base.specs.Reading.{GivesUnlessMemory, RefusesFirst, demand};
 ghost use Rattle.sql_text.specs.Calls.{SaysText, lexeme_of};
-ghost use Rattle.number_words.specs.LiteralWords.{begins_with_string, kind_before, tokens_in};
-ghost use Rattle.number_words.specs.LiteralWords.{with_words};
+ghost use Rattle.number_words.specs.LiteralWords.{begins_with_string, kind_before, with_words};
+ghost use Rattle.number_words.specs.LiteralWords.{worded_tokens_in};
 
 use scan_base::Fault;
 use sql_text::{Keyword, Token, TokenKind};
@@ -18,10 +18,10 @@ use std::alloc::{AllocError, Global};
 /// # Errors
 ///
 /// Those of [`sql_text::tokens`].
-#[tactic(auto, unfolding(crate::specs::LiteralWords::tokens_in))]
+#[tactic(auto, unfolding(crate::specs::LiteralWords::worded_tokens_in))]
 pub fn tokens(alloc: Global, sql: &str) -> Result<Vec<Token<'_>>, Fault>
     ensures exact { GivesUnlessMemory (λ tokens. map lexeme_of tokens.items) result
-        (tokens_in sql.now) }
+        (worded_tokens_in sql.now) }
     ensures short { IfOk result (λ tokens. length sql.now ≤ most_query_bytes) }
     ensures names { IfOk result (λ tokens. All SaysText (map lexeme_of tokens.items)) }
     ensures first { RefusesFirst result

@@ -16,7 +16,7 @@ use Rattle.scan_base.specs.Predicate.{Pred, conjunction, disjunction, negation, 
 use Rattle.scan_base.specs.Predicate.{membership, null_test}
 use Rattle.sql_text.specs.Standard.{Lexeme}
 use Rattle.sql_text.specs.Reading.{pair, single, mark_front, front_at, tokens_within, tokens_from, tokens_in as plain_tokens_in}
-use Rattle.number_words.specs.LiteralWords.{tokens_in}
+use Rattle.number_words.specs.LiteralWords.{worded_tokens_in as tokens_in}
 use Rattle.sql_text.specs.Values.{number_of, unquoted}
 use Rattle.sql_text.specs.Words.{word_kind}
 use Rattle.jiff_core.specs.Calendar.{days_from_civil, day_count, days_of_years, days_of_months}
