@@ -1,6 +1,6 @@
 //! Codes of dictionaries, and numbers, that stand for values of a key.
 
-ghost use Rattle.std.specs.Prelude.{◌≡◌, ◌<◌, All, IsTrue, length, nat_lt, true};
+ghost use Rattle.std.specs.Prelude.{◌≡◌, ◌<◌, ◌≤◌, All, IsTrue, length, nat_lt, true};
 ghost use Rattle.std.specs.List.{list_all};
 ghost use Rattle.scan_base.specs.Value.{value_of};
 ghost use Rattle.arrays.specs.Batch.{BatchAt};

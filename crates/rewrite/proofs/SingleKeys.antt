@@ -57,14 +57,15 @@ module _ (holds : JoinKey → Bool) where
   -- what holds of all keys holds of one that is among them
   among_all : (keys : List JoinKey) (key : JoinKey) → list_any (same_columns key) keys ≡ true → list_all holds keys ≡ (list_all holds keys && holds key)
   among_all [] key h = cc
-  among_all (first ∷ keys) key h = by (same_columns key first) refl h
+  among_all (first ∷ keys) key h = by (same_columns key first) refl h (among_all keys key)
     where
       by : (b : Bool) → same_columns key first ≡ b → (b || list_any (same_columns key) keys) ≡ true
+          → (list_any (same_columns key) keys ≡ true → list_all holds keys ≡ (list_all holds keys && holds key))
           → list_all holds (first ∷ keys) ≡ (list_all holds (first ∷ keys) && holds key)
-      by true same h =
+      by true same h rest =
           subst (λ (k : JoinKey). list_all holds (first ∷ keys) ≡ (list_all holds (first ∷ keys) && holds k)) (sym (same_is key first same))
           (and_again (holds first) (list_all holds keys))
-      by false other h = and_under (holds first) (list_all holds keys) (holds key) (among_all keys key h)
+      by false other h rest = and_under (holds first) (list_all holds keys) (holds key) (rest h)
 
   all_with_key : (keys : List JoinKey) (key : JoinKey) → list_all holds (with_key keys key) ≡ (list_all holds keys && holds key)
   all_with_key keys key = by (list_any (same_columns key) keys) refl
