@@ -7,5 +7,5 @@ pub mod Signs
 pub mod TypeWords
 pub mod MomentTexts
 pub mod LiteralNames
-pub mod Fractions
+pub mod MomentForms
 pub mod Back

@@ -3,6 +3,7 @@
 ghost use Rattle.std.specs.Prelude.{◌≡◌, ◌≤◌, ◌<◌, IsTrue};
 ghost use Rattle.std.specs.Char.{is_ascii_digit};
 ghost use Rattle.std.specs.List.{list_all};
+ghost use Rattle.number_words.specs.Dates.{two_digits};
 ghost use Rattle.number_words.specs.Moments.{clock_in, digit_at, fraction_in, in_micros};
 ghost use Rattle.number_words.specs.Moments.{is_clock_form, is_fraction_form, moment_in};
 ghost use Rattle.number_words.specs.Moments.{seconds_of, three_digits};
@@ -40,14 +41,23 @@ fn moment_in(text: &[u8]) -> Option<i128>
 fn clock_in(text: &[u8]) -> Option<u32>
     ensures { result ≡ clock_in text.now }
 {
-    if !is_clock_form(text) {
-        return None;
+    if is_clock_form(text) {
+        clock_of(text)
+    } else {
+        None
     }
-    seconds_of(
-        two_digits(text, 0),
-        two_digits(text, 3),
-        two_digits(text, 6),
-    )
+}
+
+// The seconds of a day that a text of this form says.
+fn clock_of(text: &[u8]) -> Option<u32>
+    requires { IsTrue (is_clock_form text.now) }
+    ensures { result ≡ seconds_of (two_digits text.now 0) (two_digits text.now 3)
+        (two_digits text.now 6) }
+{
+    let hour = two_digits(text, 0);
+    let minute = two_digits(text, 3);
+    let second = two_digits(text, 6);
+    seconds_of(hour, minute, second)
 }
 
 // Whether two digits, :, two digits, : and two digits stand there, and no more.
@@ -74,11 +84,12 @@ fn seconds_of(hour: u8, minute: u8, second: u8) -> Option<u32>
 fn fraction_in(text: &[u8]) -> Option<u32>
     ensures { result ≡ fraction_in text.now }
 {
-    if !is_fraction_form(text) {
-        return None;
+    if is_fraction_form(text) {
+        let micros = 1_000 * three_digits(text, 4) + three_digits(text, 7);
+        Some(1_000_000 * three_digits(text, 1) + micros)
+    } else {
+        None
     }
-    let micros = 1_000 * three_digits(text, 4) + three_digits(text, 7);
-    Some(1_000_000 * three_digits(text, 1) + micros)
 }
 
 // Whether no byte stands there, or a point and 1 to 9 digits.
@@ -110,6 +121,7 @@ fn three_digits(text: &[u8], at: usize) -> u32
 }
 
 // The digit at a place, and 0 where the text has ended.
+#[tactic(auto, using(crate::proofs::MomentForms::digit_of))]
 fn digit_at(text: &[u8], at: usize) -> u32
     requires form { IsTrue (is_fraction_form text.now) }
     requires after { 1 ≤ at }
