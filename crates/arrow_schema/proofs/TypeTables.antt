@@ -144,10 +144,8 @@ timestamp_row table t is e =
     let b = bind_ok (demand (a.0 == 2) UnsupportedArrow) _ t a.2 in
     let c = bind_ok (scalar_of 4 table 1 0) _ t b.2 in
     let d = bind_ok (demand (c.0 == 0) UnsupportedArrow) _ t c.2 in
-    let unit = eqb-true a.0 2 (demand_ok (a.0 == 2) UnsupportedArrow b.0 b.1) in
-    let zone = eqb-true c.0 0 (demand_ok (c.0 == 0) UnsupportedArrow d.0 d.1) in
     let f : Number Timestamp ≡ t = (let last = d.2 in cc) in
-    rw (← f) (refl, (subst (HasScalar 2 table 0 0) unit (says_scalar 2 table 0 0 a.0 is a.1), subst (HasScalar 4 table 1 0) zone (says_scalar 4 table 1 0 c.0 is c.1)))
+    rw (← f) (refl, (subst (HasScalar 2 table 0 0) (eqb-true a.0 2 (demand_ok (a.0 == 2) UnsupportedArrow b.0 b.1)) (says_scalar 2 table 0 0 a.0 is a.1), subst (HasScalar 4 table 1 0) (eqb-true c.0 0 (demand_ok (c.0 == 0) UnsupportedArrow d.0 d.1)) (says_scalar 4 table 1 0 c.0 is c.1)))
 
 utf8_row : IsTold 5 (λ table. Ok Utf8)
 utf8_row table t is e = let f : Utf8 ≡ t = cc in rw (← f) (refl, tt)
