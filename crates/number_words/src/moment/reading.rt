@@ -5,7 +5,7 @@ ghost use Rattle.std.specs.Char.{is_ascii_digit};
 ghost use Rattle.std.specs.List.{list_all};
 ghost use Rattle.number_words.specs.Dates.{two_digits};
 ghost use Rattle.number_words.specs.Moments.{clock_in, digit_at, fraction_in, in_micros};
-ghost use Rattle.number_words.specs.Moments.{is_clock_form, is_fraction_form, moment_in};
+ghost use Rattle.number_words.specs.Moments.{is_clock_form, is_fraction_form, moment_in, moment_of};
 ghost use Rattle.number_words.specs.Moments.{seconds_of, three_digits};
 
 use crate::calendar::{day_of_bytes, two_digits, two_stand};
@@ -16,7 +16,7 @@ pub(crate) fn micros_in(text: &str) -> Option<i128>
     ensures { result ≡ in_micros (moment_in text.now) }
 {
     let nanos = moment_in(text.as_bytes())?;
-    if nanos.rem_euclid(1_000) == 0 {
+    if nanos.rem_euclid(1_000).unsigned_abs() == 0 {
         Some(nanos.div_euclid(1_000))
     } else {
         None
@@ -27,14 +27,28 @@ pub(crate) fn micros_in(text: &str) -> Option<i128>
 fn moment_in(text: &[u8]) -> Option<i128>
     ensures { result ≡ moment_in text.now }
 {
-    if text.len() < 19 || text[10] != b' ' {
-        return None;
+    if text.len() >= 19 && text[10] == b' ' {
+        moment_of(
+            day_of_bytes(&text[..10]),
+            clock_in(&text[11..19]),
+            fraction_in(&text[19..]),
+        )
+    } else {
+        None
     }
-    let day = day_of_bytes(&text[..10])?;
-    let seconds = clock_in(&text[11..19])?;
-    let nanos = fraction_in(&text[19..])?;
-    let time = i128::from(seconds) * 1_000_000_000 + i128::from(nanos);
-    Some(i128::from(day) * 86_400_000_000_000 + time)
+}
+
+// The nanoseconds from 1970-01-01 00:00:00 to a day, seconds of it, and nanoseconds of a second.
+fn moment_of(day: Option<i32>, seconds: Option<u32>, nanos: Option<u32>) -> Option<i128>
+    ensures { result ≡ moment_of day seconds nanos }
+{
+    match (day, seconds, nanos) {
+        (Some(day), Some(seconds), Some(nanos)) => {
+            let time = u64::from(seconds) * 1_000_000_000 + u64::from(nanos);
+            Some(i128::from(day) * 86_400_000_000_000 + i128::from(time))
+        }
+        (_, _, _) => None,
+    }
 }
 
 // The seconds of a day that a text says.
