@@ -34,4 +34,4 @@ same_number_self (Integer UInt16) = refl
 same_number_self (Integer UInt32) = refl
 same_number_self (Integer UInt64) = refl
 same_number_self Decimal = refl
-same_number_self Date = refl
+same_number_self _ = refl

@@ -8,7 +8,7 @@ ghost use Rattle.number_words.specs.NumberTexts.{keyword, word};
 use arrow_types::{IntegerType, NumberType};
 
 // All types of numbers.
-const TYPES: [NumberType; 10] = [
+const TYPES: [NumberType; 11] = [
     NumberType::Integer(IntegerType::Int8),
     NumberType::Integer(IntegerType::Int16),
     NumberType::Integer(IntegerType::Int32),
@@ -19,13 +19,15 @@ const TYPES: [NumberType; 10] = [
     NumberType::Integer(IntegerType::UInt64),
     NumberType::Decimal,
     NumberType::Date,
+    NumberType::Timestamp,
 ];
 
 /// The types that a text may be of, in the order in which they are tried.
-pub const TYPES_TRIED: [NumberType; 3] = [
+pub const TYPES_TRIED: [NumberType; 4] = [
     NumberType::Integer(IntegerType::Int64),
     NumberType::Decimal,
     NumberType::Date,
+    NumberType::Timestamp,
 ];
 
 /// The type of a word, if it is one of a type.
@@ -49,6 +51,7 @@ pub fn word(kind: NumberType) -> &'static str
         NumberType::Integer(integer) => integer_word(integer),
         NumberType::Decimal => "decimal",
         NumberType::Date => "date",
+        NumberType::Timestamp => "timestamp",
     }
 }
 
@@ -75,6 +78,7 @@ pub fn keyword(kind: NumberType) -> Option<&'static str>
 {
     match kind {
         NumberType::Date => Some("DATE"),
+        NumberType::Timestamp => Some("TIMESTAMP"),
         NumberType::Integer(_) | NumberType::Decimal => None,
     }
 }

@@ -114,8 +114,8 @@ unfolding date at
 date_starts ts = refl
 
 literal_same : (D : Nest) (ts : List Mark) → seen (reads D literal ts) ≡ literal_at ts
-unfolding literal literal_at token_at at string
-literal_same D ts = simp (flat, date_starts, date_same, number_same)
+unfolding literal literal_at number_after_at token_at at string
+literal_same D ts = simp (flat, date_starts, date_same, seen_kept, then_same, number_same)
 
 pub operand_same : (D : Nest) (ts : List Mark) → seen (reads D operand ts) ≡ operand_at ts
 unfolding operand operand_at
