@@ -30,6 +30,11 @@ word Decimal = codes "decimal"
 word Date = codes "date"
 word Timestamp = codes "timestamp"
 
+-- how a column of a text is spelled, with the words of all types, for people
+abbrev pub spelling_line : List ℕ
+spelling_line =
+    codes "'a:int8, b:utf8?': int8 to int64, uint8 to uint64, decimal, date, bool or utf8\n"
+
 -- the word before a literal of a type; an integer and a decimal have none
 abbrev pub keyword : NumberType → Option (List ℕ)
 keyword Date = Some (codes "DATE")

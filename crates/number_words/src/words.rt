@@ -3,7 +3,7 @@
 ghost use Rattle.std.specs.Prelude.{◌≡◌, ◌≢◌, ◌≤◌, IfSome, MatchOption, length, option_map};
 ghost use Rattle.arrow_types.specs.declared.data_type.NumberType.{NumberType};
 ghost use Rattle.arrow_types.specs.declared.data_type.NumberType.TheVariants as type;
-ghost use Rattle.number_words.specs.NumberTexts.{keyword, word};
+ghost use Rattle.number_words.specs.NumberTexts.{keyword, spelling_line, word};
 
 use arrow_types::{IntegerType, NumberType};
 
@@ -69,6 +69,13 @@ fn integer_word(integer: IntegerType) -> &'static str
         IntegerType::UInt32 => "uint32",
         IntegerType::UInt64 => "uint64",
     }
+}
+
+/// A line for people: how a column is spelled, with the words of all types.
+pub fn spelling_line() -> &'static [u8]
+    ensures { result.now ≡ spelling_line }
+{
+    b"'a:int8, b:utf8?': int8 to int64, uint8 to uint64, decimal, date, bool or utf8\n"
 }
 
 /// The word before a literal of a type, if it has one.
