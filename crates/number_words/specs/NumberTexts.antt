@@ -33,7 +33,7 @@ word Timestamp = codes "timestamp"
 -- how a column of a text is spelled, with the words of all types, for people
 abbrev pub spelling_line : List ℕ
 spelling_line =
-    codes "'a:int8, b:utf8?': int8 to int64, uint8 to uint64, decimal, date, bool or utf8\n"
+    codes "'a:int8, b:utf8?': int8..int64, uint8..uint64, decimal, date, timestamp, bool or utf8\n"
 
 -- the word before a literal of a type; an integer and a decimal have none
 abbrev pub keyword : NumberType → Option (List ℕ)

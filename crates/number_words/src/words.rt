@@ -75,7 +75,7 @@ fn integer_word(integer: IntegerType) -> &'static str
 pub fn spelling_line() -> &'static [u8]
     ensures { result.now ≡ spelling_line }
 {
-    b"'a:int8, b:utf8?': int8 to int64, uint8 to uint64, decimal, date, bool or utf8\n"
+    b"'a:int8, b:utf8?': int8..int64, uint8..uint64, decimal, date, timestamp, bool or utf8\n"
 }
 
 /// The word before a literal of a type, if it has one.
