@@ -18,7 +18,7 @@ TAKEN = "bool, int8 to uint64, utf8, date, timestamp, decimal and dictionaries o
 DTYPES: dict[DataType, Any] = {TEXT: object, NUMBER: object, TRUTH: np.bool_}  # in which objects are held; else int64
 EXACT = 2**53  # up to here a float holds each whole number
 TIME_ZERO, MICROSECOND = datetime.datetime(1970, 1, 1), datetime.timedelta(microseconds=1)
-FINER = ("ns", "ps", "fs", "as")  # units of time below a microsecond
+FINER, COARSER = ("ns", "ps", "fs", "as"), ("D", "W", "M", "Y")  # units of time below a microsecond, and from a day on
 
 
 def refused(name: str, found: object) -> NotSupportedError:
@@ -63,16 +63,24 @@ def of_array(name: str, data: Array, mask: Array | None, field: Field | None) ->
 def of_times(name: str, data: Array, mask: Array | None, field: Field | None) -> Values:
     """Dates or timestamps. Without a field, microseconds are timestamps and days are dates; times of another unit, as pandas
     has them, are dates where each is a midnight."""
-    nulls, days = np.isnat(data), data.astype("datetime64[D]")
-    nulls = nulls if mask is None else nulls | mask
+    nulls = np.isnat(data) if mask is None else np.isnat(data) | mask
     unit = np.datetime_data(data.dtype)[0]
-    are_days = unit == "D" or unit != "us" and bool((nulls | (days == data)).all())
-    of = field.type if field is not None and field.type in (DAY, MOMENT) else DAY if are_days else MOMENT
-    if of == DAY and not are_days and not (nulls | (days == data)).all():
+    of = field.type if field is not None and field.type in (DAY, MOMENT) else MOMENT if unit == "us" else None
+    if of != MOMENT and (unit in COARSER or (nulls | are_midnights(data)).all()):
+        of, numbers = DAY, (data if unit in COARSER else data.astype("<M8[us]")).astype("<M8[D]").view("<i8")
+    elif of != DAY:
+        of, numbers = MOMENT, micros_of(name, data, nulls)
+    else:
         raise DataError(f"column {name}: a timestamp where a date must be")
-    numbers = days.astype(np.int64) if of == DAY else micros_of(name, data, nulls)
     numbers = np.where(nulls, 0, numbers) if nulls.any() else numbers
     return fitted(of, field or Field(name, of), numbers, nulls if nulls.any() else None)
+
+
+def are_midnights(data: Array) -> Array:
+    """Of which times no more than a day is said."""
+    moments = data.astype("<M8[us]")
+    found: Array = (moments.astype("<M8[D]") == moments) & (moments.astype(data.dtype) == data)
+    return found
 
 
 def micros_of(name: str, data: Array, nulls: Array) -> Array:
