@@ -139,7 +139,7 @@ def csv_timestamps(run: Run) -> None:
 @case("a put of timestamps of another unit, or with a zone: F7, and a line that names the column and its type")
 def refused_timestamps(run: Run) -> None:
     number = trees.field("n", trees.integer(64, True))
-    line = "column at: timestamp is not taken"
+    line = "column at: timestamp of another unit or zone is not taken"
     others = [{"unit": unit} for unit in ("SECOND", "MILLISECOND", "NANOSECOND")] + [{"unit": "MICROSECOND", "timezone": "UTC"}]
     with run.serving() as server:
         for other in others:

@@ -93,7 +93,7 @@ def read_type(field):
     table = there(field.table(3))
     if kind == 10:
         demand(table.scalar(0, 2) == 2, "F7")
-        demand(table.follow(1) is None, "F7")
+        demand(table.scalar(1, 4) == 0, "F7")
         return "Timestamp"
     if kind == 8:
         demand(table.scalar(0, 2, 1) == 0, "F7")

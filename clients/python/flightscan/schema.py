@@ -161,7 +161,7 @@ def type_of(field: Table, name: str) -> DataType:
         return INTEGERS[dtype.name]
     if kind == DATE and table.scalar(0, 2, 1) != DAYS:
         raise fault(7, f"column {name}: a date that is not in days")
-    if kind == TIMESTAMP and (table.scalar(0, 2) != MICROSECONDS or table.followed(1) is not None):
+    if kind == TIMESTAMP and (table.scalar(0, 2) != MICROSECONDS or table.scalar(1, 4) != 0):
         raise fault(7, f"column {name}: a timestamp that is not in microseconds, or that has a zone")
     if kind == DECIMAL and (table.scalar(0, 4), table.scalar(1, 4), table.scalar(2, 4, 128)) != (DIGITS, 0, 128):
         raise fault(7, f"column {name}: a decimal other than decimal128(38, 0)")

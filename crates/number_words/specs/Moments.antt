@@ -1,6 +1,6 @@
 -- Moments as texts: yyyy-mm-dd hh:mm:ss, and digits after a point. The clock has no leap seconds.
-use Rattle.std.specs.Prelude.{ℕ, ◌+◌, ◌-◌, ◌*◌, ◌/◌, ◌%◌, ◌==◌, ◌&&◌, ◌||◌, Bool, nat_le, nat_lt}
-use Rattle.std.specs.Prelude.{if◌then◌else◌, List, ◌∷◌, ◌++◌, length, take, drop, slice_index}
+use Rattle.std.specs.Prelude.{ℕ, ◌+◌, ◌-◌, ◌*◌, ◌/◌, ◌%◌, ◌==◌, ◌&&◌, Bool, true, nat_le, nat_lt}
+use Rattle.std.specs.Prelude.{if◌then◌else◌, List, [], ◌∷◌, ◌++◌, length, take, drop, slice_index}
 use Rattle.std.specs.Prelude.{slice_range, ℤ, pos, ◌+ℤ◌, ◌*ℤ◌, unsigned_abs, Option, Some, None}
 use Rattle.std.specs.Char.{is_ascii_digit}
 use Rattle.std.specs.Int.{int_div_euclid, int_rem_euclid}
@@ -23,7 +23,7 @@ seconds_of hour minute second = if nat_lt hour 24 && (nat_lt minute 60 && nat_lt
     then Some (3600 * hour + (60 * minute + second)) else None
 
 -- the seconds of a day that a text says as hh:mm:ss
-abbrev pub clock_in : List ℕ → Option ℕ
+unfoldable pub clock_in : List ℕ → Option ℕ
 clock_in text = if is_clock_form text
     then seconds_of (two_digits text 0) (two_digits text 3) (two_digits text 6) else None
 
@@ -38,12 +38,12 @@ three_digits text at =
 
 -- no byte, or a point and 1 to 9 digits
 abbrev pub is_fraction_form : List ℕ → Bool
-is_fraction_form text = (length text == 0)
-    || ((slice_index text 0 == byte ".") && ((nat_le 2 (length text) && nat_le (length text) 10)
-    && list_all is_ascii_digit (drop 1 text)))
+is_fraction_form [] = true
+is_fraction_form (first ∷ digits) = (first == byte ".")
+    && ((nat_le 1 (length digits) && nat_le (length digits) 9) && list_all is_ascii_digit digits)
 
 -- the nanoseconds that a fraction of a second says
-abbrev pub fraction_in : List ℕ → Option ℕ
+unfoldable pub fraction_in : List ℕ → Option ℕ
 fraction_in text = if is_fraction_form text then Some (1000000 * three_digits text 1
     + (1000 * three_digits text 4 + three_digits text 7)) else None
 
@@ -53,9 +53,13 @@ moment_of (Some day) (Some seconds) (Some nanos) =
     Some (day *ℤ pos 86400000000000 +ℤ pos (seconds * 1000000000 + nanos))
 moment_of _ _ _ = None
 
+-- whether a text has room for a date and a clock, with a space between them
+abbrev pub has_time : List ℕ → Bool
+has_time text = nat_le 19 (length text) && (slice_index text 10 == byte " ")
+
 -- the same to the moment that a text says: a date, a space, a clock and a fraction
-abbrev pub moment_in : List ℕ → Option ℤ
-moment_in text = if nat_le 19 (length text) && (slice_index text 10 == byte " ")
+unfoldable pub moment_in : List ℕ → Option ℤ
+moment_in text = if has_time text
     then moment_of (day_in (take 10 text)) (clock_in (slice_range text 11 19))
     (fraction_in (drop 19 text)) else None
 

@@ -5,8 +5,8 @@ ghost use Rattle.std.specs.Char.{is_ascii_digit};
 ghost use Rattle.std.specs.List.{list_all};
 ghost use Rattle.number_words.specs.Dates.{two_digits};
 ghost use Rattle.number_words.specs.Moments.{clock_in, digit_at, fraction_in, in_micros};
-ghost use Rattle.number_words.specs.Moments.{is_clock_form, is_fraction_form, moment_in, moment_of};
-ghost use Rattle.number_words.specs.Moments.{seconds_of, three_digits};
+ghost use Rattle.number_words.specs.Moments.{has_time, is_clock_form, is_fraction_form, moment_in};
+ghost use Rattle.number_words.specs.Moments.{moment_of, seconds_of, three_digits};
 
 use crate::calendar::{day_of_bytes, two_digits, two_stand};
 
@@ -23,11 +23,19 @@ pub(crate) fn micros_in(text: &str) -> Option<i128>
     }
 }
 
+// Whether a text has room for a date and a clock, with a space between them.
+fn has_time(text: &[u8]) -> bool
+    ensures { result ≡ has_time text.now }
+{
+    text.len() >= 19 && text[10] == b' '
+}
+
 // The nanoseconds from 1970-01-01 00:00:00 to the moment that a text says.
+#[tactic(auto, unfolding(crate::specs::Moments::moment_in))]
 fn moment_in(text: &[u8]) -> Option<i128>
     ensures { result ≡ moment_in text.now }
 {
-    if text.len() >= 19 && text[10] == b' ' {
+    if has_time(text) {
         moment_of(
             day_of_bytes(&text[..10]),
             clock_in(&text[11..19]),
@@ -52,6 +60,7 @@ fn moment_of(day: Option<i32>, seconds: Option<u32>, nanos: Option<u32>) -> Opti
 }
 
 // The seconds of a day that a text says.
+#[tactic(auto, unfolding(crate::specs::Moments::clock_in))]
 fn clock_in(text: &[u8]) -> Option<u32>
     ensures { result ≡ clock_in text.now }
 {
@@ -95,6 +104,7 @@ fn seconds_of(hour: u8, minute: u8, second: u8) -> Option<u32>
 }
 
 // The nanoseconds that a fraction of a second says.
+#[tactic(auto, unfolding(crate::specs::Moments::fraction_in))]
 fn fraction_in(text: &[u8]) -> Option<u32>
     ensures { result ≡ fraction_in text.now }
 {
@@ -110,10 +120,12 @@ fn fraction_in(text: &[u8]) -> Option<u32>
 fn is_fraction_form(text: &[u8]) -> bool
     ensures { result ≡ is_fraction_form text.now }
 {
-    if text.is_empty() {
-        return true;
+    match text {
+        [] => true,
+        [first, digits @ ..] => {
+            *first == b'.' && ((1 <= digits.len() && digits.len() <= 9) && are_digits(digits))
+        }
     }
-    text[0] == b'.' && (2 <= text.len() && text.len() <= 10) && are_digits(&text[1..])
 }
 
 // Whether each byte is a digit.
