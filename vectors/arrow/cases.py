@@ -203,6 +203,11 @@ add("bad_type_Timestamp_unit_258", schema(field("a", ("Timestamp", {"unit": 258}
 for layout in ("packed", "spread"):
     add(f"bad_type_Timestamp_zone_{layout}", schema(field("a", ("Timestamp", {"unit": "MICROSECOND", "timezone": "Europe/Paris"}))),
         "F7", layout=layout, compared=True)
+ZONED = schema(field("a", ("Timestamp", {"unit": "MICROSECOND", "timezone": "UTC"})))  # packed, its offset to the zone lies at 51
+add("bad_type_Timestamp_zone_far", ZONED, "F7", layout="packed", patch=(51, bytes.fromhex("FF FF FF 7F")),
+    note="the zone lies outside, and is not read")
+add("schema_Timestamp_zone_0", ZONED, says(("a", "Timestamp", True)), layout="packed", patch=(51, bytes(4)),
+    note="an offset of 0 leads to no zone")
 add("bad_type_Timestamp_zone_empty", schema(field("a", ("Timestamp", {"unit": "MICROSECOND", "timezone": ""}))), "F7")
 add("bad_type_Timestamp_nanosecond_zone", schema(field("a", ("Timestamp", {"unit": "NANOSECOND", "timezone": "UTC"}))), "F7")
 add("bad_type_absent_Timestamp", schema({"name": "a", "type_type": "Timestamp"}), "F6", layout="packed")
