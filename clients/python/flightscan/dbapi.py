@@ -9,7 +9,7 @@ from typing import TYPE_CHECKING, Any
 from .errors import InterfaceError, NotSupportedError, ProgrammingError
 from .literals import bound
 from .messages import Info
-from .schema import DAY, INTEGERS, NUMBER, TEXT, TRUTH, Field
+from .schema import DAY, INTEGERS, NUMBER, TEXT, TRUTH, Field, look_at_columns
 from .tables import Table
 
 if TYPE_CHECKING:
@@ -103,6 +103,7 @@ class Cursor:
         try:
             for endpoint in info.endpoints:
                 self.stream = self.connection.stream(endpoint)
+                look_at_columns(info.schema, self.stream.schema, info.server)
                 for batch in self.stream:
                     yield from batch.rows()
         except GeneratorExit:

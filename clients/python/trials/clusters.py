@@ -124,11 +124,31 @@ def rows_that_fail(run: Run) -> None:
                 with flightscan.connect(server) as connection:
                     same("nothing was put", [], connection.tables())
         for by, text in (("town", "the frame has no column 'town'"), (("town", [1]), "the frame has no column 'town'"),
-                         (("id", [1, 2]), "2 bounds for 2 servers")):
+                         (("id", [1, 2]), "2 bounds for 2 servers"), (5, "rows can't be spread by 5"),
+                         (("id",), "rows can't be spread by ('id',)"),
+                         (("id", ["x"]), "column id can't be compared with the bounds ['x']")):
             refused(text, flightscan.InterfaceError, text, lambda by=by: several.put_table(frame, servers, by, "t"))
         refused("bounds that fall", flightscan.InterfaceError, "the bounds fall: [5, 2]",
-                lambda: several.put_table(frame, [*servers, servers[0]], ("id", [5, 2]), "t"))
+                lambda: several.put_table(frame, [*servers, "127.0.0.1:1"], ("id", [5, 2]), "t"))
         refused("no server", flightscan.InterfaceError, "there is no server", lambda: several.put_table(frame, [], "id", "t"))
+
+
+@case("a cluster whose workers are threads of this process: reads, groups and puts are the same")
+def workers_that_are_threads(run: Run) -> None:
+    pandas, several = modules()
+    distributed = wanted_package("distributed")
+    frame = pandas.DataFrame({"id": range(2_000), "km": [number % 7 for number in range(2_000)]})
+    with run.several(2, "--parts", "3", "--seats", "16") as servers, distributed.Client(
+            processes=False, n_workers=1, threads_per_worker=2, dashboard_address=None, silence_logs=logging.CRITICAL):
+        source = several.dask.dataframe.from_pandas(frame, npartitions=4)
+        same("all rows", len(frame), sum(several.put_table(source, servers, "id", "t")))
+        read = several.read_query("SELECT id, km FROM t", servers)
+        same("the rows", frame["id"].tolist(), sorted(read["id"].compute().tolist()))
+        same("two partitions of each server", frame["id"].tolist(), sorted(
+            several.read_query("SELECT id FROM t", servers, 2).compute()["id"].tolist()))
+        same("sums by Dask", frame.groupby("km")["id"].sum().to_dict(), read.groupby("km")["id"].sum().compute().to_dict())
+        groups = several.grouped("SELECT km, SUM(id) AS s FROM t GROUP BY km", servers)
+        same("groups", frame.groupby("km")["id"].sum().to_dict(), dict(zip(groups["km"].tolist(), map(int, groups["s"]))))
 
 
 @case("the drive of many servers fails where 4 workers on 4 processors read less than 2.5 times as fast as one")
