@@ -31,7 +31,7 @@ from .messages import Info
 from .schema import NUMBER, Schema
 from .sources import schema_of, wide
 from .tables import JoinedColumn, Table, joined_tables
-from .values import whole_number
+from .values import refused, whole_number
 
 Address = str | int
 By = str | tuple[str, Sequence[Any]]
@@ -416,7 +416,8 @@ def hashes(series: pandas.Series[Any]) -> Array:
     elif kind == "M":
         values = series.to_numpy().astype("datetime64[ns]").view(np.int64)
     elif kind == "f":  # as pandas holds integers with nulls; a put refuses what is not whole
-        values = np.where(nulls, 0, series.to_numpy(dtype=np.float64, na_value=np.nan)).astype(np.int64)
+        with np.errstate(invalid="ignore"):
+            values = np.where(nulls, 0, series.to_numpy(dtype=np.float64, na_value=np.nan)).astype(np.int64)
     else:
         return hashes_of_objects(str(series.name), series.to_numpy(dtype=object), nulls)
     found: Array = pandas.util.hash_array(values)
@@ -433,7 +434,10 @@ def hashes_of_objects(name: str, values: Array, nulls: Array) -> Array:
         whole = [number % 2**64 for number in numbers if number is not None]
         found[counted] = pandas.util.hash_array(np.array(whole, np.uint64))
         others &= ~counted
-    found[others] = pandas.util.hash_array(values[others])
+    try:
+        found[others] = pandas.util.hash_array(values[others])
+    except TypeError:  # (a list, a dictionary)
+        raise refused(name, " with ".join(sorted({type(value).__name__ for value in values[others]}))) from None
     return found
 
 

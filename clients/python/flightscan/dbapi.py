@@ -26,6 +26,9 @@ class TypeGroup(frozenset[str]):
     def __eq__(self, other: object) -> bool:
         return other in self if isinstance(other, str) else super().__eq__(other)
 
+    def __ne__(self, other: object) -> bool:
+        return not self == other
+
     __hash__ = frozenset.__hash__
 
 

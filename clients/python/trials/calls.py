@@ -165,6 +165,7 @@ def refusals(run: Run) -> None:
 
 def twice(connection: flightscan.Connection) -> tuple[flightscan.Schema, tuple[flightscan.Batch, ...]]:
     table = connection.query("SELECT a, a FROM t")
+    refused("names of arrays", flightscan.InterfaceError, "two of the columns a:int64?, a:int64? have one name", table.to_numpy)
     return table.schema, table.batches
 
 

@@ -109,6 +109,7 @@ def look_at_objects(pandas: Any, several: Any, wanted: list[int]) -> None:
     same("an early date has a hash", True, hashes([datetime.date(1, 1, 1)])[0] != 0)
     for value, text in ((Decimal("Infinity"), "the decimal Infinity"), (Decimal("0.5"), "a decimal with a fraction")):
         refused(text, flightscan.NotSupportedError, f"column None: {text}", lambda value=value: hashes([value], object))
+    refused("lists", flightscan.NotSupportedError, "column None: dict with list", lambda: hashes([[1], {}, None], object))
     for values in (pandas.Categorical([5, None, 50, 10]), pandas.array([5, None, 50, 10], "Int8"), [Decimal(5), None, 50, 10]):
         places = several.places_of(pandas.Series(values), [10, 20])
         same(f"the ranges of {values}", [0, 0, 2, 1], places.tolist())
