@@ -266,16 +266,23 @@ def put_table(frame: pandas.DataFrame | dask.dataframe.DataFrame, servers: Seque
 def look_at_spread(frame: Any, servers: Sequence[Address], by: By) -> None:
     """Whether rows can be spread so."""
     look_at_servers(servers)
-    if not isinstance(by, str) and not (isinstance(by, (tuple, list)) and len(by) == 2):
-        raise InterfaceError(f"rows can't be spread by {by!r}: name a column, or a column and its bounds")
-    name, bounds = (by, None) if isinstance(by, str) else by
+    name, bounds = column_and_bounds(by)
     if list(frame.columns).count(name) != 1:
         lacking = "several columns" if name in frame.columns else "no column"
         raise InterfaceError(f"the frame has {lacking} {name!r}")
     if bounds is not None and len(bounds) != len(servers) - 1:
         raise InterfaceError(f"{len(bounds)} bounds for {len(servers)} servers")
     if bounds is not None and not pandas.Index(bounds).is_monotonic_increasing:
-        raise InterfaceError(f"the bounds fall: {list(bounds)}")
+        raise InterfaceError(f"the bounds fall or can't be compared: {bounds}")
+
+
+def column_and_bounds(by: By) -> tuple[str, list[Any] | None]:
+    """The column by which rows are spread, and the bounds, if there are some."""
+    if isinstance(by, str):
+        return by, None
+    if isinstance(by, (tuple, list)) and len(by) == 2 and isinstance(by[1], Iterable) and not isinstance(by[1], str):
+        return by[0], list(by[1])
+    raise InterfaceError(f"rows can't be spread by {by!r}: name a column, or a column and its bounds")
 
 
 def schema_of_frame(frame: pandas.DataFrame) -> Schema:
@@ -366,10 +373,8 @@ def put_pieces(server: Address, table: str, pieces: Handover, mode: str, schema:
 
 def split(frame: pandas.DataFrame, by: By, count: int) -> list[pandas.DataFrame]:
     """The rows of each server, in their order."""
-    if isinstance(by, str):
-        places = (hashes(frame[by]) % np.uint64(count)).astype(np.int64)
-    else:
-        places = places_of(frame[by[0]], by[1])
+    name, bounds = column_and_bounds(by)
+    places = (hashes(frame[name]) % np.uint64(count)).astype(np.int64) if bounds is None else places_of(frame[name], bounds)
     return [frame[places == place] for place in range(count)]
 
 

@@ -94,7 +94,22 @@ def workers_that_die(run: Run) -> str:
         same("the rows of a partition are of one computing", PARTITIONS, len({row[1:] for row in rows}))
         times = [len(path.read_text()) for path in pathlib.Path(folder).iterdir()]
         same("partitions that were computed again", True, max(times) > 1)
+        look_at_rows_read_again(several, servers, cluster, client)
     return f"{len(rows)} rows, {sum(times)} times a partition was computed"
+
+
+def look_at_rows_read_again(several: Any, servers: list[str], cluster: Any, client: Any) -> None:
+    """What a worker has read and died with is read again, and is of the version named, although there are later puts."""
+    read = several.read_query("SELECT id FROM t", servers).persist()
+    wanted_package("distributed").wait(read, 300)
+    for server in servers:
+        with flightscan.connect(server) as connection:
+            later = {"id": [-1], "partition": [0], "computing": [0]}
+            connection.put("t", later, mode="append", schema="id:int64, partition:int64, computing:int64")
+    kill_fullest(cluster, client)
+    same("the rows", list(range(PARTITIONS * ROWS)), sorted(read["id"].compute().tolist()))
+    several_rows = several.read_query("SELECT id FROM t", servers)["id"].compute()
+    same("the rows of a later info", 2, int((several_rows == -1).sum()))
 
 
 def no_rows(number: int) -> Any:
@@ -125,10 +140,11 @@ def rows_that_fail(run: Run) -> None:
                     same("nothing was put", [], connection.tables())
         for by, text in (("town", "the frame has no column 'town'"), (("town", [1]), "the frame has no column 'town'"),
                          (("id", [1, 2]), "2 bounds for 2 servers"), (5, "rows can't be spread by 5"),
-                         (("id",), "rows can't be spread by ('id',)"),
+                         (("id",), "rows can't be spread by ('id',)"), (("id", "5"), "rows can't be spread by ('id', '5')"),
+                         (("id", 5), "rows can't be spread by ('id', 5)"),
                          (("id", ["x"]), "column id can't be compared with the bounds ['x']")):
             refused(text, flightscan.InterfaceError, text, lambda by=by: several.put_table(frame, servers, by, "t"))
-        refused("bounds that fall", flightscan.InterfaceError, "the bounds fall: [5, 2]",
+        refused("bounds that fall", flightscan.InterfaceError, "the bounds fall or can't be compared: [5, 2]",
                 lambda: several.put_table(frame, [*servers, "127.0.0.1:1"], ("id", [5, 2]), "t"))
         refused("no server", flightscan.InterfaceError, "there is no server", lambda: several.put_table(frame, [], "id", "t"))
 

@@ -241,9 +241,10 @@ def look_at_one_moment(several: Any, servers: list[str], done: list[int]) -> Non
     """The rows of the versions named, once later puts are made; and a snapshot."""
     named = done[0]
     infos = several.ask("SELECT put FROM t", servers)
-    deadline = time.monotonic() + 20
-    while done[0] < named + 3 and time.monotonic() < deadline:
+    later, deadline = min(done[0] + 3, LAST_PUT), time.monotonic() + 60
+    while done[0] < later and time.monotonic() < deadline:
         time.sleep(0.001)
+    same("puts are made meanwhile", True, done[0] >= later)
     rows = infos.frame().compute()["put"].tolist()
     wanted = [number for _, version in infos.versions for number in range(version) for _ in range(5)]
     same("the rows of the versions", wanted, rows)
@@ -252,14 +253,15 @@ def look_at_one_moment(several: Any, servers: list[str], done: list[int]) -> Non
     same("a snapshot", dict.fromkeys(range(named + 1), 15), found)
 
 
+LAST_PUT = 2_000
+
+
 def put_by_name(writers: list[flightscan.Connection], stop: threading.Event, done: list[int]) -> None:
     """Puts rows to each server, and says which put all servers have."""
-    number = 1
-    while not stop.is_set() and number < 2_000:
+    while not stop.wait(0.002) and done[0] < LAST_PUT:
         for writer in writers:
-            writer.put("t", {"put": np.full(5, number, np.int64)}, mode="append")
-        done[0] = number
-        number += 1
+            writer.put("t", {"put": np.full(5, done[0] + 1, np.int64)}, mode="append")
+        done[0] += 1
 
 
 @case("a server that is gone, refuses, or has other columns: no answer rather than a part of one, and puts say who has what")
