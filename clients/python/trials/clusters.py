@@ -149,8 +149,8 @@ def rows_that_fail(run: Run) -> None:
         refused("no server", flightscan.InterfaceError, "there is no server", lambda: several.put_table(frame, [], "id", "t"))
 
 
-@case("a cluster whose workers are threads of this process: reads, groups and puts are the same")
-def workers_that_are_threads(run: Run) -> None:
+@case("a cluster whose workers are threads of this process: rows, groups and puts are the same; sums where Dask has its own")
+def workers_that_are_threads(run: Run) -> str | None:
     pandas, several = modules()
     distributed = wanted_package("distributed")
     frame = pandas.DataFrame({"id": range(2_000), "km": [number % 7 for number in range(2_000)]})
@@ -162,9 +162,15 @@ def workers_that_are_threads(run: Run) -> None:
         same("the rows", frame["id"].tolist(), sorted(read["id"].compute().tolist()))
         same("two partitions of each server", frame["id"].tolist(), sorted(
             several.read_query("SELECT id FROM t", servers, 2).compute()["id"].tolist()))
-        same("sums by Dask", frame.groupby("km")["id"].sum().to_dict(), read.groupby("km")["id"].sum().compute().to_dict())
+        same("what is made of partitions", len(frame), int(sum(read.map_partitions(len).compute())))
         groups = several.grouped("SELECT km, SUM(id) AS s FROM t GROUP BY km", servers)
         same("groups", frame.groupby("km")["id"].sum().to_dict(), dict(zip(groups["km"].tolist(), map(int, groups["s"]))))
+        try:
+            source["km"].sum().compute()
+        except TypeError:
+            return "sums of Dask's own frames fail there"
+        same("sums by Dask", frame.groupby("km")["id"].sum().to_dict(), read.groupby("km")["id"].sum().compute().to_dict())
+    return None
 
 
 @case("the drive of many servers fails where 4 workers on 4 processors read less than 2.5 times as fast as one")
