@@ -95,8 +95,8 @@ def puts_that_wait(run: Run) -> str:
     made = []
     with run.serving("--seats", "2") as server, flightscan.connect(server.port) as reader:
         same("the tables", [], reader.tables())
-        for what in ("stopped", "full"):
-            seat = Link("127.0.0.1", server.port, 20) if what == "full" else None
+        for what in ("stopped", "crowded"):
+            seat = Link("127.0.0.1", server.port, 20) if what == "crowded" else None
             if seat is None:
                 server.process.send_signal(signal.SIGSTOP)
             with flightscan.connect(server.port, timeout=0.5) as writer:
