@@ -134,6 +134,12 @@ class Schema:
         return Schema(tuple(given))
 
 
+def look_at_columns(wanted: Schema, found: Schema, server: str) -> None:
+    """Whether an endpoint has the columns that its info named. After a restart, an old ticket may lead to another table."""
+    if not found.says_as(wanted):
+        raise fault(11, f"an endpoint with the columns {found}, where {wanted} must be", server)
+
+
 # ---- read
 
 

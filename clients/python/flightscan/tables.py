@@ -104,7 +104,9 @@ class Table:
         return [row for batch in self.batches for row in batch.rows()]
 
     def to_numpy(self) -> dict[str, Array]:
-        """The columns by name, as arrays; those with nulls as masked arrays."""
+        """The columns by name, as arrays; those with nulls as masked arrays. No two may have one name."""
+        if len(set(self.schema.names)) < len(self.schema):
+            raise InterfaceError(f"two of the columns {self.schema} have one name: take them by their numbers")
         return {column.field.name: column.values if column.mask is None else column.masked() for column in self}
 
     def to_pandas(self, decimals: str = "objects", dates: str = "datetime64") -> pandas.DataFrame:

@@ -250,5 +250,7 @@ def module_of_dbapi(run: Run) -> None:
         "DataError", "OperationalError", "IntegrityError", "InternalError", "ProgrammingError", "NotSupportedError")))
     same("types are equal", [True, False, True, True], [flightscan.STRING == "utf8", flightscan.NUMBER == "utf8",
                                                          flightscan.DATETIME == "date", flightscan.DATETIME == "timestamp"])
+    same("types differ", [False, True, True], [flightscan.STRING != "utf8", flightscan.NUMBER != "utf8",
+                                                "date" != flightscan.STRING])
     same("what is read back", schema_said(flightscan.Schema.spelled("a:int64, b:utf8?")), [["a", "Int64", False],
                                                                                            ["b", "Utf8", True]])

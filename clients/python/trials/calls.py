@@ -20,7 +20,7 @@ from loopback import Server
 from random_calls.answers import same
 
 from trials.bytes_written import SPELLED, plain_columns
-from trials.cases import Run, case, refused, same_array, trips
+from trials.cases import Run, case, meanwhile, refused, same_array, trips
 
 
 def plain_rows(table: flightscan.Table) -> list[list[Any]]:
@@ -170,6 +170,7 @@ def refusals(run: Run) -> None:
 
 def twice(connection: flightscan.Connection) -> tuple[flightscan.Schema, tuple[flightscan.Batch, ...]]:
     table = connection.query("SELECT a, a FROM t")
+    refused("names of arrays", flightscan.InterfaceError, "two of the columns a:int64?, a:int64? have one name", table.to_numpy)
     return table.schema, table.batches
 
 
@@ -370,7 +371,7 @@ def look_at_waiting(port: int) -> None:
 
     thread = threading.Thread(target=wait)
     thread.start()
-    while not waiting.calls.used:
+    while thread.is_alive() and not waiting.calls.used:
         time.sleep(0.01)
     waiting.close()
     thread.join(20)
@@ -411,17 +412,14 @@ def puts_meanwhile(run: Run) -> str:
     with run.serving("--parts", "4", "--seats", "6") as server:
         with flightscan.connect(server.port) as writer, flightscan.connect(server.port) as reader:
             writer.put("t", {"put": np.zeros(10, np.int64)})
-            stop, seen = threading.Event(), []
-            thread = threading.Thread(target=keep_putting, args=(writer, stop))
-            thread.start()
-            for _ in range(40):
-                info = reader.info("SELECT put FROM t")
-                numbers = reader.read_all(info)["put"].values
-                wanted = np.repeat(np.arange(info.version), 10)
-                same_array(f"version {info.version}", wanted, numbers)
-                seen.append(info.version)
-            stop.set()
-            thread.join()
+            seen = []
+            with meanwhile(lambda stop: keep_putting(writer, stop)):
+                for _ in range(40):
+                    info = reader.info("SELECT put FROM t")
+                    numbers = reader.read_all(info)["put"].values
+                    wanted = np.repeat(np.arange(info.version), 10)
+                    same_array(f"version {info.version}", wanted, numbers)
+                    seen.append(info.version)
     return f"versions {seen[0]} to {seen[-1]}"
 
 

@@ -3,6 +3,7 @@
 from __future__ import annotations
 
 import importlib
+import threading
 from collections.abc import Callable, Iterator
 from contextlib import ExitStack, contextmanager
 from dataclasses import dataclass
@@ -107,3 +108,26 @@ def trips(count: int, seed: int = 1) -> dict[str, Any]:
         "paid": np.ma.MaskedArray(random.random(count) < 0.5, mask=nulls[4]),
         "km": np.ma.MaskedArray(random.integers(0, 500, count).astype(np.int32), mask=nulls[5]),
     }
+
+
+@contextmanager
+def meanwhile(write: Callable[[threading.Event], None]) -> Iterator[None]:
+    """A thread that writes until the block ends, whether well or not. What it raises is raised after a block that ended well."""
+    stop, failures = threading.Event(), []
+
+    def run() -> None:
+        try:
+            write(stop)
+        except Exception as failed:  # noqa: BLE001 (it is raised below)
+            failures.append(failed)
+
+    thread = threading.Thread(target=run, daemon=True)
+    thread.start()
+    try:
+        yield
+    finally:
+        stop.set()
+        thread.join(60)
+    same("the writer has ended", False, thread.is_alive())
+    if failures:
+        raise failures[0]
