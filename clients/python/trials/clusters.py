@@ -94,22 +94,29 @@ def workers_that_die(run: Run) -> str:
         same("the rows of a partition are of one computing", PARTITIONS, len({row[1:] for row in rows}))
         times = [len(path.read_text()) for path in pathlib.Path(folder).iterdir()]
         same("partitions that were computed again", True, max(times) > 1)
-        look_at_rows_read_again(several, servers, cluster, client)
     return f"{len(rows)} rows, {sum(times)} times a partition was computed"
 
 
-def look_at_rows_read_again(several: Any, servers: list[str], cluster: Any, client: Any) -> None:
-    """What a worker has read and died with is read again, and is of the version named, although there are later puts."""
-    read = several.read_query("SELECT id FROM t", servers).persist()
-    wanted_package("distributed").wait(read, 300)
-    for server in servers:
-        with flightscan.connect(server) as connection:
-            later = {"id": [-1], "partition": [0], "computing": [0]}
-            connection.put("t", later, mode="append", schema="id:int64, partition:int64, computing:int64")
-    kill_fullest(cluster, client)
-    same("the rows", list(range(PARTITIONS * ROWS)), sorted(read["id"].compute().tolist()))
-    several_rows = several.read_query("SELECT id FROM t", servers)["id"].compute()
-    same("the rows of a later info", 2, int((several_rows == -1).sum()))
+@case("what a worker has read and died with is read again, of the version named, although there are later puts")
+def partitions_read_again(run: Run) -> None:
+    pandas, several = modules()
+    distributed = wanted_package("distributed")
+    frame = pandas.DataFrame({"id": range(2_000)})
+    with (run.several(2, "--parts", "3", "--seats", "8") as servers,
+          distributed.LocalCluster(n_workers=2, threads_per_worker=1, processes=True, dashboard_address=None, memory_limit=0,
+                                   silence_logs=logging.CRITICAL) as cluster,
+          distributed.Client(cluster) as client):
+        client.run(sys.path.extend, [path for path in sys.path if path])
+        several.put_table(frame, servers, "id", "t")
+        read = several.read_query("SELECT id FROM t", servers).persist()
+        distributed.wait(read, 300)
+        for server in servers:
+            with flightscan.connect(server) as connection:
+                connection.put("t", {"id": [-1]}, mode="append", schema="id:int64")
+        kill_fullest(cluster, client)
+        same("the rows", frame["id"].tolist(), sorted(read["id"].compute().tolist()))
+        later = several.read_query("SELECT id FROM t", servers)["id"].compute()
+        same("the rows of a later info", [-1, -1, *frame["id"]], sorted(later.tolist()))
 
 
 def no_rows(number: int) -> Any:
