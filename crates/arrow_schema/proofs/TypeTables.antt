@@ -12,11 +12,11 @@ use Rattle.flatbuf.proofs.Written.{table_reads}
 use Rattle.flatbuf.proofs.Lengths.{whole_table, short_table, fits_table}
 use Rattle.arrow_types.specs.declared.data_type.IntegerType.{IntegerType}
 use Rattle.arrow_types.specs.declared.data_type.IntegerType.TheVariants.{Int8, Int16, Int32, Int64, UInt8, UInt16, UInt32, UInt64}
-use Rattle.arrow_types.specs.declared.data_type.NumberType.TheVariants.{Integer, Decimal, Date}
+use Rattle.arrow_types.specs.declared.data_type.NumberType.TheVariants.{Integer, Decimal, Date, Timestamp}
 use Rattle.arrow_types.specs.declared.data_type.DataType.{DataType}
 use Rattle.arrow_types.specs.declared.data_type.DataType.TheVariants.{Number, Utf8, Bool as Flags, Dictionary}
 use Rattle.arrow_types.specs.DataType.{bit_width, is_signed}
-use Rattle.arrow_schema.specs.TypeTables.{meaning_of, flag, SaysInteger, SaysDecimal, SaysDate, SaysType, signed_types, unsigned_types, integer_type, integer_of, integer_slots, integer_part, decimal_of, date_of, type_readings, type_written, type_number, type_part, type_of}
+use Rattle.arrow_schema.specs.TypeTables.{meaning_of, flag, SaysInteger, SaysDecimal, SaysDate, SaysType, signed_types, unsigned_types, integer_type, integer_of, integer_slots, integer_part, decimal_of, date_of, timestamp_of, type_readings, type_written, type_number, type_part, type_of}
 use Rattle.arrow_schema.proofs.Readings.{bind_ok, demand_ok, HoldOf, meaning_told, says_scalar, reads_scalar}
 
 -- ---- Int
@@ -137,6 +137,16 @@ date_row table t is e =
       record { unit = subst (λ (n : ℕ). HasScalar 2 table 0 1 n) (eqb-true a.0 0 (demand_ok (a.0 == 0) UnsupportedArrow b.0 b.1)) (says_scalar 2 table 0 1 a.0 is a.1) },
     )
 
+timestamp_row : IsTold 10 timestamp_of
+unfolding timestamp_of
+timestamp_row table t is e =
+    let a = bind_ok (scalar_of 2 table 0 0) _ t e in
+    let b = bind_ok (demand (a.0 == 2) UnsupportedArrow) _ t a.2 in
+    let c = bind_ok (scalar_of 4 table 1 0) _ t b.2 in
+    let d = bind_ok (demand (c.0 == 0) UnsupportedArrow) _ t c.2 in
+    let f : Number Timestamp ≡ t = (let last = d.2 in cc) in
+    rw (← f) (refl, (subst (HasScalar 2 table 0 0) (eqb-true a.0 2 (demand_ok (a.0 == 2) UnsupportedArrow b.0 b.1)) (says_scalar 2 table 0 0 a.0 is a.1), subst (HasScalar 4 table 1 0) (eqb-true c.0 0 (demand_ok (c.0 == 0) UnsupportedArrow d.0 d.1)) (says_scalar 4 table 1 0 c.0 is c.1)))
+
 utf8_row : IsTold 5 (λ table. Ok Utf8)
 utf8_row table t is e = let f : Utf8 ≡ t = cc in rw (← f) (refl, tt)
 
@@ -144,7 +154,7 @@ flags_row : IsTold 6 (λ table. Ok Flags)
 flags_row table t is e = let f : Flags ≡ t = cc in rw (← f) (refl, tt)
 
 told_rows : HoldOf IsTold type_readings
-told_rows = (integer_row, (utf8_row, (flags_row, (decimal_row, (date_row, tt)))))
+told_rows = (integer_row, (utf8_row, (flags_row, (decimal_row, (date_row, (timestamp_row, tt))))))
 
 pub type_told : (kind : ℕ) (table : Result TableAt Fault) (t : DataType) → type_of kind table ≡ Ok t → (found : TableAt) × (table ≡ Ok found) × (IsBytes found.bytes → (kind ≡ type_number t) × SaysType t found)
 type_told kind table t e =
@@ -197,8 +207,14 @@ date_read : (table : TableAt) → IsBytes table.bytes → SaysDate table → dat
 unfolding date_of
 date_read table is says = rw (reads_scalar 2 table 0 1 0 is says.unit) refl
 
+timestamp_again : (bytes : List ℕ) (at : ℕ) → Stands (type_part (Number Timestamp)).bytes bytes at → timestamp_of (table_at bytes at (type_part (Number Timestamp))) ≡ Ok (Number Timestamp)
+unfolding type_part timestamp_of scalar_of
+timestamp_again bytes at s =
+    let reads = table_reads (type_written (Number Timestamp)).1 bytes at (fits_table (type_written (Number Timestamp)).1 (omega arith) (omega arith)) tt s in
+    rw (reads 0 2 0 (omega arith) (omega arith), reads 1) refl
+
 pub row : (t : DataType) → Row t
-unfolding type_part integer_part
+unfolding type_part integer_part timestamp_of
 row (Number (Integer integer)) = record {
   whole = tt;
   short = (let s = short_integer integer in omega arith);
@@ -209,6 +225,7 @@ row (Number (Integer integer)) = record {
 }
 row (Number Decimal) = record { whole = tt; short = (let s = short_table (type_written (Number Decimal)).1 in omega arith); reading = decimal_of; known = refl; again = decimal_again; read = decimal_read }
 row (Number Date) = record { whole = tt; short = (let s = short_table (type_written (Number Date)).1 in omega arith); reading = date_of; known = refl; again = date_again; read = date_read }
+row (Number Timestamp) = record { whole = tt; short = (let s = short_table (type_written (Number Timestamp)).1 in omega arith); reading = timestamp_of; known = refl; again = timestamp_again; read = λ table is says. rw (reads_scalar 2 table 0 0 2 is says.0, reads_scalar 4 table 1 0 0 is says.1) refl }
 row Utf8 = record { whole = tt; short = (let s = short_table [] in omega arith); reading = λ table. Ok Utf8; known = refl; again = λ bytes at s. refl; read = λ table is says. refl }
 row Flags = record { whole = tt; short = (let s = short_table [] in omega arith); reading = λ table. Ok Flags; known = refl; again = λ bytes at s. refl; read = λ table is says. refl }
 row (Dictionary encoding) = record { whole = tt; short = (let s = short_table [] in omega arith); reading = λ table. Ok Utf8; known = refl; again = λ bytes at s. refl; read = λ table is says. absurd says }
@@ -218,7 +235,7 @@ abbrev IsKind : ℕ → (TableAt → Result DataType Fault) → Type 0
 IsKind kind reading = (1 ≤ kind) × (kind < 256)
 
 pub is_kind : (t : DataType) → (1 ≤ type_number t) × (type_number t < 256)
-is_kind t = meaning_told IsKind type_readings (type_number t) (row t).reading ((omega arith, omega arith), ((omega arith, omega arith), ((omega arith, omega arith), ((omega arith, omega arith), ((omega arith, omega arith), tt))))) (row t).known
+is_kind t = meaning_told IsKind type_readings (type_number t) (row t).reading ((omega arith, omega arith), ((omega arith, omega arith), ((omega arith, omega arith), ((omega arith, omega arith), ((omega arith, omega arith), ((omega arith, omega arith), tt)))))) (row t).known
 
 pub whole_type : (t : DataType) → IsWhole (type_part t)
 unfolding type_part

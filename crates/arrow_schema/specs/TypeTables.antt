@@ -13,6 +13,7 @@ use Rattle.arrow_types.specs.declared.data_type.IntegerType.TheVariants.{Int8, I
 use Rattle.arrow_types.specs.declared.data_type.IntegerType.TheVariants.{UInt8, UInt16, UInt32}
 use Rattle.arrow_types.specs.declared.data_type.IntegerType.TheVariants.{UInt64}
 use Rattle.arrow_types.specs.declared.data_type.NumberType.TheVariants.{Integer, Decimal, Date}
+use Rattle.arrow_types.specs.declared.data_type.NumberType.TheVariants.{Timestamp}
 use Rattle.arrow_types.specs.declared.data_type.DataType.{DataType}
 use Rattle.arrow_types.specs.declared.data_type.DataType.TheVariants.{Number, Utf8, Bool as Flags}
 use Rattle.arrow_types.specs.declared.data_type.DataType.TheVariants.{Dictionary}
@@ -84,7 +85,7 @@ decimal_of table = do
   _ ← demand ((precision == 38) && (scale == 0) && (bits == 128)) UnsupportedArrow
   Ok (Number Decimal)
 
--- ---- Date
+-- ---- Date, Timestamp
 
 -- a Date table: its unit is DAY (0), where the default is MILLISECOND (1)
 pub record SaysDate (table : TableAt) : Type 0 where
@@ -97,6 +98,15 @@ date_of table = do
   _ ← demand (unit == 0) UnsupportedArrow
   Ok (Number Date)
 
+-- what a Timestamp table says: its unit is MICROSECOND (2), and no offset leads to a zone
+unfoldable pub timestamp_of : TableAt → Result DataType Fault
+timestamp_of table = do
+  unit ← scalar_of 2 table 0 0
+  _ ← demand (unit == 2) UnsupportedArrow
+  zone ← scalar_of 4 table 1 0
+  _ ← demand (zone == 0) UnsupportedArrow
+  Ok (Number Timestamp)
+
 -- ---- the rows
 
 -- what the table of a type says; no type's table says a dictionary
@@ -104,6 +114,7 @@ abbrev pub SaysType : DataType → TableAt → Type 0
 SaysType (Number (Integer integer)) table = SaysInteger table integer
 SaysType (Number Decimal) table = SaysDecimal table
 SaysType (Number Date) table = SaysDate table
+SaysType (Number Timestamp) table = HasScalar 2 table 0 0 2 × HasScalar 4 table 1 0 0
 SaysType Utf8 table = Unit {0}
 SaysType Flags table = Unit {0}
 SaysType (Dictionary encoding) table = ⊥
@@ -115,6 +126,7 @@ type_readings = (2, λ table. integer_of table >>= λ integer. Ok (Number (Integ
     ∷ (6, λ table. Ok Flags)
     ∷ (7, decimal_of)
     ∷ (8, date_of)
+    ∷ (10, timestamp_of)
     ∷ []
 
 -- how a type is written: the number of its kind, and the slots of its table. Those of a dictionary
@@ -123,6 +135,7 @@ abbrev pub type_written : DataType → ℕ × List Given
 type_written (Number (Integer integer)) = (2, integer_slots integer)
 type_written (Number Decimal) = (7, Scalar 38 ∷ Scalar 0 ∷ Scalar 128 ∷ [])
 type_written (Number Date) = (8, Scalar 0 ∷ [])
+type_written (Number Timestamp) = (10, Scalar 2 ∷ [])
 type_written Utf8 = (5, [])
 type_written Flags = (6, [])
 type_written (Dictionary encoding) = (5, [])

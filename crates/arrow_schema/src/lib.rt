@@ -9,7 +9,7 @@ mod type_tables;
 pub mod writing;
 
 pub use crate::header::{HeaderKind, Message, read_message};
-pub use crate::reading::read_schema;
+pub use crate::reading::{read_schema, value_type};
 pub use crate::writing::{encapsulate, write_message, write_schema};
 pub use arrow_types::{
     Cell, DataType, DictionaryEncoding, Field, IntegerType, MAX_COLUMNS, MAX_NAME_BYTES,

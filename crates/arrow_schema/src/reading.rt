@@ -45,9 +45,16 @@ fn name<'a>(field: &Table<'a>) -> Result<&'a str, Fault>
     Ok(name)
 }
 
-// The type of a field's values, whose kind is stored.
+/// The type of the values that a Field table says, as Arrow's `Schema.fbs` names it. Where the
+/// field has a dictionary, it is the type of the dictionary's values.
+///
+/// # Errors
+///
+/// - F6 (`Fault::BadFlatbuffer`) where the kind or the type's table is absent, or something that is
+///   read lies outside the buffer.
+/// - F7 (`Fault::UnsupportedArrow`) for a type that is not taken.
 #[tactic(auto, unfolding(crate::specs::Fields::value_type_of))]
-fn value_type(field: &Table<'_>) -> Result<DataType, Fault>
+pub fn value_type(field: &Table<'_>) -> Result<DataType, Fault>
     ensures value { Gives (λ data_type. data_type) result (value_type_of field.now) }
     ensures valid { IfOk result IsType }
 {

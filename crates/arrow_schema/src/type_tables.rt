@@ -67,6 +67,7 @@ fn date(table: &Table<'_>) -> Result<DataType, Fault>
 
 /// The type of a field's values, by the number of its kind. It refuses an unknown kind before an
 /// absent table.
+#[tactic(auto, unfolding(crate::specs::TypeTables::timestamp_of))]
 pub(crate) fn type_from(kind: u64, field: &Table<'_>) -> Result<DataType, Fault>
     ensures value { Gives (λ data_type. data_type) result
         (type_of kind (table_wanted field.now 3)) }
@@ -85,6 +86,13 @@ pub(crate) fn type_from(kind: u64, field: &Table<'_>) -> Result<DataType, Fault>
         }
         7 => decimal(&table?),
         8 => date(&table?),
+        10 => {
+            let table = table?;
+            if table.scalar(0, Width::Two, 0)? != 2 || table.scalar(1, Width::Four, 0)? != 0 {
+                return Err(Fault::UnsupportedArrow);
+            }
+            Ok(DataType::Number(NumberType::Timestamp))
+        }
         _ => Err(Fault::UnsupportedArrow),
     }
 }
@@ -113,5 +121,6 @@ pub(crate) fn type_block(builder: &Builder, data_type: DataType) -> Result<(u64,
             Ok((7, builder.table(&slots)?))
         }
         DataType::Number(NumberType::Date) => Ok((8, builder.table(&[Slot::Number(0)])?)),
+        DataType::Number(NumberType::Timestamp) => Ok((10, builder.table(&[Slot::Number(2)])?)),
     }
 }

@@ -3,7 +3,7 @@ use Rattle.std.proofs.Common.{◌≡◌, true, refl, ap}
 use Rattle.arrow_types.specs.declared.data_type.IntegerType.{IntegerType}
 use Rattle.arrow_types.specs.declared.data_type.IntegerType.TheVariants.{Int8, Int16, Int32, Int64, UInt8, UInt16, UInt32, UInt64}
 use Rattle.arrow_types.specs.declared.data_type.NumberType.{NumberType}
-use Rattle.arrow_types.specs.declared.data_type.NumberType.TheVariants.{Integer, Decimal, Date}
+use Rattle.arrow_types.specs.declared.data_type.NumberType.TheVariants.{Integer, Decimal, Date, Timestamp}
 use Rattle.arrow_types.specs.DataType.{same_number}
 
 -- integers of one width, with or without a sign, are of one type
@@ -22,6 +22,7 @@ pub same_number_is : (a b : NumberType) → same_number a b ≡ true → a ≡ b
 same_number_is (Integer a) (Integer b) h = ap Integer (same_integer a b h)
 same_number_is Decimal Decimal h = refl
 same_number_is Date Date h = refl
+same_number_is Timestamp Timestamp h = refl
 same_number_is _ _ h = cc
 
 pub same_number_self : (a : NumberType) → same_number a a ≡ true
@@ -34,4 +35,4 @@ same_number_self (Integer UInt16) = refl
 same_number_self (Integer UInt32) = refl
 same_number_self (Integer UInt64) = refl
 same_number_self Decimal = refl
-same_number_self Date = refl
+same_number_self _ = refl

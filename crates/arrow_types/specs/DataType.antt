@@ -32,11 +32,12 @@ bit_width integer = (integer_form integer).1
 abbrev pub is_signed : IntegerType → Bool
 is_signed integer = (integer_form integer).0
 
--- how a number of a type lies in a slot: a date in 32 bits with a sign, a decimal in 16 bytes
+-- how a number lies in a slot: a date in 32 bits with a sign, a timestamp in 64, a decimal in 128
 abbrev pub cell_of : NumberType → Cell
 cell_of (number.Integer integer) = cell.Integer integer
 cell_of number.Decimal = cell.Wide
 cell_of number.Date = cell.Integer Int32
+cell_of number.Timestamp = cell.Integer Int64
 
 -- whether two are one type
 abbrev pub same_number : NumberType → NumberType → Bool
@@ -44,6 +45,7 @@ same_number (number.Integer one) (number.Integer other) =
     bit_width one == bit_width other && same_flag (is_signed one) (is_signed other)
 same_number number.Decimal number.Decimal = true
 same_number number.Date number.Date = true
+same_number number.Timestamp number.Timestamp = true
 same_number _ _ = false
 
 -- the dictionary of a type, where it has one

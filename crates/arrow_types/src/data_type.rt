@@ -27,11 +27,13 @@ pub struct DictionaryEncoding {
 
 /// The types whose values are whole numbers, in whose order they stand. A decimal is one of 38
 /// digits with none after the point. A date is a number of whole days from 1970-01-01 on.
+/// A timestamp is one of microseconds.
 #[derive(Clone, Copy, Debug, PartialEq, Eq)]
 pub enum NumberType {
     Integer(IntegerType),
     Decimal,
     Date,
+    Timestamp,
 }
 
 /// How a number lies in a slot: as an integer of fixed width, or in 16 bytes with a sign.
@@ -86,6 +88,7 @@ impl NumberType {
             NumberType::Integer(integer) => Cell::Integer(integer),
             NumberType::Decimal => Cell::Wide,
             NumberType::Date => Cell::Integer(IntegerType::Int32),
+            NumberType::Timestamp => Cell::Integer(IntegerType::Int64),
         }
     }
 
@@ -99,6 +102,7 @@ impl NumberType {
             }
             (NumberType::Decimal, NumberType::Decimal) => true,
             (NumberType::Date, NumberType::Date) => true,
+            (NumberType::Timestamp, NumberType::Timestamp) => true,
             (_, _) => false,
         }
     }

@@ -25,7 +25,8 @@ use Rattle.client_commands.specs.InTurn.{IsWrittenWhole, RunsCame, StopsAmong, S
 use Rattle.client_commands.specs.Lines.{opened_line}
 use Rattle.client_commands.specs.ParallelFetch.{EachGives, FetchesOver, Giving, IsAsked, IsEvenPart, IsRun}
 use Rattle.client_commands.specs.Streaming.{ComeSome, WhyNoMore, WritesUpTo, rows_held}
-use Rattle.client_commands.specs.inside.Turns.{IsLeft, IsTurn, IsTurnBy, WritesRuns, WritesAndBegins, StreamsOrNot}
+use Rattle.client_commands.specs.inside.Turns.{IsLeft, IsTurn, IsTurnBy, WritesAndBegins}
+use Rattle.client_commands.specs.inside.WrittenRuns.{WritesRuns, StreamsOrNot}
 use Rattle.client_commands.specs.inside.Writers.{WriterAt}
 use Rattle.client_commands.specs.inside.Runs.{HaveCome, IsOpen, OpenAt, StopsInRun}
 use Rattle.client_commands.proofs.Even.{all_left, part_even, part_left}

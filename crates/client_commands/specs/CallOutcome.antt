@@ -2,6 +2,7 @@
 use Rattle.std.specs.Prelude.{◌≡◌, ◌⊎◌, ℕ, ◌+◌, List, [], ◌++◌, Result, Ok, Err, codes}
 use Rattle.std.specs.Io.KnownBytes.{Appends}
 use Rattle.scan_base.specs.declared.fault.Fault.{Fault}
+use Rattle.scan_base.specs.declared.fault.Fault.TheVariants.{BadFrame, Transport}
 use Rattle.grpc_frame.specs.Ends.{AppendsBeginning}
 use Rattle.client_calls.specs.declared.failure.Failure.{Failure}
 use Rattle.client_calls.specs.declared.failure.Failure.TheVariants.{Answered, Found}
@@ -17,10 +18,16 @@ Explains hint fault old new =
     (more : List ℕ) × ((more ≡ hint fault) ⊎ (more ≡ []))
     × Prints (fault_line fault ++ more) old new
 
+-- what is said of a fault that a server answered; how the connection fared is not said
+abbrev pub answered_hint : (Fault → List ℕ) → Fault → List ℕ
+answered_hint hint BadFrame = []
+answered_hint hint Transport = []
+answered_hint hint fault = hint fault
+
 -- the fault is explained, and the status says who found it
 abbrev pub TellsFailure : (Fault → List ℕ) → Failure → ExitStatus → Said → Said → Type 0
 TellsFailure hint (Answered fault) status old new =
-    (status ≡ FaultAnswered) × Explains hint fault old new
+    (status ≡ FaultAnswered) × Explains (answered_hint hint) fault old new
 TellsFailure hint (Found fault) status old new =
     (status ≡ FaultAtThisEnd) × Explains hint fault old new
 

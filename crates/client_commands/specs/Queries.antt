@@ -69,13 +69,14 @@ Queries Gives Shares streams sql format before behind status old new =
     PrintsRows (query_hint sql) Gives Shares format streams (rows_of sql) before behind status old
     new
 
--- the rows that the query answers which the whole input is; or that was not read, or is no text, and
--- no connection is made
+-- the rows that the query answers which the whole input is; or that was not read, or is no text,
+-- and no connection is made
 abbrev pub QueriesInput : {N : Type 0} → Giving N → (N → N → N → Type 0) → ℕ → Source → Source →
     Format → N → N → ExitStatus → Desk → Desk → Type 0
 QueriesInput Gives Shares streams old new format before behind status desk desk' =
     ((fault : Fault) × ReadsWhole (Err fault) old new × (behind ≡ before)
     × EndsBy (reading_lines fault) status desk desk')
     ⊎ ((sql : List ℕ) × ReadsWhole (Ok sql) old new
-    × (((is_utf8 sql ≡ false) × (behind ≡ before) × EndsBy (fault_line (BadSql 0)) status desk desk')
+    × (((is_utf8 sql ≡ false) × (behind ≡ before)
+    × EndsBy (fault_line (BadSql 0)) status desk desk')
     ⊎ Queries Gives Shares streams sql format before behind status desk desk'))

@@ -4,4 +4,5 @@ pub mod Writers
 pub mod OneStream
 pub mod Runs
 pub mod Turns
+pub mod WrittenRuns
 pub mod RowsSent

@@ -5,6 +5,7 @@ ghost use Rattle.grpc_frame.specs.Ends.{CanFail, CountsFailure, FailsByTransport
 ghost use Rattle.command_ends.specs.Printing.{Prints, fault_line, said_of};
 ghost use Rattle.fault_hints.specs.Hints.{hint_of};
 ghost use Rattle.client_commands.specs.CallOutcome.{Explains, TellsFailure, TellsPrinted};
+ghost use Rattle.client_commands.specs.CallOutcome.{answered_hint};
 
 use client_calls::Failure;
 use command_ends::{ExitStatus, end_by_cause};
@@ -26,7 +27,7 @@ pub(crate) fn end_by_failure<E: Output>(
 {
     match failure {
         Failure::Answered(fault) => {
-            explain(alloc, faults, fault, question);
+            explain_answered(alloc, faults, fault, question);
             ExitStatus::FaultAnswered
         }
         Failure::Found(fault) => {
@@ -57,6 +58,18 @@ fn explain<E: Output>(alloc: Global, faults: &mut E, fault: Fault, question: Que
     match hint(alloc, question, fault) {
         Ok(more) => print_fault(faults, fault, &more),
         Err(AllocError) => print_fault(faults, fault, &[]),
+    }
+}
+
+// The same of a fault that a server answered: how the connection fared is not said.
+fn explain_answered<E: Output>(alloc: Global, faults: &mut E, fault: Fault, question: Question<'_>)
+    requires { CanFail (E.failures faults.old) }
+    ensures { Explains (answered_hint (hint_of question.entry)) fault
+        (said_of E.Output faults.old) (said_of E.Output faults.new) }
+{
+    match fault {
+        Fault::BadFrame | Fault::Transport => print_fault(faults, fault, &[]),
+        _ => explain(alloc, faults, fault, question),
     }
 }
 

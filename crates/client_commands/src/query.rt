@@ -7,7 +7,7 @@ ghost use Rattle.fault_hints.specs.Hints.{query_hint};
 ghost use Rattle.client_commands.specs.Commands.{desk_of};
 ghost use Rattle.command_ends.specs.WholeInput.{source_of};
 ghost use Rattle.client_commands.specs.Queries.{Queries, QueriesInput};
-ghost use Rattle.client_commands.specs.inside.Turns.{TellsStreamed};
+ghost use Rattle.client_commands.specs.inside.WrittenRuns.{TellsStreamed};
 
 use crate::call_outcome::end_by_failure;
 use crate::connecting::{end_unconnected, open};

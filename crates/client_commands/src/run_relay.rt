@@ -8,8 +8,8 @@ ghost use Rattle.flight_proto.specs.InfoCommand.{rows_of};
 ghost use Rattle.client_calls.specs.Outcome.{Line};
 ghost use Rattle.command_ends.specs.Printing.{Said, said_of};
 ghost use Rattle.client_commands.specs.Lines.{CanCount};
-ghost use Rattle.client_commands.specs.inside.Turns.{Ahead, BeginsNext, StreamsOrNot};
-ghost use Rattle.client_commands.specs.inside.Turns.{WritesAndBegins, WritesRuns};
+ghost use Rattle.client_commands.specs.inside.Turns.{Ahead, BeginsNext, WritesAndBegins};
+ghost use Rattle.client_commands.specs.inside.WrittenRuns.{StreamsOrNot, WritesRuns};
 ghost use Rattle.client_commands.specs.inside.Runs.{AreSent, IsOpen, WritesRun};
 
 use crate::fetch_failure::FetchFailure;

@@ -14,6 +14,7 @@ use Rattle.scan_base.specs.declared.fault.Fault.TheVariants.{VersionUnknown, Ver
 use Rattle.scan_base.specs.declared.fault.Fault.TheVariants.{ResultTooLarge, Transport}
 use Rattle.scan_base.specs.declared.put_options.PutMode.{PutMode}
 use Rattle.scan_base.specs.declared.put_options.PutMode.TheVariants.{Append}
+use Rattle.number_words.specs.NumberTexts.{spelling_line}
 use Rattle.fault_hints.specs.declared.question.Question.{Question}
 use Rattle.fault_hints.specs.declared.question.Question.TheVariants.{Rows, Put, Names, Expiry}
 use Rattle.fault_hints.specs.LeftOut.{left_out_lines}
@@ -41,7 +42,7 @@ abbrev pub query_line : Fault → List ℕ
 query_line TableMissing = codes "`flightscan tables` prints the names; their case counts\n"
 query_line UnknownName = codes "a name stands for no column, or for several; its case counts\n"
 query_line TypeClash =
-    codes "compare numbers with numbers, 'texts' with texts, DATE '2026-11-28' with dates\n"
+    codes "compare numbers with numbers, 'texts' with texts, else by a word: DATE '2026-11-28'\n"
 query_line BadTicket = codes "the tables are no longer those of the query: ask again\n"
 query_line VersionExpired = codes "the tables of the query have expired: ask again\n"
 query_line ResultTooLarge =
@@ -103,8 +104,7 @@ put_hint table mode header fault = put_line fault
 
 -- how columns are spelled, where a text spells none
 abbrev pub spelling_lines : Fault → List ℕ
-spelling_lines BadBatch =
-    codes "'a:int8, b:utf8?': int8 to int64, uint8 to uint64, decimal, date, bool or utf8\n"
+spelling_lines BadBatch = spelling_line
 spelling_lines LimitReached = codes "64 columns, and 64 bytes of a name, are the most\n"
 spelling_lines _ = []
 

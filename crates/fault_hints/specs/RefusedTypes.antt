@@ -1,38 +1,31 @@
 -- The first column of a schema whose type is not taken, by Arrow's `Schema.fbs`.
-use Rattle.std.specs.Prelude.{ℕ, zero, suc, ◌+◌, ◌==◌, ◌&&◌, ◌||◌, Bool, false, List, [], ◌∷◌, ◌++◌}
+use Rattle.std.specs.Prelude.{ℕ, zero, suc, ◌+◌, ◌==◌, List, [], ◌∷◌, ◌++◌}
 use Rattle.std.specs.Prelude.{Option, Some, None, Result, Ok, Err, codes, if◌then◌else◌}
 use Rattle.std.specs.Option.{option_or}
 use Rattle.std.specs.Fmt.{decimal}
 use Rattle.scan_base.specs.declared.fault.Fault.{Fault}
-use Rattle.scan_base.specs.declared.fault.Fault.TheVariants.{BadFlatbuffer}
+use Rattle.scan_base.specs.declared.fault.Fault.TheVariants.{BadFlatbuffer, UnsupportedArrow}
 use Rattle.scan_base.specs.Reading.{◌>>=◌, wanted}
 use Rattle.flatbuf.specs.Layout.{TableAt, VectorAt}
 use Rattle.flatbuf.specs.Place.{element_of, scalar_of, table_of, text_of, vector_of}
+use Rattle.arrow_types.specs.declared.data_type.DataType.{DataType}
+use Rattle.arrow_schema.specs.Fields.{value_type_of}
 use Rattle.arrow_schema.specs.Header.{header_of, message_of}
 use Rattle.fault_hints.specs.declared.refused_types.ColumnType.{ColumnType}
 use Rattle.fault_hints.specs.declared.refused_types.ColumnRead.{ColumnRead}
 
--- ---- a type: the number of its kind, and two numbers that say more: of a decimal the precision and
--- the scale, of a date the unit
-
--- whether a type is taken: integers, strings, booleans, decimals of 38 digits without a scale, and
--- dates in days
-abbrev pub is_taken : ColumnType → Bool
-is_taken type =
-    if (type.kind == 2) || ((type.kind == 5) || (type.kind == 6)) then type.first == 0 else
-    if type.kind == 7 then (type.first == 38) && (type.second == 0) else
-    if type.kind == 8 then type.first == 0 else
-    false
+-- ---- a type that is not taken: the number of its kind, and of a decimal its precision and scale
 
 -- the names of kinds
 abbrev pub kind_names : List (ℕ × List ℕ)
 kind_names =
-    (1, codes "null") ∷ (3, codes "floating point") ∷ (4, codes "binary") ∷ (8, codes "date64")
-    ∷ (9, codes "time") ∷ (10, codes "timestamp") ∷ (11, codes "interval") ∷ (12, codes "list")
-    ∷ (13, codes "struct") ∷ (14, codes "union") ∷ (15, codes "fixed size binary")
-    ∷ (16, codes "fixed size list") ∷ (17, codes "map") ∷ (18, codes "duration")
-    ∷ (19, codes "large binary") ∷ (20, codes "large utf8") ∷ (21, codes "large list")
-    ∷ (23, codes "binary view") ∷ (24, codes "utf8 view") ∷ []
+    (1, codes "null") ∷ (2, codes "integer of another width") ∷ (3, codes "floating point")
+    ∷ (4, codes "binary") ∷ (8, codes "date64") ∷ (9, codes "time")
+    ∷ (10, codes "timestamp of another unit or zone") ∷ (11, codes "interval")
+    ∷ (12, codes "list") ∷ (13, codes "struct") ∷ (14, codes "union")
+    ∷ (15, codes "fixed size binary") ∷ (16, codes "fixed size list") ∷ (17, codes "map")
+    ∷ (18, codes "duration") ∷ (19, codes "large binary") ∷ (20, codes "large utf8")
+    ∷ (21, codes "large list") ∷ (23, codes "binary view") ∷ (24, codes "utf8 view") ∷ []
 
 -- the name of a kind among these
 abbrev pub name_among : List (ℕ × List ℕ) → ℕ → List ℕ
@@ -67,7 +60,6 @@ type_said kind table =
     if kind == 7 then
     (scalar_of 4 table 0 0 >>= λ precision. (scalar_of 4 table 1 0 >>= λ scale.
     Ok (typed kind precision scale))) else
-    if kind == 8 then (scalar_of 2 table 0 1 >>= λ unit. Ok (typed kind unit 0)) else
     Ok (typed kind 0 0)
 
 -- the column that a Field table says
@@ -81,13 +73,18 @@ column_said field = do
   type ← type_said kind table
   Ok (record { name = name; type = type })
 
--- the column, where its type is not taken
-abbrev pub refused_of : Result ColumnAt Fault → Option ColumnAt
-refused_of (Ok column) = if is_taken column.type then None else Some column
-refused_of (Err fault) = None
+-- a column, where the type of its values is refused as one that is not taken
+abbrev pub refused_of : Result DataType Fault → Result ColumnAt Fault → Option ColumnAt
+refused_of (Err UnsupportedArrow) (Ok column) = Some column
+refused_of _ _ = None
+
+-- the column that a Field table says, where its type is not taken
+abbrev pub refused_in : Result TableAt Fault → Option ColumnAt
+refused_in (Ok field) = refused_of (value_type_of field) (column_said field)
+refused_in (Err fault) = None
 
 abbrev pub refused_at : VectorAt → ℕ → Option ColumnAt
-refused_at vector place = refused_of (element_of vector place >>= column_said)
+refused_at vector place = refused_in (element_of vector place)
 
 -- the first of so many columns from a place on whose type is not taken
 abbrev pub first_refused : VectorAt → ℕ → ℕ → Option ColumnAt

@@ -10,6 +10,7 @@ use crate::marked_lines::marked;
 use crate::question::Question;
 use crate::refused_types::{column_line, refused_type_line};
 use arrow_schema::MAX_NAME_BYTES;
+use number_words::spelling_line;
 use scan_base::{Fault, PutMode};
 use sql_text::MOST_BYTES;
 use std::alloc::{AllocError, Global};
@@ -48,7 +49,7 @@ fn query_line(fault: Fault) -> &'static [u8]
         Fault::TableMissing => b"`flightscan tables` prints the names; their case counts\n",
         Fault::UnknownName => { b"a name stands for no column, or for several; its case counts\n" }
         Fault::TypeClash => {
-            b"compare numbers with numbers, 'texts' with texts, DATE '2026-11-28' with dates\n"
+            b"compare numbers with numbers, 'texts' with texts, else by a word: DATE '2026-11-28'\n"
         }
         Fault::BadTicket => b"the tables are no longer those of the query: ask again\n",
         Fault::VersionExpired => b"the tables of the query have expired: ask again\n",
@@ -158,9 +159,7 @@ pub fn spelling_lines(fault: Fault) -> &'static [u8]
     ensures { result.now ≡ spelling_lines fault }
 {
     match fault {
-        Fault::BadBatch => {
-            b"'a:int8, b:utf8?': int8 to int64, uint8 to uint64, decimal, date, bool or utf8\n"
-        }
+        Fault::BadBatch => spelling_line(),
         Fault::LimitReached => b"64 columns, and 64 bytes of a name, are the most\n",
         _ => b"",
     }

@@ -1,19 +1,19 @@
 //! The first column of a schema whose type is not taken.
 
-ghost use Rattle.std.specs.Prelude.{◌≡◌, ◌<◌, ◌++◌, codes, IfOk, Ok, Some, option_map, string_bytes};
+ghost use Rattle.std.specs.Prelude.{◌≡◌, ◌<◌, ◌++◌, codes, IfOk, Some, option_map, string_bytes};
 ghost use Rattle.scan_base.specs.Reading.{Gives};
 ghost use Rattle.fault_hints.specs.RefusedTypes.{column_at, column_line, column_said, columns_in};
-ghost use Rattle.fault_hints.specs.RefusedTypes.{first_refused, is_taken, kind_names, name_among};
+ghost use Rattle.arrow_schema.specs.Fields.{value_type_of};
+ghost use Rattle.fault_hints.specs.RefusedTypes.{first_refused, kind_names, name_among};
 ghost use Rattle.fault_hints.specs.RefusedTypes.{refused_at, refused_of, refused_type_line};
 ghost use Rattle.fault_hints.specs.RefusedTypes.{type_said, type_words, typed};
 
-use arrow_schema::read_message;
+use arrow_schema::{read_message, value_type};
 use flatbuf::{Table, Vector, Width};
 use scan_base::Fault;
 use std::alloc::{AllocError, Global};
 
-/// A type: the number of its kind, and two numbers that say more: the precision and the scale of a
-/// decimal, the unit of a date.
+/// A type: the number of its kind, and the precision and the scale of a decimal.
 #[derive(Clone, Copy)]
 pub(crate) struct ColumnType {
     pub kind: u64,
@@ -28,28 +28,18 @@ pub(crate) struct ColumnRead<'a> {
     pub data_type: ColumnType,
 }
 
-// Whether a type is taken.
-fn is_taken(data_type: ColumnType) -> bool
-    ensures { result ≡ is_taken data_type }
-{
-    match data_type.kind {
-        2 | 5 | 6 | 8 => data_type.first == 0,
-        7 => data_type.first == 38 && data_type.second == 0,
-        _ => false,
-    }
-}
-
 // The name of a kind.
 fn kind_name(kind: u64) -> &'static str
     ensures { result.now ≡ name_among kind_names kind }
 {
     match kind {
         1 => "null",
+        2 => "integer of another width",
         3 => "floating point",
         4 => "binary",
         8 => "date64",
         9 => "time",
-        10 => "timestamp",
+        10 => "timestamp of another unit or zone",
         11 => "interval",
         12 => "list",
         13 => "struct",
@@ -100,7 +90,6 @@ fn type_said(kind: u64, table: &Table<'_>) -> Result<ColumnType, Fault>
             let second = table.scalar(1, Width::Four, 0)?;
             Ok(typed(kind, first, second))
         }
-        8 => Ok(typed(kind, table.scalar(0, Width::Two, 1)?, 0)),
         _ => Ok(typed(kind, 0, 0)),
     }
 }
@@ -117,14 +106,15 @@ fn column_said<'a>(field: &Table<'a>) -> Result<ColumnRead<'a>, Fault>
     Ok(ColumnRead { name, data_type })
 }
 
-// The column, where its type is not taken.
-fn unless_taken<'a>(column: ColumnRead<'a>) -> Option<ColumnRead<'a>>
-    ensures { option_map column_at result ≡ refused_of (Ok (column_at column.entry)) }
+// The column that a Field table says, where its type is not taken.
+fn refused_column<'a>(field: &Table<'a>) -> Option<ColumnRead<'a>>
+    ensures { option_map column_at result
+        ≡ refused_of (value_type_of field.now) (column_said field.now) }
 {
-    if is_taken(column.data_type) {
-        return None;
+    match (value_type(field), column_said(field)) {
+        (Err(Fault::UnsupportedArrow), Ok(column)) => Some(column),
+        (_, _) => None,
     }
-    Some(column)
 }
 
 // The column at a place, where its type is not taken.
@@ -132,11 +122,8 @@ fn refused_at<'a>(vector: &Vector<'a>, place: usize) -> Option<ColumnRead<'a>>
     requires { place < (vector.now).count }
     ensures { option_map column_at result ≡ refused_at vector.now place }
 {
-    let Ok(field) = vector.table(place) else {
-        return None;
-    };
-    match column_said(&field) {
-        Ok(column) => unless_taken(column),
+    match vector.table(place) {
+        Ok(field) => refused_column(&field),
         Err(_) => None,
     }
 }

@@ -4,7 +4,7 @@ use Rattle.scan_base.specs.declared.fault.Fault.{Fault}
 use Rattle.scan_base.specs.declared.fault.Fault.TheVariants.{OutOfMemory}
 use Rattle.arrow_types.specs.declared.schema.Schema.{Schema}
 use Rattle.sql_text.specs.Standard.{Lexeme}
-use Rattle.sql_text.specs.Reading.{tokens_in}
+use Rattle.number_words.specs.LiteralWords.{worded_tokens_in as tokens_in}
 use Rattle.sql_query.specs.Sentence.{Sentence}
 use Rattle.sql_parse.specs.Parse.{Refuses, Parsed}
 use Rattle.sql_parse.specs.Tokens.{mark_of}

@@ -5,7 +5,7 @@ use Rattle.std.proofs.lemmas.List.Elements.{All-weaker}
 use Rattle.scan_base.specs.declared.fault.Fault.{Fault}
 use Rattle.scan_base.specs.Limits.{most_rows}
 use Rattle.arrow_types.specs.Schema.{IsSchema}
-use Rattle.sql_text.specs.Reading.{tokens_in}
+use Rattle.number_words.specs.LiteralWords.{worded_tokens_in as tokens_in}
 use Rattle.sql_query.specs.declared.query.SelectItem.{SelectItem}
 use Rattle.sql_query.specs.declared.query.Select.{Select}
 use Rattle.sql_query.specs.declared.query.Select.TheVariants as select

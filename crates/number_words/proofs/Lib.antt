@@ -5,4 +5,7 @@ pub mod Texts
 pub mod Printed
 pub mod Signs
 pub mod TypeWords
+pub mod MomentTexts
+pub mod LiteralNames
+pub mod MomentForms
 pub mod Back

@@ -1,14 +1,15 @@
 -- Worked rows.
-use Rattle.std.proofs.Common.{◌≡◌, Bool, if◌then◌else◌, List, ℕ, ℤ, Option, refl, sym, ap, ◌∙◌, codes, Some, None, pos, negsuc}
+use Rattle.std.proofs.Common.{◌≡◌, Bool, if◌then◌else◌, List, ◌++◌, ℕ, ℤ, Option, refl, sym, ap, ◌∙◌, codes, Some, None, pos, negsuc}
 use Rattle.std.specs.Prelude.{unwrap_or}
 use Rattle.std.specs.Fmt.{digits, signed_decimal}
 use Rattle.jiff_core.specs.Calendar.{days_from_civil, day_count, days_of_years, days_of_months}
 use Rattle.number_words.specs.Dates.{day_in}
 use Rattle.arrow_types.specs.declared.data_type.IntegerType.TheVariants.{Int8, Int16, Int32}
 use Rattle.arrow_types.specs.declared.data_type.Cell.TheVariants as cell
-use Rattle.arrow_types.specs.declared.data_type.NumberType.TheVariants.{Integer, Decimal, Date}
+use Rattle.arrow_types.specs.declared.data_type.NumberType.TheVariants.{Integer, Decimal, Date, Timestamp}
 use Rattle.sql_text.specs.Values.{number_of}
 use Rattle.number_words.specs.DateText.{date_of}
+use Rattle.number_words.specs.Moments.{clock_in, fraction_in, moment_in, timestamp_text}
 use Rattle.number_words.specs.WholeNumbers.{kept_in}
 use Rattle.number_words.specs.NumberTexts.{form_of, literal_text, number_read, shown, worded}
 use Rattle.number_words.proofs.Texts.{texts_are_dates}
@@ -131,3 +132,46 @@ zeros = refl
 too_long : number_read Decimal (codes "100000000000000000000000000000000000000") ≡ None
 unfolding number_of
 too_long = refl
+
+-- ---- timestamps
+
+moment_day : day_in (codes "2024-05-01") ≡ Some (pos 19844)
+unfolding days_from_civil day_count days_of_years days_of_months
+moment_day = refl
+
+moment_read : number_read Timestamp (codes "2024-05-01 12:00:00.25") ≡ Some (pos 1714564800250000)
+unfolding days_from_civil day_count days_of_years days_of_months moment_in clock_in fraction_in
+moment_read = refl
+
+whole_second : number_read Timestamp (codes "2024-05-01 12:00:00") ≡ Some (pos 1714564800000000)
+unfolding days_from_civil day_count days_of_years days_of_months moment_in clock_in fraction_in
+whole_second = refl
+
+before_1970 : number_read Timestamp (codes "1969-12-31 23:59:59.999999") ≡ Some (negsuc 0)
+unfolding days_from_civil day_count days_of_years days_of_months moment_in clock_in fraction_in
+before_1970 = refl
+
+moment_shown : shown Timestamp (pos 1714564800250000) ≡ codes "2024-05-01 12:00:00.250000"
+moment_shown =
+    let law = texts_are_dates (codes "2024-05-01") (pos 19844) moment_day in
+    let form : form_of Timestamp (pos 1714564800250000) ≡ Some (codes "2024-05-01 12:00:00.250000")
+    = ap (λ (test : Bool). if test then Some (timestamp_text (pos 1714564800250000)) else None) law.0
+    ∙ ap (λ (date : List ℕ). Some (date ++ codes " 12:00:00.250000")) (sym law.1) in
+    ap (λ (o : Option (List ℕ)). unwrap_or o (signed_decimal (pos 1714564800250000))) form
+
+-- a microsecond has no parts, a point is before a digit, a day ends before 24:00:00
+nanosecond : number_read Timestamp (codes "2024-05-01 12:00:00.0000001") ≡ None
+unfolding days_from_civil day_count days_of_years days_of_months moment_in clock_in fraction_in
+nanosecond = refl
+
+no_digit : number_read Timestamp (codes "2024-05-01 12:00:00.") ≡ None
+unfolding days_from_civil day_count days_of_years days_of_months moment_in clock_in fraction_in
+no_digit = refl
+
+hour_24 : number_read Timestamp (codes "2024-05-01 24:00:00") ≡ None
+unfolding days_from_civil day_count days_of_years days_of_months moment_in clock_in fraction_in
+hour_24 = refl
+
+letter_between : number_read Timestamp (codes "2024-05-01T12:00:00") ≡ None
+unfolding moment_in
+letter_between = refl

@@ -10,18 +10,18 @@ use Rattle.number_words.specs.DateText.{in_two_digits, date_text, has_date, date
 use Rattle.number_words.proofs.Parts.{both, HasForm, form_parts, from_to-parts, from_to-true}
 use Rattle.number_words.proofs.Numbers.{IsShownDate, year_found, month_found, day_found, date_is_shown}
 
-all : (a b : Bool) → IsTrue a → IsTrue b → IsTrue (a && b)
+pub all : (a b : Bool) → IsTrue a → IsTrue b → IsTrue (a && b)
 all a b p q = rw (p, q) refl
 
 -- a number below 100, in two digits, and back
 
-digit_stands : (n : ℕ) → n < 10 → IsTrue (is_ascii_digit (48 + n))
+pub digit_stands : (n : ℕ) → n < 10 → IsTrue (is_ascii_digit (48 + n))
 digit_stands n h = grind (arith, nat_tests)
 
-two_stand_there : (n : ℕ) → n < 100 → IsTrue (is_ascii_digit (48 + n / 10) && is_ascii_digit (48 + n % 10))
+pub two_stand_there : (n : ℕ) → n < 100 → IsTrue (is_ascii_digit (48 + n / 10) && is_ascii_digit (48 + n % 10))
 two_stand_there n h = all _ _ (digit_stands (n / 10) (omega arith)) (digit_stands (n % 10) (omega arith))
 
-said : (n : ℕ) → 10 * (48 + n / 10 - 48) + (48 + n % 10 - 48) ≡ n
+pub said : (n : ℕ) → 10 * (48 + n / 10 - 48) + (48 + n % 10 - 48) ≡ n
 said n = omega arith
 
 digit_bounds : (b : ℕ) → IsTrue (is_ascii_digit b) → (48 ≤ b) × (b ≤ 57)

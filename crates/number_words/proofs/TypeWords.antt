@@ -6,7 +6,7 @@ use Rattle.std.specs.List.{list_all}
 use Rattle.std.specs.Str.{byte}
 use Rattle.arrow_types.specs.declared.data_type.IntegerType.TheVariants.{Int8, Int16, Int32, Int64, UInt8, UInt16, UInt32, UInt64}
 use Rattle.arrow_types.specs.declared.data_type.NumberType.{NumberType}
-use Rattle.arrow_types.specs.declared.data_type.NumberType.TheVariants.{Integer, Decimal, Date}
+use Rattle.arrow_types.specs.declared.data_type.NumberType.TheVariants.{Integer, Decimal, Date, Timestamp}
 use Rattle.number_words.specs.declared.words.TheConstants.{TYPES}
 use Rattle.number_words.specs.NumberTexts.{word}
 
@@ -26,6 +26,7 @@ plain_word (Integer UInt32) = refl
 plain_word (Integer UInt64) = refl
 plain_word Decimal = refl
 plain_word Date = refl
+plain_word Timestamp = refl
 
 -- a text that is the word of none of them is that of no type
 pub none_named : (text : List ℕ) → ((k : ℕ) (d : NumberType) → k < length TYPES → text ≢ word (get_or TYPES k d)) → (kind : NumberType) → text ≢ word kind
@@ -39,3 +40,4 @@ none_named text other (Integer UInt32) = other 6 Date (omega arith)
 none_named text other (Integer UInt64) = other 7 Date (omega arith)
 none_named text other Decimal = other 8 Date (omega arith)
 none_named text other Date = other 9 Date (omega arith)
+none_named text other Timestamp = other 10 Date (omega arith)

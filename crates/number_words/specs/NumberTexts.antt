@@ -7,9 +7,11 @@ use Rattle.arrow_types.specs.declared.data_type.IntegerType.TheVariants.{UInt8, 
 use Rattle.arrow_types.specs.declared.data_type.IntegerType.TheVariants.{UInt64}
 use Rattle.arrow_types.specs.declared.data_type.NumberType.{NumberType}
 use Rattle.arrow_types.specs.declared.data_type.NumberType.TheVariants.{Integer, Decimal, Date}
+use Rattle.arrow_types.specs.declared.data_type.NumberType.TheVariants.{Timestamp}
 use Rattle.arrow_types.specs.DataType.{cell_of}
 use Rattle.number_words.specs.Dates.{day_in}
 use Rattle.number_words.specs.DateText.{date_within, has_date}
+use Rattle.number_words.specs.Moments.{day_at, in_micros, moment_in, timestamp_within}
 use Rattle.number_words.specs.WholeNumbers.{holds, kept_in, decimal_in}
 
 -- ---- words
@@ -26,21 +28,30 @@ word (Integer UInt32) = codes "uint32"
 word (Integer UInt64) = codes "uint64"
 word Decimal = codes "decimal"
 word Date = codes "date"
+word Timestamp = codes "timestamp"
+
+-- how a column of a text is spelled, with the words of all types, for people
+abbrev pub spelling_line : List ℕ
+spelling_line =
+    codes "'a:int8, b:utf8?': int8..int64, uint8..uint64, decimal, date, timestamp, bool or utf8\n"
 
 -- the word before a literal of a type; an integer and a decimal have none
 abbrev pub keyword : NumberType → Option (List ℕ)
 keyword Date = Some (codes "DATE")
+keyword Timestamp = Some (codes "TIMESTAMP")
 keyword _ = None
 
 -- the types that a text may be of, in the order in which they are tried
 abbrev pub types_tried : List NumberType
-types_tried = Integer Int64 ∷ Decimal ∷ Date ∷ []
+types_tried = Integer Int64 ∷ Decimal ∷ Date ∷ Timestamp ∷ []
 
 -- ---- what is printed
 
--- what a type has for a number in the place of its decimal: a date in the years 1 to 9999
+-- what a type has for a number in the place of its decimal: a date, and a timestamp, in the years
+-- 1 to 9999
 abbrev pub form_of : NumberType → ℤ → Option (List ℕ)
 form_of Date day = date_within day
+form_of Timestamp micros = timestamp_within micros
 form_of _ number = None
 
 -- what is printed of a number: its form, or else its decimal
@@ -60,9 +71,10 @@ literal_text kind number =
 
 -- ---- what is read
 
--- the number that a text says: a day, or a whole number
+-- the number that a text says: a day, microseconds, or a whole number
 abbrev pub number_said : NumberType → List ℕ → Option ℤ
 number_said Date text = day_in text
+number_said Timestamp text = in_micros (moment_in text)
 number_said _ text = decimal_in text
 
 -- the number that a text says, if a cell of the type holds it
@@ -71,9 +83,10 @@ number_read kind text = kept_in (cell_of kind) (number_said kind text)
 
 -- ---- laws
 
--- whether a text may say the number: a day of the years 1 to 9999, or a number below 10^38
+-- whether a text may say the number: it lies in the years 1 to 9999, or is below 10^38
 abbrev pub is_sayable : NumberType → ℤ → Bool
 is_sayable Date day = has_date day
+is_sayable Timestamp micros = has_date (day_at micros)
 is_sayable _ number = nat_lt (unsigned_abs number) (10 ^ 38)
 
 -- what is printed of a number that fits its type and that a text may say reads as that number

@@ -3,5 +3,6 @@
 mod printing;
 mod reading;
 
-pub use printing::date_of;
+pub(crate) use printing::{FORM_BYTES, date_of, push_two_digits};
 pub use reading::day_in;
+pub(crate) use reading::{day_of_bytes, two_digits, two_stand};

@@ -13,6 +13,7 @@ pub fn shown_reads_back(kind: NumberType, number: i128)
     ensures { ReadsBack kind number }
 {
     let _date = date_of(number);
+    let _day = date_of(number.div_euclid(86_400_000_000));
 }
 
 /// The order in which types are tried is that of the definitions.

@@ -3,12 +3,15 @@
 
 mod calendar;
 pub mod laws;
+mod literal_words;
+mod moment;
 mod number_text;
 mod reading;
 mod whole_number;
 mod words;
 
 pub use crate::calendar::day_in;
+pub use crate::literal_words::tokens;
 pub use crate::number_text::NumberText;
 pub use crate::reading::read;
-pub use crate::words::{TYPES_TRIED, keyword, type_named, word};
+pub use crate::words::{TYPES_TRIED, keyword, spelling_line, type_named, word};

@@ -4,8 +4,9 @@ ghost use Rattle.std.specs.Prelude.{◌≡◌, ◌≤◌, ◌++◌, codes, lengt
 ghost use Rattle.std.specs.Fmt.{signed_decimal};
 ghost use Rattle.number_words.specs.NumberTexts.{form_of, literal_text, shown, worded};
 
-use crate::calendar::date_of;
+use crate::calendar::{FORM_BYTES, date_of};
 use crate::keyword;
+use crate::moment::timestamp_of;
 use arrayvec::ArrayString;
 use arrow_types::NumberType;
 use itoa::Buffer;
@@ -14,7 +15,7 @@ use itoa::Buffer;
 #[derive(Clone, Copy)]
 pub struct NumberText {
     decimal: Buffer,
-    form: Option<ArrayString<10>>,
+    form: Option<ArrayString<FORM_BYTES>>,
     literal: Option<ArrayString<56>>,
 }
 
@@ -52,11 +53,12 @@ impl NumberText {
 }
 
 // What a type has for a number in the place of its decimal.
-fn form_of(kind: NumberType, number: i128) -> Option<ArrayString<10>>
+fn form_of(kind: NumberType, number: i128) -> Option<ArrayString<FORM_BYTES>>
     ensures { option_map (λ text. text.bytes) result ≡ form_of kind number }
 {
     match kind {
         NumberType::Date => date_of(number),
+        NumberType::Timestamp => timestamp_of(number),
         NumberType::Integer(_) | NumberType::Decimal => None,
     }
 }
@@ -75,7 +77,7 @@ fn worded(word: &str, kind: NumberType, number: i128) -> ArrayString<56>
 // A form in quotes, after a word.
 fn in_quotes(word: &str, form: &str) -> ArrayString<56>
     requires word { length word.now ≤ 12 }
-    requires form { length form.now ≤ 10 }
+    requires form { length form.now ≤ 26 }
     ensures { result.bytes ≡ word.now ++ (codes " '" ++ (form.now ++ codes "'")) }
 {
     let mut text = ArrayString::new();

@@ -3,12 +3,12 @@
 ghost use Rattle.std.specs.Prelude.{◌≡◌, ◌≢◌, ◌≤◌, IfSome, MatchOption, length, option_map};
 ghost use Rattle.arrow_types.specs.declared.data_type.NumberType.{NumberType};
 ghost use Rattle.arrow_types.specs.declared.data_type.NumberType.TheVariants as type;
-ghost use Rattle.number_words.specs.NumberTexts.{keyword, word};
+ghost use Rattle.number_words.specs.NumberTexts.{keyword, spelling_line, word};
 
 use arrow_types::{IntegerType, NumberType};
 
 // All types of numbers.
-const TYPES: [NumberType; 10] = [
+const TYPES: [NumberType; 11] = [
     NumberType::Integer(IntegerType::Int8),
     NumberType::Integer(IntegerType::Int16),
     NumberType::Integer(IntegerType::Int32),
@@ -19,13 +19,15 @@ const TYPES: [NumberType; 10] = [
     NumberType::Integer(IntegerType::UInt64),
     NumberType::Decimal,
     NumberType::Date,
+    NumberType::Timestamp,
 ];
 
 /// The types that a text may be of, in the order in which they are tried.
-pub const TYPES_TRIED: [NumberType; 3] = [
+pub const TYPES_TRIED: [NumberType; 4] = [
     NumberType::Integer(IntegerType::Int64),
     NumberType::Decimal,
     NumberType::Date,
+    NumberType::Timestamp,
 ];
 
 /// The type of a word, if it is one of a type.
@@ -49,6 +51,7 @@ pub fn word(kind: NumberType) -> &'static str
         NumberType::Integer(integer) => integer_word(integer),
         NumberType::Decimal => "decimal",
         NumberType::Date => "date",
+        NumberType::Timestamp => "timestamp",
     }
 }
 
@@ -68,6 +71,13 @@ fn integer_word(integer: IntegerType) -> &'static str
     }
 }
 
+/// A line for people: how a column is spelled, with the words of all types.
+pub fn spelling_line() -> &'static [u8]
+    ensures { result.now ≡ spelling_line }
+{
+    b"'a:int8, b:utf8?': int8..int64, uint8..uint64, decimal, date, timestamp, bool or utf8\n"
+}
+
 /// The word before a literal of a type, if it has one.
 pub fn keyword(kind: NumberType) -> Option<&'static str>
     ensures word { option_map (λ word. word.now) result ≡ keyword kind }
@@ -75,6 +85,7 @@ pub fn keyword(kind: NumberType) -> Option<&'static str>
 {
     match kind {
         NumberType::Date => Some("DATE"),
+        NumberType::Timestamp => Some("TIMESTAMP"),
         NumberType::Integer(_) | NumberType::Decimal => None,
     }
 }

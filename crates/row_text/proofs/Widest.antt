@@ -9,7 +9,8 @@ use Rattle.arrow_types.specs.declared.data_type.DataType.{DataType}
 use Rattle.arrow_types.specs.declared.schema.Field.{Field}
 use Rattle.arrays.specs.Batch.{BatchAt, row_of, rows_of}
 use Rattle.arrays.specs.Column.{ColumnAt, slot_of, values_of}
-use Rattle.row_text.specs.Tables.{values_of_column, column_width, greatest, value_width, widths_from}
+use Rattle.row_text.specs.TableCells.{values_of_column, column_width, greatest, value_width}
+use Rattle.row_text.specs.TableCells.{widths_from}
 
 -- the greatest of two lists, one after the other
 pub greatest_append : (n : ℕ) (xs ys : List ℕ) → greatest n (xs ++ ys) ≡ greatest (greatest n xs) ys

@@ -1,7 +1,7 @@
 //! The shape of a table's columns, and the blanks in their cells.
 
 ghost use Rattle.std.specs.Prelude.{◌≡◌};
-ghost use Rattle.row_text.specs.Tables.{before, behind, blanks, dashes, stands_right};
+ghost use Rattle.row_text.specs.TableCells.{before, behind, blanks, dashes, stands_right};
 
 use crate::widths::MOST_WIDTH;
 use arrow_types::DataType;

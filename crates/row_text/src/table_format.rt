@@ -32,7 +32,7 @@ impl<'a> TableFormat<'a> {
 }
 
 impl<'a> ValueFormat for TableFormat<'a> {
-    ghost use Rattle.row_text.specs.Tables.{table_notation};
+    ghost use Rattle.row_text.specs.TableCells.{table_notation};
 
     ghost notation = { table_notation };
 

@@ -4,7 +4,7 @@ ghost use Rattle.std.specs.Prelude.{◌≡◌, ◌∷◌, [], ℕ, List, MatchOp
 ghost use Rattle.std.specs.List.{flat_map};
 ghost use Rattle.grpc_frame.specs.Ends.{CanFail, CountsFailure, FailsByTransport};
 ghost use Rattle.grpc_frame.specs.Sending.{Sends};
-ghost use Rattle.row_text.specs.Tables.{control_text, is_control, is_escaped};
+ghost use Rattle.row_text.specs.TableCells.{control_text, is_control, is_escaped};
 
 use grpc_frame::{Outbox, Output};
 use scan_base::Fault;
@@ -78,7 +78,7 @@ fn control_text(byte: u8) -> &'static [u8]
 pub(crate) struct CellEscapes;
 
 impl Spelling for CellEscapes {
-    ghost use Rattle.row_text.specs.Tables.{cell_byte};
+    ghost use Rattle.row_text.specs.TableCells.{cell_byte};
 
     ghost spelled = { cell_byte };
 

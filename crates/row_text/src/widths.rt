@@ -6,9 +6,9 @@ ghost use Rattle.scan_base.specs.Limits.{most_columns};
 ghost use Rattle.scan_base.specs.Value.{value_of};
 ghost use Rattle.arrays.specs.Batch.{rows_of};
 ghost use Rattle.arrays.specs.Column.{values_of};
-ghost use Rattle.row_text.specs.Tables.{values_of_column, column_width, greatest, is_control};
-ghost use Rattle.row_text.specs.Tables.{is_escaped};
-ghost use Rattle.row_text.specs.Tables.{text_width, value_width, widths_from};
+ghost use Rattle.row_text.specs.TableCells.{values_of_column, column_width, greatest, is_control};
+ghost use Rattle.row_text.specs.TableCells.{is_escaped};
+ghost use Rattle.row_text.specs.TableCells.{text_width, value_width, widths_from};
 
 use crate::text::{is_control, is_escaped};
 use crate::value::numbers_of;

@@ -22,7 +22,7 @@ use Rattle.sql_parse.specs.FactoredGrammar.{factor_by_operand}
 use Rattle.sql_query.specs.Sentence.{Sentence, is_left_out_whole}
 use Rattle.sql_parse.proofs.Told.{Told}
 use Rattle.sql_parse.specs.Parse.{Answered, Parsed}
-use Rattle.sql_text.specs.Reading.{tokens_in}
+use Rattle.number_words.specs.LiteralWords.{worded_tokens_in as tokens_in}
 use Rattle.sql_text.specs.Calls.{lexeme_of}
 use Rattle.std.proofs.Common.{zero, suc, append_assoc}
 use Rattle.std.proofs.lemmas.List.{take-take, take-append-drop, length-take-le}

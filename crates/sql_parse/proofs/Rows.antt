@@ -15,14 +15,16 @@ use Rattle.scan_base.specs.declared.truth.Truth.TheVariants.{True}
 use Rattle.scan_base.specs.Predicate.{Pred, conjunction, disjunction, negation, truth_test, comparing, between}
 use Rattle.scan_base.specs.Predicate.{membership, null_test}
 use Rattle.sql_text.specs.Standard.{Lexeme}
-use Rattle.sql_text.specs.Reading.{pair, single, mark_front, front_at, tokens_within, tokens_from, tokens_in}
+use Rattle.sql_text.specs.Reading.{pair, single, mark_front, front_at, tokens_within, tokens_from, tokens_in as plain_tokens_in}
+use Rattle.number_words.specs.LiteralWords.{worded_tokens_in as tokens_in}
 use Rattle.sql_text.specs.Values.{number_of, unquoted}
 use Rattle.sql_text.specs.Words.{word_kind}
 use Rattle.jiff_core.specs.Calendar.{days_from_civil, day_count, days_of_years, days_of_months}
+use Rattle.number_words.specs.Moments.{clock_in, fraction_in, moment_in}
 use Rattle.grammar.specs.Reading.{begins, token, reads, read}
 use Rattle.grammar.specs.Sentence.{Begins, Offends}
 use Rattle.sql_query.specs.declared.query.ColumnName.{ColumnName}
-use Rattle.arrow_types.specs.declared.data_type.NumberType.TheVariants.{Decimal, Date}
+use Rattle.arrow_types.specs.declared.data_type.NumberType.TheVariants.{Decimal, Date, Timestamp}
 use Rattle.sql_query.specs.declared.query.Literal.{Literal}
 use Rattle.sql_query.specs.declared.query.Literal.TheVariants as literals
 use Rattle.sql_query.specs.declared.query.Term.{Term}
@@ -82,7 +84,7 @@ answer_of end (Err fault) = Err fault
 answer_of end (Ok lexemes) = answered end (map mark_of lexemes) (outcome (map mark_of lexemes))
 
 answer : List ℕ → Result Sentence Fault
-unfolding tokens_in tokens_from tokens_within front_at mark_front pair single word_kind number_of unquoted same_word
+unfolding plain_tokens_in tokens_in tokens_from tokens_within front_at mark_front pair single word_kind number_of unquoted same_word
     same_symbol begins token seen counted is_past is_long_name passes name column minus digits date number string literal operand
     compare negated conj pred truth_value alias selection item list place equal join group filter source ending query
     compared nulled ranged among tail forms primary test factor_by_operand
@@ -383,6 +385,11 @@ a_date : Means (codes "SELECT a FROM t WHERE a = DATE '1994-01-01'")
     (Ok (filtered (comparing Equal a (literally (literals.Number Date (pos 8766))))))
 unfolding answer days_from_civil day_count days_of_years days_of_months
 a_date = worked refl
+
+a_timestamp : Means (codes "SELECT a FROM t WHERE a = TIMESTAMP '1994-01-01 00:00:00.5'")
+    (Ok (filtered (comparing Equal a (literally (literals.Number Timestamp (pos 757382400500000))))))
+unfolding answer days_from_civil day_count days_of_years days_of_months clock_in fraction_in moment_in
+a_timestamp = worked refl
 
 a_truth : Means (codes "SELECT a FROM t WHERE a = TRUE") (Ok (filtered (comparing Equal a (literally (literals.Truth true)))))
 unfolding answer

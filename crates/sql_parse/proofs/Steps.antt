@@ -5,6 +5,7 @@ use Rattle.std.specs.Prelude.{◌==◌, ℤ}
 use Rattle.sql_text.specs.Values.{number_of}
 use Rattle.std.proofs.lemmas.Bool.{ne_eqb}
 use Rattle.jiff_core.specs.Calendar.{days_from_civil, day_count, days_of_years, days_of_months}
+use Rattle.number_words.specs.Moments.{clock_in, fraction_in, moment_in}
 use Rattle.arrow_types.specs.declared.data_type.NumberType.{NumberType}
 use Rattle.arrow_types.specs.declared.data_type.NumberType.TheVariants.{Date}
 use Rattle.sql_text.specs.declared.word.Keyword.{Keyword}
@@ -114,8 +115,8 @@ unfolding date at
 date_starts ts = refl
 
 literal_same : (D : Nest) (ts : List Mark) → seen (reads D literal ts) ≡ literal_at ts
-unfolding literal literal_at token_at at string
-literal_same D ts = simp (flat, date_starts, date_same, number_same)
+unfolding literal literal_at number_after_at token_at at string
+literal_same D ts = simp (flat, date_starts, date_same, seen_kept, then_same, number_same)
 
 pub operand_same : (D : Nest) (ts : List Mark) → seen (reads D operand ts) ≡ operand_at ts
 unfolding operand operand_at
@@ -268,6 +269,7 @@ nil_after xs ys x = append_assoc xs (x ∷ []) ys
 
 operand_made : well_made (a_symbol symbol.Comma ⊳ operand) ≡ true
 unfolding literal operand column name number minus digits date string same_symbol same_word number_of unquoted days_from_civil day_count days_of_years days_of_months
+    clock_in fraction_in moment_in
 operand_made = refl
 
 operands_flat : (D : Nest) (ts : List Mark) →

@@ -6,7 +6,7 @@ use Rattle.scan_base.specs.declared.fault.Fault.{Fault}
 use Rattle.scan_base.specs.declared.fault.Fault.TheVariants.{OutOfMemory, LimitReached, NotInSubset}
 use Rattle.scan_base.specs.declared.fault.Fault.TheVariants.{BadSql}
 use Rattle.sql_text.specs.Standard.{Lexeme}
-use Rattle.sql_text.specs.Reading.{tokens_in}
+use Rattle.number_words.specs.LiteralWords.{worded_tokens_in as tokens_in}
 use Rattle.sql_text.specs.Words.{is_left_out}
 use Rattle.grammar.specs.Rule.{Language, Spells, Nested, Any}
 use Rattle.grammar.specs.Sentence.{Begins, Offends}

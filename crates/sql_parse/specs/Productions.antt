@@ -1,7 +1,7 @@
 -- The grammar of operands, production by production.
 use Rattle.std.specs.Prelude.{Bool, true, false, ℕ, ℤ, neg_ℤ, List, Option, Some, None}
 use Rattle.arrow_types.specs.declared.data_type.NumberType.{NumberType}
-use Rattle.arrow_types.specs.declared.data_type.NumberType.TheVariants.{Decimal, Date}
+use Rattle.arrow_types.specs.declared.data_type.NumberType.TheVariants.{Decimal, Date, Timestamp}
 use Rattle.scan_base.specs.declared.comparison.Comparison.{Comparison}
 use Rattle.scan_base.specs.declared.comparison.Comparison.TheVariants as comparison
 use Rattle.scan_base.specs.declared.predicate.Operand.{Operand}
@@ -19,6 +19,7 @@ use Rattle.number_words.specs.NumberTexts.{number_read}
 use Rattle.sql_text.specs.Words.{is_name}
 use Rattle.sql_parse.specs.Tokens.{Mark, is_string, is_digits}
 use Rattle.sql_parse.specs.Tokens.{name_token, string_token, digits_token, date_token}
+use Rattle.sql_parse.specs.Tokens.{timestamp_token}
 use Rattle.sql_text.specs.Calls.{said, numeral}
 use Rattle.sql_parse.specs.Notation.{Of, a_word, a_symbol, word_for, symbol_for, ◌⊳◌}
 use Rattle.sql_parse.specs.Notation.{maybe}
@@ -68,11 +69,12 @@ number_after before kind token = make (Number kind)
 unfoldable pub date : Of Literal
 date = number_after word.Date Date date_token
 
--- DATE string | string | TRUE | FALSE | number
+-- DATE string | TIMESTAMP string | string | TRUE | FALSE | number
 unfoldable pub literal : Of Literal
-literal = either date (either (make Text string)
+literal = either date
+    (either (number_after word.Timestamp Timestamp timestamp_token) (either (make Text string)
     (either (word_for word.True (Truth true)) (either (word_for word.False (Truth false))
-    (make (Number Decimal) number))))
+    (make (Number Decimal) number)))))
 
 -- column | literal
 unfoldable pub operand : Of (Operand Term)

@@ -94,3 +94,7 @@ digits_token = (kind.Digits, (0, codes "0"))
 -- a token that is the text of a date
 abbrev pub date_token : Mark
 date_token = (kind.String, (0, codes "'1970-01-01'"))
+
+-- a token that is the text of a timestamp
+abbrev pub timestamp_token : Mark
+timestamp_token = (kind.String, (0, codes "'1970-01-01 00:00:00'"))

@@ -111,7 +111,7 @@ fn number_after<'t>(
     }
 }
 
-// DATE string | string | TRUE | FALSE | number
+// DATE string | TIMESTAMP string | string | TRUE | FALSE | number
 #[tactic(auto, unfolding(crate::specs::Steps::literal_at))]
 fn literal<'t>(alloc: Global, tokens: Rest<'t>) -> Result<(Literal, Rest<'t>), Refusal>
     ensures exact { Gives (λ x. (x.0, unread x.1)) result (steps.literal_at (unread tokens.entry)) }
@@ -119,6 +119,8 @@ fn literal<'t>(alloc: Global, tokens: Rest<'t>) -> Result<(Literal, Rest<'t>), R
 {
     if tokens.at(Class::Word(Keyword::Date)) {
         number_after(alloc, tokens, Keyword::Date, NumberType::Date)
+    } else if tokens.at(Class::Word(Keyword::Timestamp)) {
+        number_after(alloc, tokens, Keyword::Timestamp, NumberType::Timestamp)
     } else if tokens.at(Class::String) {
         let (token, rest) = tokens.take(Class::String)?;
         Ok((Literal::Text(token.value(alloc)?), rest))

@@ -112,6 +112,6 @@ pub fn parse(alloc: Global, sql: &str) -> Result<Query, Fault>
     ensures first { RefusesFirst result
         (demand (nat_le (length sql.now) most_query_bytes) LimitReached) }
 {
-    let tokens = sql_text::tokens(alloc, sql)?;
+    let tokens = number_words::tokens(alloc, sql)?;
     parse_tokens(alloc, &tokens, sql.len() as u32)
 }

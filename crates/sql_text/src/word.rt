@@ -31,6 +31,8 @@ pub enum Keyword {
     Count,
     Sum,
     Date,
+    /// `TIMESTAMP` before a string. No text is this word by itself.
+    Timestamp,
 }
 
 // A word and what it is.

@@ -26,7 +26,7 @@ Follows kept one other = (class : Class) → one ≡ Ok class → other ≡ Ok (
 pub number_bound : (kind : NumberType) → bound_class (number_class kind) ≡ Number
 number_bound (number.Integer integer) = refl
 number_bound number.Decimal = refl
-number_bound number.Date = refl
+number_bound _ = refl
 
 fault_follows : (kept : Class → Class) (a b : Result Class Fault) → Follows kept a b → fault_in a ≡ None → fault_in b ≡ None
 fault_follows kept (Ok class) b same e = ap fault_in (same class refl)

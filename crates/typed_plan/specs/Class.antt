@@ -11,7 +11,7 @@ use Rattle.sql_query.specs.declared.query.Literal.{Literal}
 use Rattle.sql_query.specs.declared.query.Literal.TheVariants as literal
 use Rattle.typed_plan.specs.contracts.class.Class.{the_type}
 use Rattle.typed_plan.specs.declared.class.Class.{Class}
-use Rattle.typed_plan.specs.declared.class.Class.TheVariants.{Number, Text, Truth, Date}
+use Rattle.typed_plan.specs.declared.class.Class.TheVariants.{Number, Text, Truth, Date, Timestamp}
 
 -- whether two classes are one
 abbrev pub same_class : Class → Class → Bool
@@ -22,6 +22,7 @@ abbrev pub number_class : NumberType → Class
 number_class (number.Integer integer) = Number
 number_class number.Decimal = Number
 number_class number.Date = Date
+number_class number.Timestamp = Timestamp
 
 -- the class of a column's values
 abbrev pub type_class : DataType → Class
@@ -45,6 +46,7 @@ literal_value (literal.Number kind number) = value.Int number
 -- the class of a bound operand: a literal there is a value, so a date is a number
 abbrev pub bound_class : Class → Class
 bound_class Date = Number
+bound_class Timestamp = Number
 bound_class class = class
 
 -- the class of a value, which is no null

@@ -18,6 +18,8 @@ pub enum Class {
     Truth,
     /// Dates.
     Date,
+    /// Timestamps.
+    Timestamp,
 }
 
 impl Class {
@@ -39,6 +41,7 @@ impl Class {
         match kind {
             NumberType::Integer(_) | NumberType::Decimal => Class::Number,
             NumberType::Date => Class::Date,
+            NumberType::Timestamp => Class::Timestamp,
         }
     }
 

@@ -1,9 +1,7 @@
 -- Inside: runs are written one after the other, while the next one's first stream is begun.
 use Rattle.std.specs.Prelude.{◌≡◌, ◌⊎◌, ◌≤◌, ℕ, ◌+◌, List, [], ◌∷◌, ◌++◌, map, length, Some, None}
 use Rattle.std.specs.Prelude.{Result, Ok, Err}
-use Rattle.scan_base.specs.declared.fault.Fault.{Fault}
 use Rattle.flight_proto.specs.FlightInfo.{EndpointSaid}
-use Rattle.flight_proto.specs.InfoCommand.{InfoCommand}
 use Rattle.flight_info.specs.Payloads.{Payload}
 use Rattle.flight_client.specs.Stream.{StreamAt}
 use Rattle.client_calls.specs.declared.failure.Failure.{Failure}
@@ -11,18 +9,14 @@ use Rattle.client_calls.specs.Outcome.{Line}
 use Rattle.client_calls.specs.Taking.{BeginsFetch, FetchAt}
 use Rattle.command_line.specs.declared.request.Format.{Format}
 use Rattle.command_ends.specs.Network.{Ends}
-use Rattle.command_ends.specs.Printing.{Said, Prints, cause_lines}
-use Rattle.command_ends.specs.declared.exit_status.ExitStatus.{ExitStatus}
-use Rattle.command_ends.specs.declared.exit_status.ExitStatus.TheVariants.{FaultAtThisEnd}
+use Rattle.command_ends.specs.Printing.{Said}
 use Rattle.client_commands.specs.declared.next_run.RefusedHandle.{RefusedHandle}
 use Rattle.client_commands.specs.declared.fetch_failure.FetchFailure.{FetchFailure}
 use Rattle.client_commands.specs.declared.fetch_failure.FetchFailure.TheVariants.{Failed}
 use Rattle.client_commands.specs.declared.fetch_failure.FetchFailure.TheVariants.{Unconnected}
 use Rattle.client_commands.specs.Fetching.{FetchesEach}
-use Rattle.client_commands.specs.InTurn.{BreaksUnconnected, IsWrittenWhole, RunsCame, StopsInTurn}
-use Rattle.client_commands.specs.InTurn.{Streams, StreamsUnconnected}
+use Rattle.client_commands.specs.InTurn.{RunsCame}
 use Rattle.client_commands.specs.Lines.{opened_line}
-use Rattle.client_commands.specs.Queries.{TellsEnd}
 use Rattle.client_commands.specs.ParallelFetch.{EachGives, GivesAtLast, Giving, IsEvenPart}
 use Rattle.client_commands.specs.ParallelFetch.{RefusesTwice}
 use Rattle.client_commands.specs.Streaming.{WritesBroken}
@@ -121,33 +115,3 @@ pub record IsTurnBy {N : Type 0} (Gives : Giving N) (format : Format) (first : L
   pub turn : IsTurn format (length handles + 1)
       (first ∷ map opened_line made) endpoints others behind begun now out
   pub remains : IsLeft (length endpoints) (length handles + 1) (length behind) (length left)
-
--- all runs were written, and what is written was ended; or not, and why
-abbrev pub WritesRuns : {N : Type 0} → Giving N → Format → Line → List N → List EndpointSaid →
-    Result (Unit {0}) FetchFailure → Said → Said → Type 0
-WritesRuns Gives format first handles endpoints (Ok done) out out' =
-    IsWrittenWhole Gives format first handles endpoints out out'
-WritesRuns Gives format first handles endpoints (Err (Failed failure)) out out' =
-    StopsInTurn Gives format first handles endpoints failure out out'
-WritesRuns Gives format first handles endpoints (Err (Unconnected error)) out out' =
-    BreaksUnconnected Gives format first handles endpoints out out'
-
--- the rows of a query are written as they come, or not, and why
-abbrev pub StreamsOrNot : {N : Type 0} → Giving N → (N → N → N → Type 0) → Format → ℕ →
-    InfoCommand → N → N → Result (Unit {0}) FetchFailure → Line → Line → Said → Said → Type 0
-StreamsOrNot Gives Shares format streams wanted old new (Ok done) first last out out' =
-    Streams Gives Shares format streams wanted old new (Ok done) first last out out'
-StreamsOrNot Gives Shares format streams wanted old new (Err (Failed failure)) first last out out' =
-    Streams Gives Shares format streams wanted old new (Err failure) first last out out'
-StreamsOrNot Gives Shares format streams wanted old new (Err (Unconnected error)) first last out
-    out' =
-    StreamsUnconnected Gives Shares format streams wanted old new first last out out'
-
--- nothing is said where all was written; and else the failure, or that there was no connection
-abbrev pub TellsStreamed : (Fault → List ℕ) → Result (Unit {0}) FetchFailure → ExitStatus → Said →
-    Said → Type 0
-TellsStreamed hint (Ok done) status old new = TellsEnd hint (Ok done) status old new
-TellsStreamed hint (Err (Failed failure)) status old new =
-    TellsEnd hint (Err failure) status old new
-TellsStreamed hint (Err (Unconnected error)) status old new =
-    (status ≡ FaultAtThisEnd) × ((cause : List ℕ) × Prints (cause_lines cause) old new)

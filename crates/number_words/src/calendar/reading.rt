@@ -12,7 +12,13 @@ use jiff_core::civil::Date;
 pub fn day_in(text: &str) -> Option<i32>
     ensures { result ≡ day_in text.now }
 {
-    let text = text.as_bytes();
+    day_of_bytes(text.as_bytes())
+}
+
+/// The same of a text's bytes.
+pub(crate) fn day_of_bytes(text: &[u8]) -> Option<i32>
+    ensures { result ≡ day_in text.now }
+{
     if !has_form(text) {
         return None;
     }
@@ -42,16 +48,16 @@ fn has_form(text: &[u8]) -> bool
         && (text[4] == b'-' && text[7] == b'-')
 }
 
-// Whether two digits stand there, from one place on.
-fn two_stand(text: &[u8], at: usize) -> bool
+/// Whether two digits stand there, from one place on.
+pub(crate) fn two_stand(text: &[u8], at: usize) -> bool
     requires { at + 1 < length text.now }
     ensures { result ≡ two_stand text.now at }
 {
     text[at].is_ascii_digit() && text[at + 1].is_ascii_digit()
 }
 
-// The number that two digits say, from one place on.
-fn two_digits(text: &[u8], at: usize) -> u8
+/// The number that two digits say, from one place on.
+pub(crate) fn two_digits(text: &[u8], at: usize) -> u8
     requires within { at + 1 < length text.now }
     requires digits { IsTrue (two_stand text.now at) }
     ensures value { result ≡ two_digits text.now at }

@@ -13,7 +13,7 @@ use Rattle.client_commands.specs.Commands.{Desk, desk_of}
 use Rattle.client_commands.specs.Handles.{Giving}
 use Rattle.client_commands.specs.Lines.{opened_line}
 use Rattle.client_commands.specs.Queries.{PrintsRows}
-use Rattle.client_commands.specs.inside.Turns.{StreamsOrNot, TellsStreamed}
+use Rattle.client_commands.specs.inside.WrittenRuns.{StreamsOrNot, TellsStreamed}
 use Rattle.client_commands.proofs.query.query_by.Goals as goal
 
 -- the network gave the first connection, and what was written is told

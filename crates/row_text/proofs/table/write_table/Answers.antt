@@ -5,7 +5,8 @@ use Rattle.arrow_types.specs.declared.schema.Field.{Field}
 use Rattle.arrays.specs.Batch.{BatchAt, rows_of}
 use Rattle.grpc_frame.proofs.Sending.{head_not_sent, second_not_sent, both_sent, flushed, begun_alone}
 use Rattle.row_text.specs.Rows.{names_row, values_row}
-use Rattle.row_text.specs.Tables.{count_line, rule_line, table_format, widths_from}
+use Rattle.row_text.specs.TableCells.{widths_from}
+use Rattle.row_text.specs.Tables.{count_line, rule_line, table_format}
 use Rattle.row_text.proofs.Rows.{all_wide}
 use Rattle.row_text.proofs.table.write_table.Goals as goal
 

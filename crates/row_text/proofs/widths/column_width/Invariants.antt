@@ -1,5 +1,5 @@
 use Rattle.std.proofs.Common.{◌≡◌, drop}
-use Rattle.row_text.specs.Tables.{greatest, text_width}
+use Rattle.row_text.specs.TableCells.{greatest, text_width}
 use Rattle.row_text.proofs.Widest.{batches_widths}
 use Rattle.row_text.proofs.widths.column_width.Given as goal
 

@@ -2,7 +2,7 @@ use Rattle.std.proofs.Common.{◌<◌, ◌≤◌, ℕ, List, map, max, sym, ap, 
 use Rattle.std.proofs.lemmas.List.{drop_all}
 use Rattle.scan_base.specs.declared.value.Value.{Value}
 use Rattle.arrays.specs.Column.{slot_of, values_of}
-use Rattle.row_text.specs.Tables.{greatest, value_width}
+use Rattle.row_text.specs.TableCells.{greatest, value_width}
 use Rattle.row_text.proofs.Widest.{value_more, values_long, slot_at}
 use Rattle.row_text.proofs.widths.widest_of_column.Goals as goal
 

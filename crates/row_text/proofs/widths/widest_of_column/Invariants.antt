@@ -1,6 +1,6 @@
 use Rattle.std.proofs.Common.{◌≡◌, drop, map}
 use Rattle.arrays.specs.Column.{values_of}
-use Rattle.row_text.specs.Tables.{greatest, value_width}
+use Rattle.row_text.specs.TableCells.{greatest, value_width}
 use Rattle.row_text.proofs.widths.widest_of_column.Given as goal
 
 abbrev pub invariant-loop-place : goal.invariant-loop-place

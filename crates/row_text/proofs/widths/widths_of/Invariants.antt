@@ -1,7 +1,7 @@
 use Rattle.std.proofs.Common.{◌≡◌, ◌++◌, drop, length}
 use Rattle.std.specs.List.{flat_map}
 use Rattle.arrays.specs.Batch.{rows_of}
-use Rattle.row_text.specs.Tables.{widths_from}
+use Rattle.row_text.specs.TableCells.{widths_from}
 use Rattle.row_text.proofs.widths.widths_of.Given as goal
 
 abbrev pub invariant-loop-number : goal.invariant-loop-number

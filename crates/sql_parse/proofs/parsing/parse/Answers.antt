@@ -21,4 +21,4 @@ returns-clause-named c =
     c.deref.ensures.value c.parse_tokens.ensures)
 
 pub overflow_cast-sql : goal.overflow_cast-sql
-overflow_cast-sql c = fits (length c.args.sql.now) c.in_ok-tokens.ensures.pieces.0
+overflow_cast-sql c = fits (length c.args.sql.now) c.in_ok-tokens.ensures.short

@@ -22,5 +22,5 @@ loop-place-preserved c fields was =
 pub returns : goal.returns
 returns c fields was =
     let field = c.args.field.now in
-    let over : c.loop-place.place ≡ 3 = omega (arith, c.loop-place-test.false) in
+    let over : c.loop-place.place ≡ length types_tried = omega (arith, c.loop-place-test.false) in
     subst (λ (n : ℕ). c.loop-place.numbers ≡ map (taken (fields ++ field ∷ [])) (take n types_tried) ++ map (taken fields) (drop n types_tried)) over (c.loop-place.invariant fields was)

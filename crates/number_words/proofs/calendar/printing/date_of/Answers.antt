@@ -6,4 +6,4 @@ pub returns-in-Err : goal.returns-in-Err
 returns-in-Err c =
     let same = to_z-of_z c.ranges.day in
     let not = not_within c.args.day (λ fits. c.in-Err.ensures (rw same fits)) in
-    record { exact = is_no_date c.args.day not; reads_back = no_date c.args.day not }
+    record { exact = is_no_date c.args.day not; long = tt; reads_back = no_date c.args.day not }

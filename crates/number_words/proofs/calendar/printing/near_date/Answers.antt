@@ -1,4 +1,4 @@
-use Rattle.std.proofs.Common.{◌≡◌, ℕ, true, false, ℤ, pos, ◌<ℤ◌, ◌≤ℤ◌, to_z, of_z, w16, to_z-of_z, unsigned_abs, ap, sym, subst, ◌∙◌, arith}
+use Rattle.std.proofs.Common.{◌≡◌, ℕ, true, false, ℤ, pos, ◌<ℤ◌, ◌≤ℤ◌, to_z, of_z, w16, to_z-of_z, unsigned_abs, length, ap, sym, subst, ◌∙◌, arith}
 use Rattle.jiff_core.specs.Calendar.{days_from_civil, IsEpochDay}
 use Rattle.jiff_core.specs.Date.{epoch_day}
 use Rattle.jiff_core.proofs.SignedLemmas.{signed_arith, signed_casts, fits_between}
@@ -22,6 +22,7 @@ returns-in-Ok c =
     = ap (λ (year : ℤ). days_from_civil year c.in-Ok.date.month c.in-Ok.date.day) (sym same) ∙ number in
     record {
       exact = is_as_date written c.in-Ok.date.month c.in-Ok.date.day c.args.day c.digits_of.result.bytes shown day c.digits_of.ensures;
+      long = ap length c.digits_of.ensures;
       reads_back = reads_back written c.in-Ok.date.month c.in-Ok.date.day c.args.day shown day;
     }
 
@@ -38,5 +39,6 @@ returns-in_default c =
     ] in
     record {
       exact = is_no_date c.args.day not;
+      long = tt;
       reads_back = no_date c.args.day not;
     }

@@ -3,7 +3,8 @@ use Rattle.std.proofs.lemmas.Result.{err_from_is_err_and}
 use Rattle.scan_base.specs.Value.{value_of}
 use Rattle.grpc_frame.proofs.Sending.{head_not_sent, second_not_sent, sent_behind}
 use Rattle.row_text.specs.Rows.{value_text}
-use Rattle.row_text.specs.Tables.{before, behind, shape_of, table_notation, value_width}
+use Rattle.row_text.specs.TableCells.{before, behind, table_notation, value_width}
+use Rattle.row_text.specs.Tables.{shape_of}
 use Rattle.row_text.proofs.table_format.TableFormatRowFormat.send_cell.Goals as goal
 
 pub returns-in_err-send_part-clause-bytes : goal.returns-in_err-send_part-clause-bytes

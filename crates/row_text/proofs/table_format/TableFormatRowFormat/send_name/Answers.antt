@@ -1,7 +1,8 @@
 use Rattle.std.proofs.Common.{◌++◌}
 use Rattle.std.proofs.lemmas.Result.{err_from_is_err_and}
 use Rattle.grpc_frame.proofs.Sending.{head_not_sent, second_not_sent, sent_behind}
-use Rattle.row_text.specs.Tables.{before, behind, cell_text, shape_of, text_width}
+use Rattle.row_text.specs.TableCells.{before, behind, cell_text, text_width}
+use Rattle.row_text.specs.Tables.{shape_of}
 use Rattle.row_text.proofs.table_format.TableFormatRowFormat.send_name.Goals as goal
 
 pub returns-in_err-send_part-clause-bytes : goal.returns-in_err-send_part-clause-bytes

@@ -1,0 +1,107 @@
+-- Moments as texts: yyyy-mm-dd hh:mm:ss, and digits after a point. The clock has no leap seconds.
+use Rattle.std.specs.Prelude.{ℕ, ◌+◌, ◌-◌, ◌*◌, ◌/◌, ◌%◌, ◌==◌, ◌&&◌, Bool, true, nat_le, nat_lt}
+use Rattle.std.specs.Prelude.{if◌then◌else◌, List, [], ◌∷◌, ◌++◌, length, take, drop, slice_index}
+use Rattle.std.specs.Prelude.{slice_range, ℤ, pos, ◌+ℤ◌, ◌*ℤ◌, unsigned_abs, Option, Some, None}
+use Rattle.std.specs.Char.{is_ascii_digit}
+use Rattle.std.specs.Int.{int_div_euclid, int_rem_euclid}
+use Rattle.std.specs.List.{list_all}
+use Rattle.std.specs.Str.{byte}
+use Rattle.number_words.specs.Dates.{day_in, two_digits, two_stand}
+use Rattle.number_words.specs.DateText.{date_of, has_date, in_two_digits}
+
+-- ---- what is read
+
+-- a text of eight bytes: two digits, :, two digits, : and two digits
+abbrev pub is_clock_form : List ℕ → Bool
+is_clock_form text = (length text == 8)
+    && ((two_stand text 0 && (two_stand text 3 && two_stand text 6))
+    && ((slice_index text 2 == byte ":") && (slice_index text 5 == byte ":")))
+
+-- the seconds of a day, which has 24 hours of 60 minutes of 60 seconds
+abbrev pub seconds_of : ℕ → ℕ → ℕ → Option ℕ
+seconds_of hour minute second = if nat_lt hour 24 && (nat_lt minute 60 && nat_lt second 60)
+    then Some (3600 * hour + (60 * minute + second)) else None
+
+-- the seconds of a day that a text says as hh:mm:ss
+unfoldable pub clock_in : List ℕ → Option ℕ
+clock_in text = if is_clock_form text
+    then seconds_of (two_digits text 0) (two_digits text 3) (two_digits text 6) else None
+
+-- the digit at a place, and 0 where the text has ended
+abbrev pub digit_at : List ℕ → ℕ → ℕ
+digit_at text at = if nat_lt at (length text) then slice_index text at - byte "0" else 0
+
+-- the number that three digits say
+abbrev pub three_digits : List ℕ → ℕ → ℕ
+three_digits text at =
+    100 * digit_at text at + (10 * digit_at text (at + 1) + digit_at text (at + 2))
+
+-- no byte, or a point and 1 to 9 digits
+abbrev pub is_fraction_form : List ℕ → Bool
+is_fraction_form [] = true
+is_fraction_form (first ∷ digits) = (first == byte ".")
+    && ((nat_le 1 (length digits) && nat_le (length digits) 9) && list_all is_ascii_digit digits)
+
+-- the nanoseconds that a fraction of a second says
+unfoldable pub fraction_in : List ℕ → Option ℕ
+fraction_in text = if is_fraction_form text then Some (1000000 * three_digits text 1
+    + (1000 * three_digits text 4 + three_digits text 7)) else None
+
+-- the nanoseconds from 1970-01-01 00:00:00 to a day, seconds of it, and nanoseconds of a second
+abbrev pub moment_of : Option ℤ → Option ℕ → Option ℕ → Option ℤ
+moment_of (Some day) (Some seconds) (Some nanos) =
+    Some (day *ℤ pos 86400000000000 +ℤ pos (seconds * 1000000000 + nanos))
+moment_of _ _ _ = None
+
+-- whether a text has room for a date and a clock, with a space between them
+abbrev pub has_time : List ℕ → Bool
+has_time text = nat_le 19 (length text) && (slice_index text 10 == byte " ")
+
+-- the same to the moment that a text says: a date, a space, a clock and a fraction
+unfoldable pub moment_in : List ℕ → Option ℤ
+moment_in text = if has_time text
+    then moment_of (day_in (take 10 text)) (clock_in (slice_range text 11 19))
+    (fraction_in (drop 19 text)) else None
+
+-- ---- what is printed
+
+-- a number below 1000 in three digits
+abbrev pub in_three_digits : ℕ → List ℕ
+in_three_digits number = (byte "0" + number / 100) ∷ in_two_digits (number % 100)
+
+-- the seconds of a day as hh:mm:ss
+abbrev pub clock_text : ℕ → List ℕ
+clock_text seconds = in_two_digits (seconds / 3600) ++ (byte ":"
+    ∷ (in_two_digits (seconds / 60 % 60) ++ (byte ":" ∷ in_two_digits (seconds % 60))))
+
+-- the microseconds of a second as a point and six digits
+abbrev pub fraction_text : ℕ → List ℕ
+fraction_text micros =
+    byte "." ∷ (in_three_digits (micros / 1000) ++ in_three_digits (micros % 1000))
+
+-- ---- timestamps, in microseconds
+
+-- the day of a timestamp, and the time since that day began
+abbrev pub day_at : ℤ → ℤ
+day_at micros = int_div_euclid micros (pos 86400000000)
+
+abbrev pub time_at : ℤ → ℕ
+time_at micros = unsigned_abs (int_rem_euclid micros (pos 86400000000))
+
+-- the time of a day as hh:mm:ss.ffffff
+abbrev pub time_text : ℕ → List ℕ
+time_text micros = clock_text (micros / 1000000) ++ fraction_text (micros % 1000000)
+
+-- a timestamp as a date, a space and a time
+abbrev pub timestamp_text : ℤ → List ℕ
+timestamp_text micros = date_of (day_at micros) ++ (byte " " ∷ time_text (time_at micros))
+
+-- the same, where its day is of the years 1 to 9999
+abbrev pub timestamp_within : ℤ → Option (List ℕ)
+timestamp_within micros = if has_date (day_at micros) then Some (timestamp_text micros) else None
+
+-- a moment in microseconds, if it is a whole number of them
+abbrev pub in_micros : Option ℤ → Option ℤ
+in_micros None = None
+in_micros (Some nanos) = if unsigned_abs (int_rem_euclid nanos (pos 1000)) == 0
+    then Some (int_div_euclid nanos (pos 1000)) else None

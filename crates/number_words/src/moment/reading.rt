@@ -1,0 +1,162 @@
+//! The moment that a text says.
+
+ghost use Rattle.std.specs.Prelude.{◌≡◌, ◌≤◌, ◌<◌, IsTrue};
+ghost use Rattle.std.specs.Char.{is_ascii_digit};
+ghost use Rattle.std.specs.List.{list_all};
+ghost use Rattle.number_words.specs.Dates.{two_digits};
+ghost use Rattle.number_words.specs.Moments.{clock_in, digit_at, fraction_in, in_micros};
+ghost use Rattle.number_words.specs.Moments.{has_time, is_clock_form, is_fraction_form, moment_in};
+ghost use Rattle.number_words.specs.Moments.{moment_of, seconds_of, three_digits};
+
+use crate::calendar::{day_of_bytes, two_digits, two_stand};
+
+/// The microseconds from 1970-01-01 00:00:00 to the moment that a text says, if they are a whole
+/// number. It takes no memory.
+pub(crate) fn micros_in(text: &str) -> Option<i128>
+    ensures { result ≡ in_micros (moment_in text.now) }
+{
+    let nanos = moment_in(text.as_bytes())?;
+    if nanos.rem_euclid(1_000).unsigned_abs() == 0 {
+        Some(nanos.div_euclid(1_000))
+    } else {
+        None
+    }
+}
+
+// Whether a text has room for a date and a clock, with a space between them.
+fn has_time(text: &[u8]) -> bool
+    ensures { result ≡ has_time text.now }
+{
+    text.len() >= 19 && text[10] == b' '
+}
+
+// The nanoseconds from 1970-01-01 00:00:00 to the moment that a text says.
+#[tactic(auto, unfolding(crate::specs::Moments::moment_in))]
+fn moment_in(text: &[u8]) -> Option<i128>
+    ensures { result ≡ moment_in text.now }
+{
+    if has_time(text) {
+        moment_of(
+            day_of_bytes(&text[..10]),
+            clock_in(&text[11..19]),
+            fraction_in(&text[19..]),
+        )
+    } else {
+        None
+    }
+}
+
+// The nanoseconds from 1970-01-01 00:00:00 to a day, seconds of it, and nanoseconds of a second.
+fn moment_of(day: Option<i32>, seconds: Option<u32>, nanos: Option<u32>) -> Option<i128>
+    ensures { result ≡ moment_of day seconds nanos }
+{
+    match (day, seconds, nanos) {
+        (Some(day), Some(seconds), Some(nanos)) => {
+            let time = u64::from(seconds) * 1_000_000_000 + u64::from(nanos);
+            Some(i128::from(day) * 86_400_000_000_000 + i128::from(time))
+        }
+        (_, _, _) => None,
+    }
+}
+
+// The seconds of a day that a text says.
+#[tactic(auto, unfolding(crate::specs::Moments::clock_in))]
+fn clock_in(text: &[u8]) -> Option<u32>
+    ensures { result ≡ clock_in text.now }
+{
+    if is_clock_form(text) {
+        clock_of(text)
+    } else {
+        None
+    }
+}
+
+// The seconds of a day that a text of this form says.
+fn clock_of(text: &[u8]) -> Option<u32>
+    requires { IsTrue (is_clock_form text.now) }
+    ensures { result ≡ seconds_of (two_digits text.now 0) (two_digits text.now 3)
+        (two_digits text.now 6) }
+{
+    let hour = two_digits(text, 0);
+    let minute = two_digits(text, 3);
+    let second = two_digits(text, 6);
+    seconds_of(hour, minute, second)
+}
+
+// Whether two digits, :, two digits, : and two digits stand there, and no more.
+fn is_clock_form(text: &[u8]) -> bool
+    ensures { result ≡ is_clock_form text.now }
+{
+    text.len() == 8
+        && (two_stand(text, 0) && (two_stand(text, 3) && two_stand(text, 6)))
+        && (text[2] == b':' && text[5] == b':')
+}
+
+// The seconds of a day of 24 hours of 60 minutes of 60 seconds.
+fn seconds_of(hour: u8, minute: u8, second: u8) -> Option<u32>
+    ensures { result ≡ seconds_of hour minute second }
+{
+    if hour < 24 && minute < 60 && second < 60 {
+        Some(3_600 * u32::from(hour) + (60 * u32::from(minute) + u32::from(second)))
+    } else {
+        None
+    }
+}
+
+// The nanoseconds that a fraction of a second says.
+#[tactic(auto, unfolding(crate::specs::Moments::fraction_in))]
+fn fraction_in(text: &[u8]) -> Option<u32>
+    ensures { result ≡ fraction_in text.now }
+{
+    if is_fraction_form(text) {
+        let micros = 1_000 * three_digits(text, 4) + three_digits(text, 7);
+        Some(1_000_000 * three_digits(text, 1) + micros)
+    } else {
+        None
+    }
+}
+
+// Whether no byte stands there, or a point and 1 to 9 digits.
+fn is_fraction_form(text: &[u8]) -> bool
+    ensures { result ≡ is_fraction_form text.now }
+{
+    match text {
+        [] => true,
+        [first, digits @ ..] => {
+            *first == b'.' && ((1 <= digits.len() && digits.len() <= 9) && are_digits(digits))
+        }
+    }
+}
+
+// Whether each byte is a digit.
+fn are_digits(text: &[u8]) -> bool
+    ensures { result ≡ list_all is_ascii_digit text.now }
+{
+    text.iter().all(|byte| byte.is_ascii_digit())
+}
+
+// The number that three digits say, from one place on.
+fn three_digits(text: &[u8], at: usize) -> u32
+    requires near { at ≤ 7 }
+    requires form { IsTrue (is_fraction_form text.now) }
+    requires after { 1 ≤ at }
+    ensures value { result ≡ three_digits text.now at }
+    ensures small { result < 1000 }
+{
+    100 * digit_at(text, at) + (10 * digit_at(text, at + 1) + digit_at(text, at + 2))
+}
+
+// The digit at a place, and 0 where the text has ended.
+#[tactic(auto, using(crate::proofs::MomentForms::digit_of))]
+fn digit_at(text: &[u8], at: usize) -> u32
+    requires form { IsTrue (is_fraction_form text.now) }
+    requires after { 1 ≤ at }
+    ensures value { result ≡ digit_at text.now at }
+    ensures small { result < 10 }
+{
+    if at < text.len() {
+        u32::from(text[at] - b'0')
+    } else {
+        0
+    }
+}
