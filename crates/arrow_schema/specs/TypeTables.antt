@@ -1,19 +1,23 @@
 -- The table of each type in a schema, in the words of Arrow's `Schema.fbs`: what it says, how it is
 -- read, and how it is written. Each list below has one row for a type.
 use Rattle.std.specs.Prelude.{◌≡◌, ℕ, ◌==◌, ◌&&◌, not, Bool, true, false, List, [], ◌∷◌}
-use Rattle.std.specs.Prelude.{Result, Ok, Err, if◌then◌else◌}
+use Rattle.std.specs.Prelude.{Option, Some, None, codes, length, nat_lt, Result, Ok, Err}
+use Rattle.std.specs.Prelude.{if◌then◌else◌}
 use Rattle.scan_base.specs.declared.fault.Fault.{Fault}
 use Rattle.scan_base.specs.declared.fault.Fault.TheVariants.{UnsupportedArrow}
 use Rattle.scan_base.specs.Reading.{◌>>=◌, demand}
-use Rattle.flatbuf.specs.Layout.{TableAt, HasScalar}
-use Rattle.flatbuf.specs.Place.{scalar_of}
-use Rattle.flatbuf.specs.Block.{Part, Given, Number as Scalar, table_part}
+use Rattle.flatbuf.specs.Layout.{TableAt, HasScalar, HasText}
+use Rattle.flatbuf.specs.Place.{scalar_of, text_of}
+use Rattle.flatbuf.specs.Block.{Part, Given, Number as Scalar, Offset, table_part, text_part}
 use Rattle.arrow_types.specs.declared.data_type.IntegerType.{IntegerType}
 use Rattle.arrow_types.specs.declared.data_type.IntegerType.TheVariants.{Int8, Int16, Int32, Int64}
 use Rattle.arrow_types.specs.declared.data_type.IntegerType.TheVariants.{UInt8, UInt16, UInt32}
 use Rattle.arrow_types.specs.declared.data_type.IntegerType.TheVariants.{UInt64}
 use Rattle.arrow_types.specs.declared.data_type.NumberType.TheVariants.{Integer, Decimal, Date}
 use Rattle.arrow_types.specs.declared.data_type.NumberType.TheVariants.{Timestamp}
+use Rattle.arrow_types.specs.declared.data_type.TimeUnit.{TimeUnit}
+use Rattle.arrow_types.specs.declared.data_type.TimeUnit.TheVariants.{Second, Millisecond}
+use Rattle.arrow_types.specs.declared.data_type.TimeUnit.TheVariants.{Microsecond, Nanosecond}
 use Rattle.arrow_types.specs.declared.data_type.DataType.{DataType}
 use Rattle.arrow_types.specs.declared.data_type.DataType.TheVariants.{Number, Utf8, Bool as Flags}
 use Rattle.arrow_types.specs.declared.data_type.DataType.TheVariants.{Dictionary}
@@ -85,7 +89,7 @@ decimal_of table = do
   _ ← demand ((precision == 38) && (scale == 0) && (bits == 128)) UnsupportedArrow
   Ok (Number Decimal)
 
--- ---- Date, Timestamp
+-- ---- Date
 
 -- a Date table: its unit is DAY (0), where the default is MILLISECOND (1)
 pub record SaysDate (table : TableAt) : Type 0 where
@@ -98,14 +102,42 @@ date_of table = do
   _ ← demand (unit == 0) UnsupportedArrow
   Ok (Number Date)
 
--- what a Timestamp table says: its unit is MICROSECOND (2), and no offset leads to a zone
+-- ---- Timestamp
+
+-- a TimeUnit: SECOND, MILLISECOND, MICROSECOND and NANOSECOND
+abbrev pub unit_number : TimeUnit → ℕ
+unit_number Second = 0
+unit_number Millisecond = 1
+unit_number Microsecond = 2
+unit_number Nanosecond = 3
+
+abbrev pub time_units : List (ℕ × TimeUnit)
+time_units = (0, Second) ∷ (1, Millisecond) ∷ (2, Microsecond) ∷ (3, Nanosecond) ∷ []
+
+-- whether there is a zone, whatever its name; an empty name is none
+abbrev pub is_zone : Option (List ℕ) → Bool
+is_zone None = false
+is_zone (Some name) = nat_lt 0 (length name)
+
+-- a Timestamp table: its unit, SECOND (0) by default, and a zone or none
+pub record SaysTimestamp (table : TableAt) (unit : TimeUnit) (zoned : Bool) : Type 0 where
+  pub unit : HasScalar 2 table 0 0 (unit_number unit)
+  pub zone : Option (List ℕ)
+  pub named : HasText table 1 zone
+  pub zoned : is_zone zone ≡ zoned
+
+-- what a Timestamp table says: its unit, and whether there is a zone
 unfoldable pub timestamp_of : TableAt → Result DataType Fault
 timestamp_of table = do
-  unit ← scalar_of 2 table 0 0
-  _ ← demand (unit == 2) UnsupportedArrow
-  zone ← scalar_of 4 table 1 0
-  _ ← demand (zone == 0) UnsupportedArrow
-  Ok (Number Timestamp)
+  number ← scalar_of 2 table 0 0
+  unit ← meaning_of time_units number
+  zone ← text_of table 1
+  Ok (Number (Timestamp unit (is_zone zone)))
+
+-- what is written into a Timestamp table: a zone is UTC
+abbrev pub timestamp_slots : TimeUnit → Bool → List Given
+timestamp_slots unit false = Scalar (unit_number unit) ∷ []
+timestamp_slots unit true = Scalar (unit_number unit) ∷ Offset (text_part (codes "UTC")) ∷ []
 
 -- ---- the rows
 
@@ -114,7 +146,7 @@ abbrev pub SaysType : DataType → TableAt → Type 0
 SaysType (Number (Integer integer)) table = SaysInteger table integer
 SaysType (Number Decimal) table = SaysDecimal table
 SaysType (Number Date) table = SaysDate table
-SaysType (Number Timestamp) table = HasScalar 2 table 0 0 2 × HasScalar 4 table 1 0 0
+SaysType (Number (Timestamp unit zoned)) table = SaysTimestamp table unit zoned
 SaysType Utf8 table = Unit {0}
 SaysType Flags table = Unit {0}
 SaysType (Dictionary encoding) table = ⊥
@@ -135,7 +167,7 @@ abbrev pub type_written : DataType → ℕ × List Given
 type_written (Number (Integer integer)) = (2, integer_slots integer)
 type_written (Number Decimal) = (7, Scalar 38 ∷ Scalar 0 ∷ Scalar 128 ∷ [])
 type_written (Number Date) = (8, Scalar 0 ∷ [])
-type_written (Number Timestamp) = (10, Scalar 2 ∷ [])
+type_written (Number (Timestamp unit zoned)) = (10, timestamp_slots unit zoned)
 type_written Utf8 = (5, [])
 type_written Flags = (6, [])
 type_written (Dictionary encoding) = (5, [])

@@ -5,6 +5,9 @@ use Rattle.arrow_types.specs.declared.data_type.IntegerType.{IntegerType}
 use Rattle.arrow_types.specs.declared.data_type.IntegerType.TheVariants.{Int8, Int16, Int32, Int64}
 use Rattle.arrow_types.specs.declared.data_type.IntegerType.TheVariants.{UInt8, UInt16, UInt32}
 use Rattle.arrow_types.specs.declared.data_type.IntegerType.TheVariants.{UInt64}
+use Rattle.arrow_types.specs.declared.data_type.TimeUnit.{TimeUnit}
+use Rattle.arrow_types.specs.declared.data_type.TimeUnit.TheVariants.{Second, Millisecond}
+use Rattle.arrow_types.specs.declared.data_type.TimeUnit.TheVariants.{Microsecond, Nanosecond}
 use Rattle.arrow_types.specs.declared.data_type.NumberType.{NumberType}
 use Rattle.arrow_types.specs.declared.data_type.NumberType.TheVariants as number
 use Rattle.arrow_types.specs.declared.data_type.Cell.{Cell}
@@ -32,12 +35,19 @@ bit_width integer = (integer_form integer).1
 abbrev pub is_signed : IntegerType → Bool
 is_signed integer = (integer_form integer).0
 
+-- how many of a unit a second has
+abbrev pub per_second : TimeUnit → ℕ
+per_second Second = 1
+per_second Millisecond = 1000
+per_second Microsecond = 1000000
+per_second Nanosecond = 1000000000
+
 -- how a number lies in a slot: a date in 32 bits with a sign, a timestamp in 64, a decimal in 128
 abbrev pub cell_of : NumberType → Cell
 cell_of (number.Integer integer) = cell.Integer integer
 cell_of number.Decimal = cell.Wide
 cell_of number.Date = cell.Integer Int32
-cell_of number.Timestamp = cell.Integer Int64
+cell_of (number.Timestamp unit zoned) = cell.Integer Int64
 
 -- whether two are one type
 abbrev pub same_number : NumberType → NumberType → Bool
@@ -45,7 +55,8 @@ same_number (number.Integer one) (number.Integer other) =
     bit_width one == bit_width other && same_flag (is_signed one) (is_signed other)
 same_number number.Decimal number.Decimal = true
 same_number number.Date number.Date = true
-same_number number.Timestamp number.Timestamp = true
+same_number (number.Timestamp one zoned) (number.Timestamp other too) =
+    per_second one == per_second other && same_flag zoned too
 same_number _ _ = false
 
 -- the dictionary of a type, where it has one

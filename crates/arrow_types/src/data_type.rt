@@ -2,7 +2,8 @@
 
 ghost use Rattle.std.specs.Prelude.{◌≡◌};
 ghost use Rattle.arrow_types.specs.Answer.{answered_at, copied_type};
-ghost use Rattle.arrow_types.specs.DataType.{bit_width, cell_of, is_signed, same_number};
+ghost use Rattle.arrow_types.specs.DataType.{bit_width, cell_of, is_signed, per_second};
+ghost use Rattle.arrow_types.specs.DataType.{same_number};
 
 /// The whole numbers of fixed width.
 #[derive(Clone, Copy, Debug, PartialEq, Eq)]
@@ -25,15 +26,25 @@ pub struct DictionaryEncoding {
     pub index: IntegerType,
 }
 
+/// What times are counted in.
+#[derive(Clone, Copy, Debug, PartialEq, Eq)]
+pub enum TimeUnit {
+    Second,
+    Millisecond,
+    Microsecond,
+    Nanosecond,
+}
+
 /// The types whose values are whole numbers, in whose order they stand. A decimal is one of 38
 /// digits with none after the point. A date is a number of whole days from 1970-01-01 on.
-/// A timestamp is one of microseconds.
 #[derive(Clone, Copy, Debug, PartialEq, Eq)]
 pub enum NumberType {
     Integer(IntegerType),
     Decimal,
     Date,
-    Timestamp,
+    /// How many of the unit have passed since 1970-01-01 00:00:00, and whether the type has a zone:
+    /// then that is said of UTC.
+    Timestamp(TimeUnit, bool),
 }
 
 /// How a number lies in a slot: as an integer of fixed width, or in 16 bytes with a sign.
@@ -78,6 +89,20 @@ impl IntegerType {
     }
 }
 
+impl TimeUnit {
+    /// How many of this unit a second has.
+    pub fn per_second(self) -> u32
+        ensures { result ≡ per_second self }
+    {
+        match self {
+            TimeUnit::Second => 1,
+            TimeUnit::Millisecond => 1_000,
+            TimeUnit::Microsecond => 1_000_000,
+            TimeUnit::Nanosecond => 1_000_000_000,
+        }
+    }
+}
+
 impl NumberType {
     /// How a number of this type lies in a slot. Only this says it: what a number means plays no
     /// part below the doors at which it is read or written.
@@ -88,7 +113,7 @@ impl NumberType {
             NumberType::Integer(integer) => Cell::Integer(integer),
             NumberType::Decimal => Cell::Wide,
             NumberType::Date => Cell::Integer(IntegerType::Int32),
-            NumberType::Timestamp => Cell::Integer(IntegerType::Int64),
+            NumberType::Timestamp(_, _) => Cell::Integer(IntegerType::Int64),
         }
     }
 
@@ -102,7 +127,9 @@ impl NumberType {
             }
             (NumberType::Decimal, NumberType::Decimal) => true,
             (NumberType::Date, NumberType::Date) => true,
-            (NumberType::Timestamp, NumberType::Timestamp) => true,
+            (NumberType::Timestamp(one, zoned), NumberType::Timestamp(other, too)) => {
+                one.per_second() == other.per_second() && zoned == too
+            }
             (_, _) => false,
         }
     }

@@ -1,15 +1,18 @@
--- Moments as texts: yyyy-mm-dd hh:mm:ss, and digits after a point. The clock has no leap seconds.
-use Rattle.std.specs.Prelude.{ℕ, ◌+◌, ◌-◌, ◌*◌, ◌/◌, ◌%◌, ◌==◌, ◌&&◌, Bool, true, nat_le, nat_lt}
-use Rattle.std.specs.Prelude.{if◌then◌else◌, List, [], ◌∷◌, ◌++◌, length, take, drop, slice_index}
+-- What texts say of moments: yyyy-mm-dd hh:mm:ss, digits after a point, and Z for UTC. The clock has
+-- no leap seconds.
+use Rattle.std.specs.Prelude.{ℕ, ◌+◌, ◌-◌, ◌*◌, ◌==◌, ◌&&◌, Bool, true, false, nat_le, nat_lt}
+use Rattle.std.specs.Prelude.{if◌then◌else◌, List, [], ◌∷◌, length, take, drop, slice_index}
 use Rattle.std.specs.Prelude.{slice_range, ℤ, pos, ◌+ℤ◌, ◌*ℤ◌, unsigned_abs, Option, Some, None}
 use Rattle.std.specs.Char.{is_ascii_digit}
 use Rattle.std.specs.Int.{int_div_euclid, int_rem_euclid}
 use Rattle.std.specs.List.{list_all}
 use Rattle.std.specs.Str.{byte}
+use Rattle.arrow_types.specs.declared.data_type.TimeUnit.{TimeUnit}
+use Rattle.arrow_types.specs.declared.data_type.TimeUnit.TheVariants.{Second, Millisecond}
+use Rattle.arrow_types.specs.declared.data_type.TimeUnit.TheVariants.{Microsecond, Nanosecond}
 use Rattle.number_words.specs.Dates.{day_in, two_digits, two_stand}
-use Rattle.number_words.specs.DateText.{date_of, has_date, in_two_digits}
 
--- ---- what is read
+-- ---- nanoseconds
 
 -- a text of eight bytes: two digits, :, two digits, : and two digits
 abbrev pub is_clock_form : List ℕ → Bool
@@ -63,45 +66,35 @@ moment_in text = if has_time text
     then moment_of (day_in (take 10 text)) (clock_in (slice_range text 11 19))
     (fraction_in (drop 19 text)) else None
 
--- ---- what is printed
+-- whether a text ends with Z
+abbrev pub ends_with_zone : List ℕ → Bool
+ends_with_zone text = nat_le 1 (length text) && (slice_index text (length text - 1) == byte "Z")
 
--- a number below 1000 in three digits
-abbrev pub in_three_digits : ℕ → List ℕ
-in_three_digits number = (byte "0" + number / 100) ∷ in_two_digits (number % 100)
+-- the moment of a text with a zone, Z for UTC, or of one without
+abbrev pub stamp_in : Bool → List ℕ → Option ℤ
+stamp_in false text = moment_in text
+stamp_in true text =
+    if ends_with_zone text then moment_in (take (length text - 1) text) else None
 
--- the seconds of a day as hh:mm:ss
-abbrev pub clock_text : ℕ → List ℕ
-clock_text seconds = in_two_digits (seconds / 3600) ++ (byte ":"
-    ∷ (in_two_digits (seconds / 60 % 60) ++ (byte ":" ∷ in_two_digits (seconds % 60))))
+-- ---- units
 
--- the microseconds of a second as a point and six digits
-abbrev pub fraction_text : ℕ → List ℕ
-fraction_text micros =
-    byte "." ∷ (in_three_digits (micros / 1000) ++ in_three_digits (micros % 1000))
+-- how many nanoseconds a unit has
+abbrev pub nanos_in : TimeUnit → ℕ
+nanos_in Second = 1000000000
+nanos_in Millisecond = 1000000
+nanos_in Microsecond = 1000
+nanos_in Nanosecond = 1
 
--- ---- timestamps, in microseconds
+-- how many of a size a number is, if it is a whole number of them
+abbrev pub whole_in : ℤ → ℤ → Option ℤ
+whole_in size number = if unsigned_abs (int_rem_euclid number size) == 0
+    then Some (int_div_euclid number size) else None
 
--- the day of a timestamp, and the time since that day began
-abbrev pub day_at : ℤ → ℤ
-day_at micros = int_div_euclid micros (pos 86400000000)
+-- a moment in a unit, if it is a whole number of it
+abbrev pub in_unit : TimeUnit → Option ℤ → Option ℤ
+in_unit unit None = None
+in_unit unit (Some nanos) = whole_in (pos (nanos_in unit)) nanos
 
-abbrev pub time_at : ℤ → ℕ
-time_at micros = unsigned_abs (int_rem_euclid micros (pos 86400000000))
-
--- the time of a day as hh:mm:ss.ffffff
-abbrev pub time_text : ℕ → List ℕ
-time_text micros = clock_text (micros / 1000000) ++ fraction_text (micros % 1000000)
-
--- a timestamp as a date, a space and a time
-abbrev pub timestamp_text : ℤ → List ℕ
-timestamp_text micros = date_of (day_at micros) ++ (byte " " ∷ time_text (time_at micros))
-
--- the same, where its day is of the years 1 to 9999
-abbrev pub timestamp_within : ℤ → Option (List ℕ)
-timestamp_within micros = if has_date (day_at micros) then Some (timestamp_text micros) else None
-
--- a moment in microseconds, if it is a whole number of them
-abbrev pub in_micros : Option ℤ → Option ℤ
-in_micros None = None
-in_micros (Some nanos) = if unsigned_abs (int_rem_euclid nanos (pos 1000)) == 0
-    then Some (int_div_euclid nanos (pos 1000)) else None
+-- the timestamp that a text says
+abbrev pub timestamp_in : TimeUnit → Bool → List ℕ → Option ℤ
+timestamp_in unit zoned text = in_unit unit (stamp_in zoned text)

@@ -3,5 +3,5 @@
 mod printing;
 mod reading;
 
-pub(crate) use printing::timestamp_of;
-pub(crate) use reading::micros_in;
+pub(crate) use printing::{day_at, timestamp_of};
+pub(crate) use reading::timestamp_in;

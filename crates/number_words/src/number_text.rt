@@ -58,7 +58,7 @@ fn form_of(kind: NumberType, number: i128) -> Option<ArrayString<FORM_BYTES>>
 {
     match kind {
         NumberType::Date => date_of(number),
-        NumberType::Timestamp => timestamp_of(number),
+        NumberType::Timestamp(unit, zoned) => timestamp_of(unit, zoned, number),
         NumberType::Integer(_) | NumberType::Decimal => None,
     }
 }
@@ -77,7 +77,7 @@ fn worded(word: &str, kind: NumberType, number: i128) -> ArrayString<56>
 // A form in quotes, after a word.
 fn in_quotes(word: &str, form: &str) -> ArrayString<56>
     requires word { length word.now ≤ 12 }
-    requires form { length form.now ≤ 26 }
+    requires form { length form.now ≤ 30 }
     ensures { result.bytes ≡ word.now ++ (codes " '" ++ (form.now ++ codes "'")) }
 {
     let mut text = ArrayString::new();

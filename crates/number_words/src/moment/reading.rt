@@ -1,26 +1,75 @@
 //! The moment that a text says.
 
-ghost use Rattle.std.specs.Prelude.{◌≡◌, ◌≤◌, ◌<◌, IsTrue};
+ghost use Rattle.std.specs.Prelude.{◌≡◌, ◌≤◌, ◌<◌, ◌<ℤ◌, IsTrue, pos};
 ghost use Rattle.std.specs.Char.{is_ascii_digit};
 ghost use Rattle.std.specs.List.{list_all};
 ghost use Rattle.number_words.specs.Dates.{two_digits};
-ghost use Rattle.number_words.specs.Moments.{clock_in, digit_at, fraction_in, in_micros};
-ghost use Rattle.number_words.specs.Moments.{has_time, is_clock_form, is_fraction_form, moment_in};
-ghost use Rattle.number_words.specs.Moments.{moment_of, seconds_of, three_digits};
+ghost use Rattle.number_words.specs.Moments.{clock_in, digit_at, ends_with_zone, fraction_in};
+ghost use Rattle.number_words.specs.Moments.{has_time, in_unit, is_clock_form, is_fraction_form};
+ghost use Rattle.number_words.specs.Moments.{moment_in, moment_of, nanos_in, seconds_of, stamp_in};
+ghost use Rattle.number_words.specs.Moments.{three_digits, timestamp_in, whole_in};
 
 use crate::calendar::{day_of_bytes, two_digits, two_stand};
+use arrow_types::TimeUnit;
 
-/// The microseconds from 1970-01-01 00:00:00 to the moment that a text says, if they are a whole
-/// number. It takes no memory.
-pub(crate) fn micros_in(text: &str) -> Option<i128>
-    ensures { result ≡ in_micros (moment_in text.now) }
+/// The timestamp that a text says, if it is a whole number of the unit. A zone is said by a `Z`. It
+/// takes no memory.
+pub(crate) fn timestamp_in(unit: TimeUnit, zoned: bool, text: &str) -> Option<i128>
+    ensures { result ≡ timestamp_in unit zoned text.now }
 {
-    let nanos = moment_in(text.as_bytes())?;
-    if nanos.rem_euclid(1_000).unsigned_abs() == 0 {
-        Some(nanos.div_euclid(1_000))
+    in_unit(unit, stamp_in(zoned, text.as_bytes()))
+}
+
+// A moment in a unit, if it is a whole number of it.
+fn in_unit(unit: TimeUnit, nanos: Option<i128>) -> Option<i128>
+    ensures { result ≡ in_unit unit nanos }
+{
+    whole_in(nanos_in(unit), nanos?)
+}
+
+// How many of a size a number is, if it is a whole number of them.
+fn whole_in(size: i128, number: i128) -> Option<i128>
+    requires { pos 0 <ℤ size }
+    ensures { result ≡ whole_in size number }
+{
+    if number.rem_euclid(size).unsigned_abs() == 0 {
+        Some(number.div_euclid(size))
     } else {
         None
     }
+}
+
+// How many nanoseconds a unit has.
+fn nanos_in(unit: TimeUnit) -> i128
+    ensures value { result ≡ pos (nanos_in unit) }
+    ensures some { pos 0 <ℤ result }
+{
+    match unit {
+        TimeUnit::Second => 1_000_000_000,
+        TimeUnit::Millisecond => 1_000_000,
+        TimeUnit::Microsecond => 1_000,
+        TimeUnit::Nanosecond => 1,
+    }
+}
+
+// The moment of a text with a zone, or of one without.
+fn stamp_in(zoned: bool, text: &[u8]) -> Option<i128>
+    ensures { result ≡ stamp_in zoned text.now }
+{
+    if !zoned {
+        moment_in(text)
+    } else if ends_with_zone(text) {
+        moment_in(&text[..text.len() - 1])
+    } else {
+        None
+    }
+}
+
+// Whether a text ends with `Z`.
+fn ends_with_zone(text: &[u8]) -> bool
+    ensures { result ≡ ends_with_zone text.now }
+{
+    text.len() >= 1 && text[text.len() - 1] == b'Z'
 }
 
 // Whether a text has room for a date and a clock, with a space between them.
