@@ -13,7 +13,7 @@ use Rattle.arrow_types.specs.declared.data_type.NumberType.TheVariants.{Integer}
 use Rattle.arrow_types.specs.declared.data_type.DataType.{DataType}
 use Rattle.arrow_types.specs.declared.data_type.DataType.TheVariants.{Number, Utf8, Bool as Flags, Dictionary}
 use Rattle.arrow_types.specs.Schema.{same_dictionary}
-use Rattle.arrow_schema.specs.TypeTables.{meaning_of, signed_types, unsigned_types, integer_type, integer_of, decimal_of, date_of, timestamp_of, type_readings}
+use Rattle.arrow_schema.specs.TypeTables.{meaning_of, signed_types, unsigned_types, integer_type, integer_of, decimal_of, date_of, time_units, timestamp_of, type_readings}
 use Rattle.arrow_schema.proofs.Readings.{HoldOf}
 use Rattle.arrow_schema.specs.Fields.{table_wanted, vector_wanted, name_of, value_type_of, is_bare, childless, index_of, dictionary_of, encoded, field_in}
 use Rattle.arrow_schema.specs.Header.{MessageAt, header_of, body_length_of, field_at, fields_of, schema_in}
@@ -150,13 +150,12 @@ date table =
     only_then IsOther (scalar_of 2 table 0 1) _ (scalar 2 table 0 1)
     (λ unit. only_then IsOther (demand (unit == 0) UnsupportedArrow) _ (only_demand IsOther (unit == 0) UnsupportedArrow unsupported) (λ _. tt))
 
--- a slot that has the one number that its type may have, and what is read after it
-fixed : {A : Type 0} (width : ℕ) (table : TableAt) (slot default n : ℕ) (next : Result A Fault) → Only IsOther next → Only IsOther (scalar_of width table slot default >>= λ found. demand (found == n) UnsupportedArrow >>= λ _. next)
-fixed width table slot default n next rest = only_then IsOther (scalar_of width table slot default) _ (scalar width table slot default) (λ found. only_then IsOther (demand (found == n) UnsupportedArrow) _ (only_demand IsOther (found == n) UnsupportedArrow unsupported) (λ _. rest))
-
 timestamp : (table : TableAt) → Only IsOther (timestamp_of table)
 unfolding timestamp_of
-timestamp table = fixed 2 table 0 0 2 _ (fixed 4 table 1 0 0 _ tt)
+timestamp table =
+    only_then IsOther (scalar_of 2 table 0 0) _ (scalar 2 table 0 0)
+    (λ number. only_then IsOther (meaning_of time_units number) _ (meaning time_units number)
+    (λ unit. only_then IsOther (text_of table 1) _ (text table 1) (λ zone. tt)))
 
 -- what is read after a value, or after the rest
 chosen : {A B : Type 0} (here : Bool) (x : A) (rest : Result A Fault) (next : A → Result B Fault) → Only IsOther (next x) → Only IsOther (rest >>= next) → Only IsOther ((if here then Ok x else rest) >>= next)

@@ -49,7 +49,7 @@ fn operand_class(scope: &Scope<'_>, operand: &Operand<Term>) -> Result<Class, Fa
 fn agree(class: Class, other: Result<Class, Fault>) -> Result<(), Fault>
     ensures { fault_in result ≡ compare_fault (Ok class) other }
 {
-    if class == other? {
+    if class.is_same(other?) {
         Ok(())
     } else {
         Err(Fault::TypeClash)

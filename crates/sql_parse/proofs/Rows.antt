@@ -25,6 +25,7 @@ use Rattle.grammar.specs.Reading.{begins, token, reads, read}
 use Rattle.grammar.specs.Sentence.{Begins, Offends}
 use Rattle.sql_query.specs.declared.query.ColumnName.{ColumnName}
 use Rattle.arrow_types.specs.declared.data_type.NumberType.TheVariants.{Decimal, Date, Timestamp}
+use Rattle.arrow_types.specs.declared.data_type.TimeUnit.TheVariants.{Microsecond}
 use Rattle.sql_query.specs.declared.query.Literal.{Literal}
 use Rattle.sql_query.specs.declared.query.Literal.TheVariants as literals
 use Rattle.sql_query.specs.declared.query.Term.{Term}
@@ -387,7 +388,7 @@ unfolding answer days_from_civil day_count days_of_years days_of_months
 a_date = worked refl
 
 a_timestamp : Means (codes "SELECT a FROM t WHERE a = TIMESTAMP '1994-01-01 00:00:00.5'")
-    (Ok (filtered (comparing Equal a (literally (literals.Number Timestamp (pos 757382400500000))))))
+    (Ok (filtered (comparing Equal a (literally (literals.Number (Timestamp Microsecond false) (pos 757382400500000))))))
 unfolding answer days_from_civil day_count days_of_years days_of_months clock_in fraction_in moment_in
 a_timestamp = worked refl
 

@@ -2,6 +2,7 @@
 use Rattle.std.specs.Prelude.{Bool, true, false, ℕ, ℤ, neg_ℤ, List, Option, Some, None}
 use Rattle.arrow_types.specs.declared.data_type.NumberType.{NumberType}
 use Rattle.arrow_types.specs.declared.data_type.NumberType.TheVariants.{Decimal, Date, Timestamp}
+use Rattle.arrow_types.specs.declared.data_type.TimeUnit.TheVariants.{Microsecond}
 use Rattle.scan_base.specs.declared.comparison.Comparison.{Comparison}
 use Rattle.scan_base.specs.declared.comparison.Comparison.TheVariants as comparison
 use Rattle.scan_base.specs.declared.predicate.Operand.{Operand}
@@ -72,9 +73,9 @@ date = number_after word.Date Date date_token
 -- DATE string | TIMESTAMP string | string | TRUE | FALSE | number
 unfoldable pub literal : Of Literal
 literal = either date
-    (either (number_after word.Timestamp Timestamp timestamp_token) (either (make Text string)
-    (either (word_for word.True (Truth true)) (either (word_for word.False (Truth false))
-    (make (Number Decimal) number)))))
+    (either (number_after word.Timestamp (Timestamp Microsecond false) timestamp_token)
+    (either (make Text string) (either (word_for word.True (Truth true))
+    (either (word_for word.False (Truth false)) (make (Number Decimal) number)))))
 
 -- column | literal
 unfoldable pub operand : Of (Operand Term)

@@ -3,6 +3,7 @@ use Rattle.std.specs.Prelude.{ℕ, Bool, true, false, if◌then◌else◌, List,
 use Rattle.std.specs.Prelude.{Some, None, Ok, Err, ℤ}
 use Rattle.arrow_types.specs.declared.data_type.NumberType.{NumberType}
 use Rattle.arrow_types.specs.declared.data_type.NumberType.TheVariants.{Decimal, Date, Timestamp}
+use Rattle.arrow_types.specs.declared.data_type.TimeUnit.TheVariants.{Microsecond}
 use Rattle.scan_base.specs.declared.comparison.Comparison.{Comparison}
 use Rattle.scan_base.specs.declared.comparison.Comparison.TheVariants as comparison
 use Rattle.scan_base.specs.declared.predicate.Operand.{Operand}
@@ -80,7 +81,8 @@ number_after_at before kind ts = do
 unfoldable pub literal_at : List Mark → Answer Literal
 literal_at ts =
     if at (is_word word.Date) ts then number_after_at word.Date Date ts
-    else (if at (is_word word.Timestamp) ts then number_after_at word.Timestamp Timestamp ts
+    else (if at (is_word word.Timestamp) ts
+    then number_after_at word.Timestamp (Timestamp Microsecond false) ts
     else (if at is_string ts then (do
       t ← token_at is_string ts
       Ok (Text (value_of t.0), t.1)) else (if at (is_word word.True) ts then (do

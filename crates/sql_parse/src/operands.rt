@@ -7,7 +7,7 @@ ghost use Rattle.sql_parse.specs.Steps as steps;
 
 use crate::refusal::Refusal;
 use crate::tokens::{Class, Rest};
-use arrow_types::NumberType;
+use arrow_types::{NumberType, TimeUnit};
 use number_words::read;
 use scan_base::{Comparison, Operand, Text};
 use sql_query::{ColumnName, Literal, Term};
@@ -120,7 +120,8 @@ fn literal<'t>(alloc: Global, tokens: Rest<'t>) -> Result<(Literal, Rest<'t>), R
     if tokens.at(Class::Word(Keyword::Date)) {
         number_after(alloc, tokens, Keyword::Date, NumberType::Date)
     } else if tokens.at(Class::Word(Keyword::Timestamp)) {
-        number_after(alloc, tokens, Keyword::Timestamp, NumberType::Timestamp)
+        let kind = NumberType::Timestamp(TimeUnit::Microsecond, false);
+        number_after(alloc, tokens, Keyword::Timestamp, kind)
     } else if tokens.at(Class::String) {
         let (token, rest) = tokens.take(Class::String)?;
         Ok((Literal::Text(token.value(alloc)?), rest))
