@@ -439,7 +439,7 @@ def ends_of_streams(run: Run) -> None:
 
 
 MISSING = "`flightscan tables` prints the names; their case counts"
-CLASSES = "compare numbers with numbers, 'texts' with texts, DATE '2026-11-28' with dates"
+CLASSES = "compare numbers with numbers, 'texts' with texts, else by a word: DATE '2026-11-28'"
 GROUPS = "with groups or aggregates, select only columns of GROUP BY, and no *"
 
 

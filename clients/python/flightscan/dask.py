@@ -31,7 +31,7 @@ from .messages import Endpoint, Info
 from .schema import NUMBER, Schema
 from .sources import schema_of, wide
 from .tables import JoinedColumn, Table, joined_tables
-from .values import whole_number
+from .values import micros_since_1970, whole_number
 
 Address = str | int
 By = str | tuple[str, Sequence[Any]]
@@ -404,10 +404,12 @@ def hashes_of_objects(name: str, values: Array, nulls: Array) -> Array:
 
 
 def number_of(name: str, value: object) -> int | None:
-    """The number of a number, and that of a date as pandas holds it."""
+    """The number of a number, and that of a date or a time as pandas holds it."""
     if isinstance(value, (int, np.integer, np.bool_, Decimal)):
         return whole_number(name, value)
-    if isinstance(value, datetime.date) and not isinstance(value, datetime.datetime):
+    if isinstance(value, datetime.datetime):
+        return micros_since_1970(name, value) * 1_000
+    if isinstance(value, datetime.date):
         return (value.toordinal() - EPOCH) * NANOSECONDS_OF_A_DAY
     return None
 

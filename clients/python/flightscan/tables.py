@@ -54,7 +54,7 @@ class JoinedColumn:
     def empty_dtype(self) -> Any:
         """The dtype of the values where there are no batches."""
         of = self.field.type
-        return of.dtype if of.is_integer else {"bool": np.bool_, "date": "datetime64[D]"}.get(of.name, object)
+        return of.dtype if of.is_integer else {"bool": np.bool_, "date": "<M8[D]", "timestamp": "<M8[us]"}.get(of.name, object)
 
     @staticmethod
     def joined(found: Sequence[Array], dtype: Any) -> Array:
@@ -100,7 +100,7 @@ class Table:
         return (self[number] for number in range(len(self.schema)))
 
     def rows(self) -> list[tuple[Any, ...]]:
-        """The rows as tuples of what Python has: None, bool, int, str, Decimal and date."""
+        """The rows as tuples of what Python has: None, bool, int, str, Decimal, date and datetime."""
         return [row for batch in self.batches for row in batch.rows()]
 
     def to_numpy(self) -> dict[str, Array]:

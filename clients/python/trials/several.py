@@ -104,6 +104,8 @@ def look_at_objects(pandas: Any, several: Any, wanted: list[int]) -> None:
     same("truths", hashes([True, None], "boolean"), hashes([True, None], object))
     days = [datetime.date(1700, 1, 1), None, datetime.date(2026, 12, 1)]
     same("dates", hashes(pandas.to_datetime(days)), hashes(days, object))
+    times = [datetime.datetime(1700, 1, 1, 12, 0, 0, 1), None, datetime.datetime(2026, 12, 1)]
+    same("times", hashes(pandas.to_datetime(times)), hashes(times, object))
     same("an early date has a hash", True, hashes([datetime.date(1, 1, 1)])[0] != 0)
     for value, text in ((Decimal("Infinity"), "the decimal Infinity"), (Decimal("0.5"), "a decimal with a fraction")):
         refused(text, flightscan.NotSupportedError, f"column None: {text}", lambda value=value: hashes([value], object))
