@@ -42,6 +42,13 @@ per_second Millisecond = 1000
 per_second Microsecond = 1000000
 per_second Nanosecond = 1000000000
 
+-- how many zeptoseconds a unit has, of which a second has 10^21
+abbrev pub zeptos_in : TimeUnit → ℕ
+zeptos_in Second = 1000000000000000000000
+zeptos_in Millisecond = 1000000000000000000
+zeptos_in Microsecond = 1000000000000000
+zeptos_in Nanosecond = 1000000000000
+
 -- how a number lies in a slot: a date in 32 bits with a sign, a timestamp in 64, a decimal in 128
 abbrev pub cell_of : NumberType → Cell
 cell_of (number.Integer integer) = cell.Integer integer

@@ -1,9 +1,10 @@
 //! The types of columns.
 
-ghost use Rattle.std.specs.Prelude.{◌≡◌};
+ghost use Rattle.std.specs.Prelude.{◌≡◌, ◌^◌, ◌<ℤ◌, pos};
+ghost use Rattle.std.specs.Int.{int_div_euclid, int_rem_euclid};
 ghost use Rattle.arrow_types.specs.Answer.{answered_at, copied_type};
 ghost use Rattle.arrow_types.specs.DataType.{bit_width, cell_of, is_signed, per_second};
-ghost use Rattle.arrow_types.specs.DataType.{same_number};
+ghost use Rattle.arrow_types.specs.DataType.{same_number, zeptos_in};
 
 /// The whole numbers of fixed width.
 #[derive(Clone, Copy, Debug, PartialEq, Eq)]
@@ -25,6 +26,15 @@ pub struct DictionaryEncoding {
     pub id: u64,
     pub index: IntegerType,
 }
+
+// How many zeptoseconds the units have.
+const SECOND: i128 = 1_000_000_000_000_000_000_000;
+
+const MILLISECOND: i128 = 1_000_000_000_000_000_000;
+
+const MICROSECOND: i128 = 1_000_000_000_000_000;
+
+const NANOSECOND: i128 = 1_000_000_000_000;
 
 /// What times are counted in.
 #[derive(Clone, Copy, Debug, PartialEq, Eq)]
@@ -99,6 +109,31 @@ impl TimeUnit {
             TimeUnit::Millisecond => 1_000,
             TimeUnit::Microsecond => 1_000_000,
             TimeUnit::Nanosecond => 1_000_000_000,
+        }
+    }
+
+    /// How many of this unit a number of zeptoseconds is, rounded down, and how many are left. A
+    /// second has 10^21 of them.
+    pub fn parts(self, zeptos: i128) -> (i128, i128)
+        ensures whole { result.0 ≡ int_div_euclid zeptos (pos (zeptos_in self)) }
+        ensures rest { result.1 ≡ int_rem_euclid zeptos (pos (zeptos_in self)) }
+        ensures small { result.0 <ℤ pos (2 ^ 100) }
+    {
+        match self {
+            TimeUnit::Second => (zeptos.div_euclid(SECOND), zeptos.rem_euclid(SECOND)),
+            TimeUnit::Millisecond => {
+                (
+                    zeptos.div_euclid(MILLISECOND),
+                    zeptos.rem_euclid(MILLISECOND),
+                )
+            }
+            TimeUnit::Microsecond => {
+                (
+                    zeptos.div_euclid(MICROSECOND),
+                    zeptos.rem_euclid(MICROSECOND),
+                )
+            }
+            TimeUnit::Nanosecond => (zeptos.div_euclid(NANOSECOND), zeptos.rem_euclid(NANOSECOND)),
         }
     }
 }

@@ -98,3 +98,32 @@ in_unit unit (Some nanos) = whole_in (pos (nanos_in unit)) nanos
 -- the timestamp that a text says
 abbrev pub timestamp_in : TimeUnit → Bool → List ℕ → Option ℤ
 timestamp_in unit zoned text = in_unit unit (stamp_in zoned text)
+
+-- ---- literals, in zeptoseconds, of which a nanosecond has 10^12
+
+-- no byte, or one and up to 12 digits
+abbrev pub is_more_form : List ℕ → Bool
+is_more_form [] = true
+is_more_form (first ∷ digits) = nat_le (length digits) 12 && list_all is_ascii_digit digits
+
+-- the zeptoseconds that the digits after the ninth of a fraction say, in a text from the ninth on
+unfoldable pub more_in : List ℕ → Option ℕ
+more_in text = if is_more_form text then Some (1000000000 * three_digits text 1
+    + (1000000 * three_digits text 4 + (1000 * three_digits text 7 + three_digits text 10)))
+    else None
+
+-- the zeptoseconds of nanoseconds and more
+abbrev pub zeptos_of : Option ℤ → Option ℕ → Option ℤ
+zeptos_of (Some nanos) (Some more) = Some (nanos *ℤ pos 1000000000000 +ℤ pos more)
+zeptos_of _ _ = None
+
+-- the zeptoseconds from 1970-01-01 00:00:00 to the moment that a text says: the first 29 bytes have
+-- up to nine digits of its fraction
+abbrev pub moment_zeptos : List ℕ → Option ℤ
+moment_zeptos text = if nat_le (length text) 29 then zeptos_of (moment_in text) (Some 0)
+    else zeptos_of (moment_in (take 29 text)) (more_in (drop 28 text))
+
+-- the same of the text of a literal, which may end with Z
+abbrev pub zeptos_said : List ℕ → Option ℤ
+zeptos_said text = if ends_with_zone text then moment_zeptos (take (length text - 1) text)
+    else moment_zeptos text

@@ -10,7 +10,7 @@ use Rattle.scan_base.specs.declared.value.Value.TheVariants as value
 use Rattle.sql_query.specs.declared.query.Literal.{Literal}
 use Rattle.sql_query.specs.declared.query.Literal.TheVariants as literal
 use Rattle.typed_plan.specs.declared.class.Class.{Class}
-use Rattle.typed_plan.specs.declared.class.Class.TheVariants.{Number, Text, Truth, Own}
+use Rattle.typed_plan.specs.declared.class.Class.TheVariants.{Number, Text, Truth, Own, Moment}
 
 -- whether two classes are one
 abbrev pub same_class : Class → Class → Bool
@@ -18,6 +18,7 @@ same_class Number Number = true
 same_class Text Text = true
 same_class Truth Truth = true
 same_class (Own one) (Own other) = same_number one other
+same_class Moment Moment = true
 same_class _ _ = false
 
 -- the class of the numbers of a column: each type that is no integer and no decimal is one
@@ -38,16 +39,19 @@ abbrev pub literal_class : Literal → Class
 literal_class (literal.Text bytes) = Text
 literal_class (literal.Truth flag) = Truth
 literal_class (literal.Number kind number) = number_class kind
+literal_class (literal.Timestamp zeptos) = Moment
 
--- the value of a literal: of a number the number, whatever its type
+-- the value of a literal: of a number the number, whatever its type, of a timestamp its zeptoseconds
 abbrev pub literal_value : Literal → Value
 literal_value (literal.Text bytes) = value.Text bytes
 literal_value (literal.Truth flag) = value.Bool flag
 literal_value (literal.Number kind number) = value.Int number
+literal_value (literal.Timestamp zeptos) = value.Int zeptos
 
 -- the class of a bound operand: a literal there is a value, so a number of any type is one
 abbrev pub bound_class : Class → Class
 bound_class (Own kind) = Number
+bound_class Moment = Number
 bound_class class = class
 
 -- the class of a value, which is no null

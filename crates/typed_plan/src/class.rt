@@ -19,6 +19,8 @@ pub enum Class {
     Truth,
     /// What is no integer and no decimal, each type for itself: dates, timestamps.
     Own(NumberType),
+    /// Timestamps of literals that stand next to no column of timestamps.
+    Moment,
 }
 
 impl Class {
@@ -52,6 +54,7 @@ impl Class {
             (Class::Text, Class::Text) => true,
             (Class::Truth, Class::Truth) => true,
             (Class::Own(one), Class::Own(other)) => one.is_same(other),
+            (Class::Moment, Class::Moment) => true,
             (_, _) => false,
         }
     }
@@ -64,6 +67,7 @@ impl Class {
             Literal::Text(_) => Class::Text,
             Literal::Truth(_) => Class::Truth,
             Literal::Number(kind, _) => Class::of_number(*kind),
+            Literal::Timestamp(_) => Class::Moment,
         }
     }
 

@@ -1,13 +1,16 @@
 //! The moment that a text says.
 
-ghost use Rattle.std.specs.Prelude.{◌≡◌, ◌≤◌, ◌<◌, ◌<ℤ◌, IsTrue, pos};
+ghost use Rattle.std.specs.Prelude.{◌≡◌, ◌≤◌, ◌<◌, ◌<ℤ◌, ◌≤ℤ◌, IfSome, IsTrue, drop};
+ghost use Rattle.std.specs.Prelude.{neg_ℤ, pos};
 ghost use Rattle.std.specs.Char.{is_ascii_digit};
 ghost use Rattle.std.specs.List.{list_all};
 ghost use Rattle.number_words.specs.Dates.{two_digits};
 ghost use Rattle.number_words.specs.Moments.{clock_in, digit_at, ends_with_zone, fraction_in};
 ghost use Rattle.number_words.specs.Moments.{has_time, in_unit, is_clock_form, is_fraction_form};
-ghost use Rattle.number_words.specs.Moments.{moment_in, moment_of, nanos_in, seconds_of, stamp_in};
-ghost use Rattle.number_words.specs.Moments.{three_digits, timestamp_in, whole_in};
+ghost use Rattle.number_words.specs.Moments.{is_more_form, zeptos_said, moment_in};
+ghost use Rattle.number_words.specs.Moments.{moment_of, more_in, nanos_in, seconds_of, stamp_in};
+ghost use Rattle.number_words.specs.Moments.{three_digits, timestamp_in, whole_in, moment_zeptos};
+ghost use Rattle.number_words.specs.Moments.{zeptos_of};
 
 use crate::calendar::{day_of_bytes, two_digits, two_stand};
 use arrow_types::TimeUnit;
@@ -52,6 +55,66 @@ fn nanos_in(unit: TimeUnit) -> i128
     }
 }
 
+/// The zeptoseconds, of which a second has 10^21, from 1970-01-01 00:00:00 to the moment that the
+/// text of a literal says. A `Z` may end it. It takes no memory.
+pub fn zeptos_said(text: &str) -> Option<i128>
+    ensures { result ≡ zeptos_said text.now }
+{
+    let text = text.as_bytes();
+    if ends_with_zone(text) {
+        moment_zeptos(&text[..text.len() - 1])
+    } else {
+        moment_zeptos(text)
+    }
+}
+
+// The same of a text without a zone.
+fn moment_zeptos(text: &[u8]) -> Option<i128>
+    ensures { result ≡ moment_zeptos text.now }
+{
+    if text.len() <= 29 {
+        zeptos_of(moment_in(text), Some(0))
+    } else {
+        zeptos_of(moment_in(&text[..29]), more_in(&text[28..]))
+    }
+}
+
+// The zeptoseconds of nanoseconds and more.
+fn zeptos_of(nanos: Option<i128>, more: Option<u64>) -> Option<i128>
+    requires { IfSome nanos (λ nanos. (neg_ℤ (pos 1000000000000000000000000) ≤ℤ nanos)
+        × (nanos ≤ℤ pos 1000000000000000000000000)) }
+    ensures { result ≡ zeptos_of nanos more }
+{
+    match (nanos, more) {
+        (Some(nanos), Some(more)) => Some(nanos * 1_000_000_000_000 + i128::from(more)),
+        (_, _) => None,
+    }
+}
+
+// The zeptoseconds that the digits after the ninth of a fraction say, in a text from the ninth on.
+#[tactic(auto, using(crate::proofs::MomentForms::more_digits), unfolding(crate::specs::Moments::more_in))]
+fn more_in(text: &[u8]) -> Option<u64>
+    ensures { result ≡ more_in text.now }
+{
+    if is_more_form(text) {
+        let low = 1_000 * three_digits(text, 7) + three_digits(text, 10);
+        let high = 1_000 * three_digits(text, 1) + three_digits(text, 4);
+        Some(1_000_000 * u64::from(high) + u64::from(low))
+    } else {
+        None
+    }
+}
+
+// Whether up to 12 digits stand there after the first byte.
+fn is_more_form(text: &[u8]) -> bool
+    ensures { result ≡ is_more_form text.now }
+{
+    match text {
+        [] => true,
+        [_, digits @ ..] => digits.len() <= 12 && are_digits(digits),
+    }
+}
+
 // The moment of a text with a zone, or of one without.
 fn stamp_in(zoned: bool, text: &[u8]) -> Option<i128>
     ensures { result ≡ stamp_in zoned text.now }
@@ -82,7 +145,9 @@ fn has_time(text: &[u8]) -> bool
 // The nanoseconds from 1970-01-01 00:00:00 to the moment that a text says.
 #[tactic(auto, unfolding(crate::specs::Moments::moment_in))]
 fn moment_in(text: &[u8]) -> Option<i128>
-    ensures { result ≡ moment_in text.now }
+    ensures value { result ≡ moment_in text.now }
+    ensures near { IfSome result (λ nanos. (neg_ℤ (pos 1000000000000000000000000) ≤ℤ nanos)
+        × (nanos ≤ℤ pos 1000000000000000000000000)) }
 {
     if has_time(text) {
         moment_of(
@@ -97,7 +162,9 @@ fn moment_in(text: &[u8]) -> Option<i128>
 
 // The nanoseconds from 1970-01-01 00:00:00 to a day, seconds of it, and nanoseconds of a second.
 fn moment_of(day: Option<i32>, seconds: Option<u32>, nanos: Option<u32>) -> Option<i128>
-    ensures { result ≡ moment_of day seconds nanos }
+    ensures value { result ≡ moment_of day seconds nanos }
+    ensures near { IfSome result (λ nanos. (neg_ℤ (pos 1000000000000000000000000) ≤ℤ nanos)
+        × (nanos ≤ℤ pos 1000000000000000000000000)) }
 {
     match (day, seconds, nanos) {
         (Some(day), Some(seconds), Some(nanos)) => {
@@ -153,7 +220,7 @@ fn seconds_of(hour: u8, minute: u8, second: u8) -> Option<u32>
 }
 
 // The nanoseconds that a fraction of a second says.
-#[tactic(auto, unfolding(crate::specs::Moments::fraction_in))]
+#[tactic(auto, using(crate::proofs::MomentForms::fraction_digits), unfolding(crate::specs::Moments::fraction_in))]
 fn fraction_in(text: &[u8]) -> Option<u32>
     ensures { result ≡ fraction_in text.now }
 {
@@ -186,8 +253,8 @@ fn are_digits(text: &[u8]) -> bool
 
 // The number that three digits say, from one place on.
 fn three_digits(text: &[u8], at: usize) -> u32
-    requires near { at ≤ 7 }
-    requires form { IsTrue (is_fraction_form text.now) }
+    requires near { at ≤ 10 }
+    requires digits { IsTrue (list_all is_ascii_digit (drop 1 text.now)) }
     requires after { 1 ≤ at }
     ensures value { result ≡ three_digits text.now at }
     ensures small { result < 1000 }
@@ -198,7 +265,7 @@ fn three_digits(text: &[u8], at: usize) -> u32
 // The digit at a place, and 0 where the text has ended.
 #[tactic(auto, using(crate::proofs::MomentForms::digit_of))]
 fn digit_at(text: &[u8], at: usize) -> u32
-    requires form { IsTrue (is_fraction_form text.now) }
+    requires digits { IsTrue (list_all is_ascii_digit (drop 1 text.now)) }
     requires after { 1 ≤ at }
     ensures value { result ≡ digit_at text.now at }
     ensures small { result < 10 }
