@@ -1,13 +1,13 @@
 -- The table of each type is read as it is written, and as what it says.
 use Rattle.std.proofs.Common.{◌≡◌, ℕ, ◌≤◌, ◌<◌, ◌==◌, ◌&&◌, not, Bool, true, false, List, [], ◌∷◌, codes, length, Option, Some, None, IsUtf8, Result, Ok, refl, ap, append-nil, arith, sym, subst}
-use Rattle.std.proofs.lemmas.Bool.{and_parts, eqb-true}
+use Rattle.std.proofs.lemmas.Bool.{and_parts, eq-eqb, eqb-true}
 use Rattle.std.proofs.lemmas.Str.{IsUtf8-from_is_utf8}
 use Rattle.scan_base.specs.declared.fault.Fault.{Fault}
 use Rattle.scan_base.specs.declared.fault.Fault.TheVariants.{UnsupportedArrow}
 use Rattle.scan_base.specs.Reading.{◌>>=◌, demand}
 use Rattle.flatbuf.specs.Layout.{TableAt, IsBytes, HasScalar, Stands}
 use Rattle.flatbuf.specs.Place.{field_of, scalar_of, text_of}
-use Rattle.flatbuf.specs.Block.{IsWhole, AreWhole, table_part, text_part}
+use Rattle.flatbuf.specs.Block.{Given, Number as Scalar, IsWhole, AreWhole, table_part, text_part}
 use Rattle.flatbuf.specs.Fits.{FitsTable}
 use Rattle.flatbuf.specs.WrittenTables.{table_at}
 use Rattle.flatbuf.proofs.Written.{table_reads}
@@ -15,13 +15,13 @@ use Rattle.flatbuf.proofs.Lengths.{whole_table, whole_text, short_table, short_t
 use Rattle.flatbuf.proofs.Led.{led_text}
 use Rattle.arrow_types.specs.declared.data_type.IntegerType.{IntegerType}
 use Rattle.arrow_types.specs.declared.data_type.IntegerType.TheVariants.{Int8, Int16, Int32, Int64, UInt8, UInt16, UInt32, UInt64}
-use Rattle.arrow_types.specs.declared.data_type.NumberType.TheVariants.{Integer, Decimal, Date, Timestamp}
+use Rattle.arrow_types.specs.declared.data_type.NumberType.TheVariants.{Integer, Decimal, Date, Timestamp, Time}
 use Rattle.arrow_types.specs.declared.data_type.TimeUnit.{TimeUnit}
 use Rattle.arrow_types.specs.declared.data_type.TimeUnit.TheVariants.{Second, Millisecond, Microsecond, Nanosecond}
 use Rattle.arrow_types.specs.declared.data_type.DataType.{DataType}
 use Rattle.arrow_types.specs.declared.data_type.DataType.TheVariants.{Number, Utf8, Bool as Flags, Dictionary}
 use Rattle.arrow_types.specs.DataType.{bit_width, is_signed}
-use Rattle.arrow_schema.specs.TypeTables.{meaning_of, flag, SaysInteger, SaysDecimal, SaysDate, SaysTimestamp, SaysType, signed_types, unsigned_types, integer_type, integer_of, integer_slots, integer_part, decimal_of, date_of, unit_number, time_units, is_zone, timestamp_of, timestamp_slots, type_readings, type_written, type_number, type_part, type_of}
+use Rattle.arrow_schema.specs.TypeTables.{meaning_of, flag, SaysInteger, SaysDecimal, SaysDate, SaysTimestamp, SaysTime, SaysType, signed_types, unsigned_types, integer_type, integer_of, integer_slots, integer_part, decimal_of, date_of, unit_number, time_units, is_zone, timestamp_of, timestamp_slots, time_bits, time_of, type_readings, type_written, type_number, type_part, type_of}
 use Rattle.arrow_schema.proofs.Readings.{bind_ok, demand_ok, HoldOf, meaning_told, says_scalar, reads_scalar, says_text, reads_text}
 
 -- ---- Int
@@ -161,6 +161,12 @@ low_unit Millisecond = omega arith
 low_unit Microsecond = omega arith
 low_unit Nanosecond = omega arith
 
+low_bits : (unit : TimeUnit) → time_bits unit ≤ 64
+low_bits Second = omega arith
+low_bits Millisecond = omega arith
+low_bits Microsecond = omega arith
+low_bits Nanosecond = omega arith
+
 -- the unit of a table, and what is said of it
 says_unit : (table : TableAt) (default number : ℕ) (unit : TimeUnit) → IsBytes table.bytes → scalar_of 2 table 0 default ≡ Ok number → meaning_of time_units number ≡ Ok unit →
     HasScalar 2 table 0 default (unit_number unit)
@@ -176,6 +182,21 @@ timestamp_row table t is e =
     let f : Number (Timestamp b.0 (is_zone c.0)) ≡ t = cc in
     rw (← f) (refl, record { unit = says_unit table 0 a.0 b.0 is a.1 b.1; zone = c.0; named = says_text table 1 c.0 is c.1; zoned = refl })
 
+time_row : IsTold 9 time_of
+unfolding time_of
+time_row table t is e =
+    let a = bind_ok (scalar_of 2 table 0 1) _ t e in
+    let b = bind_ok (meaning_of time_units a.0) _ t a.2 in
+    let c = bind_ok (scalar_of 4 table 1 32) _ t b.2 in
+    let d = bind_ok (demand (c.0 == time_bits b.0) UnsupportedArrow) _ t c.2 in
+    let same = eqb-true c.0 (time_bits b.0) (demand_ok (c.0 == time_bits b.0) UnsupportedArrow d.0 d.1) in
+    let last = d.2 in
+    let f : Number (Time b.0) ≡ t = cc in
+    rw (← f) (
+      refl,
+      record { unit = says_unit table 1 a.0 b.0 is a.1 b.1; width = subst (λ (n : ℕ). HasScalar 4 table 1 32 n) same (says_scalar 4 table 1 32 c.0 is c.1) },
+    )
+
 utf8_row : IsTold 5 (λ table. Ok Utf8)
 utf8_row table t is e = let f : Utf8 ≡ t = cc in rw (← f) (refl, tt)
 
@@ -183,7 +204,7 @@ flags_row : IsTold 6 (λ table. Ok Flags)
 flags_row table t is e = let f : Flags ≡ t = cc in rw (← f) (refl, tt)
 
 told_rows : HoldOf IsTold type_readings
-told_rows = (integer_row, (utf8_row, (flags_row, (decimal_row, (date_row, (timestamp_row, tt))))))
+told_rows = (integer_row, (utf8_row, (flags_row, (decimal_row, (date_row, (time_row, (timestamp_row, tt)))))))
 
 pub type_told : (kind : ℕ) (table : Result TableAt Fault) (t : DataType) → type_of kind table ≡ Ok t → (found : TableAt) × (table ≡ Ok found) × (IsBytes found.bytes → (kind ≡ type_number t) × SaysType t found)
 type_told kind table t e =
@@ -296,6 +317,28 @@ unfolding timestamp_of
 timestamp_read unit zoned table is says =
     rw (reads_scalar 2 table 0 0 (unit_number unit) is says.unit, unit_again unit, reads_text table 1 says.zone is says.named, says.zoned) refl
 
+-- the table of a time
+
+abbrev time_slots : TimeUnit → List Given
+time_slots unit = Scalar (unit_number unit) ∷ Scalar (time_bits unit) ∷ []
+
+time_again : (unit : TimeUnit) (bytes : List ℕ) (at : ℕ) → Stands (table_part (time_slots unit)).bytes bytes at → time_of (table_at bytes at (table_part (time_slots unit))) ≡ Ok (Number (Time unit))
+unfolding time_of
+time_again unit bytes at s =
+    let slots = time_slots unit in
+    let t = table_at bytes at (table_part slots) in
+    let low = low_unit unit in
+    let few = low_bits unit in
+    let reads = table_reads slots bytes at (fits_table slots (omega arith) (omega arith)) tt s in
+    let number : scalar_of 2 t 0 1 ≡ Ok (unit_number unit) = reads 0 2 1 (omega arith) (omega arith) in
+    let bits : scalar_of 4 t 1 32 ≡ Ok (time_bits unit) = reads 1 4 32 (omega arith) (omega arith) in
+    rw (number, unit_again unit, bits, eq-eqb (time_bits unit) (time_bits unit) refl) refl
+
+time_read : (unit : TimeUnit) (table : TableAt) → IsBytes table.bytes → SaysTime table unit → time_of table ≡ Ok (Number (Time unit))
+unfolding time_of
+time_read unit table is says =
+    rw (reads_scalar 2 table 0 1 (unit_number unit) is says.unit, unit_again unit, reads_scalar 4 table 1 32 (time_bits unit) is says.width, eq-eqb (time_bits unit) (time_bits unit) refl) refl
+
 pub row : (t : DataType) → Row t
 unfolding type_part integer_part
 row (Number (Integer integer)) = record {
@@ -316,6 +359,7 @@ row (Number (Timestamp unit zoned)) = record {
   again = timestamp_again unit zoned;
   read = timestamp_read unit zoned;
 }
+row (Number (Time unit)) = record { whole = tt; short = (let s = short_table (time_slots unit) in omega arith); reading = time_of; known = refl; again = time_again unit; read = time_read unit }
 row Utf8 = record { whole = tt; short = (let s = short_table [] in omega arith); reading = λ table. Ok Utf8; known = refl; again = λ bytes at s. refl; read = λ table is says. refl }
 row Flags = record { whole = tt; short = (let s = short_table [] in omega arith); reading = λ table. Ok Flags; known = refl; again = λ bytes at s. refl; read = λ table is says. refl }
 row (Dictionary encoding) = record { whole = tt; short = (let s = short_table [] in omega arith); reading = λ table. Ok Utf8; known = refl; again = λ bytes at s. refl; read = λ table is says. absurd says }
@@ -325,7 +369,7 @@ abbrev IsKind : ℕ → (TableAt → Result DataType Fault) → Type 0
 IsKind kind reading = (1 ≤ kind) × (kind < 256)
 
 pub is_kind : (t : DataType) → (1 ≤ type_number t) × (type_number t < 256)
-is_kind t = meaning_told IsKind type_readings (type_number t) (row t).reading ((omega arith, omega arith), ((omega arith, omega arith), ((omega arith, omega arith), ((omega arith, omega arith), ((omega arith, omega arith), ((omega arith, omega arith), tt)))))) (row t).known
+is_kind t = meaning_told IsKind type_readings (type_number t) (row t).reading ((omega arith, omega arith), ((omega arith, omega arith), ((omega arith, omega arith), ((omega arith, omega arith), ((omega arith, omega arith), ((omega arith, omega arith), ((omega arith, omega arith), tt))))))) (row t).known
 
 pub whole_type : (t : DataType) → IsWhole (type_part t)
 unfolding type_part

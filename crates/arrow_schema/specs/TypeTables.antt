@@ -14,14 +14,14 @@ use Rattle.arrow_types.specs.declared.data_type.IntegerType.TheVariants.{Int8, I
 use Rattle.arrow_types.specs.declared.data_type.IntegerType.TheVariants.{UInt8, UInt16, UInt32}
 use Rattle.arrow_types.specs.declared.data_type.IntegerType.TheVariants.{UInt64}
 use Rattle.arrow_types.specs.declared.data_type.NumberType.TheVariants.{Integer, Decimal, Date}
-use Rattle.arrow_types.specs.declared.data_type.NumberType.TheVariants.{Timestamp}
+use Rattle.arrow_types.specs.declared.data_type.NumberType.TheVariants.{Timestamp, Time}
 use Rattle.arrow_types.specs.declared.data_type.TimeUnit.{TimeUnit}
 use Rattle.arrow_types.specs.declared.data_type.TimeUnit.TheVariants.{Second, Millisecond}
 use Rattle.arrow_types.specs.declared.data_type.TimeUnit.TheVariants.{Microsecond, Nanosecond}
 use Rattle.arrow_types.specs.declared.data_type.DataType.{DataType}
 use Rattle.arrow_types.specs.declared.data_type.DataType.TheVariants.{Number, Utf8, Bool as Flags}
 use Rattle.arrow_types.specs.declared.data_type.DataType.TheVariants.{Dictionary}
-use Rattle.arrow_types.specs.DataType.{bit_width, is_signed}
+use Rattle.arrow_types.specs.DataType.{bit_width, is_signed, time_integer}
 
 -- what a number stands for, among these
 abbrev pub meaning_of : {A : Type 0} → List (ℕ × A) → ℕ → Result A Fault
@@ -139,6 +139,26 @@ abbrev pub timestamp_slots : TimeUnit → Bool → List Given
 timestamp_slots unit false = Scalar (unit_number unit) ∷ []
 timestamp_slots unit true = Scalar (unit_number unit) ∷ Offset (text_part (codes "UTC")) ∷ []
 
+-- ---- Time
+
+-- the bits of a time of a day
+abbrev pub time_bits : TimeUnit → ℕ
+time_bits unit = bit_width (time_integer unit)
+
+-- a Time table: its unit, MILLISECOND (1) by default, and the bits of that, 32 by default
+pub record SaysTime (table : TableAt) (unit : TimeUnit) : Type 0 where
+  pub unit : HasScalar 2 table 0 1 (unit_number unit)
+  pub width : HasScalar 4 table 1 32 (time_bits unit)
+
+-- what a Time table says: its unit, in the bits of that
+unfoldable pub time_of : TableAt → Result DataType Fault
+time_of table = do
+  number ← scalar_of 2 table 0 1
+  unit ← meaning_of time_units number
+  bits ← scalar_of 4 table 1 32
+  _ ← demand (bits == time_bits unit) UnsupportedArrow
+  Ok (Number (Time unit))
+
 -- ---- the rows
 
 -- what the table of a type says; no type's table says a dictionary
@@ -147,6 +167,7 @@ SaysType (Number (Integer integer)) table = SaysInteger table integer
 SaysType (Number Decimal) table = SaysDecimal table
 SaysType (Number Date) table = SaysDate table
 SaysType (Number (Timestamp unit zoned)) table = SaysTimestamp table unit zoned
+SaysType (Number (Time unit)) table = SaysTime table unit
 SaysType Utf8 table = Unit {0}
 SaysType Flags table = Unit {0}
 SaysType (Dictionary encoding) table = ⊥
@@ -158,6 +179,7 @@ type_readings = (2, λ table. integer_of table >>= λ integer. Ok (Number (Integ
     ∷ (6, λ table. Ok Flags)
     ∷ (7, decimal_of)
     ∷ (8, date_of)
+    ∷ (9, time_of)
     ∷ (10, timestamp_of)
     ∷ []
 
@@ -168,6 +190,7 @@ type_written (Number (Integer integer)) = (2, integer_slots integer)
 type_written (Number Decimal) = (7, Scalar 38 ∷ Scalar 0 ∷ Scalar 128 ∷ [])
 type_written (Number Date) = (8, Scalar 0 ∷ [])
 type_written (Number (Timestamp unit zoned)) = (10, timestamp_slots unit zoned)
+type_written (Number (Time unit)) = (9, Scalar (unit_number unit) ∷ Scalar (time_bits unit) ∷ [])
 type_written Utf8 = (5, [])
 type_written Flags = (6, [])
 type_written (Dictionary encoding) = (5, [])

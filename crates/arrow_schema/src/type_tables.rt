@@ -8,7 +8,7 @@ ghost use Rattle.arrow_types.specs.Schema.{IsType};
 ghost use Rattle.arrow_schema.specs.Fields.{table_wanted};
 ghost use Rattle.arrow_schema.specs.TypeTables.{integer_type, integer_of, decimal_of, date_of};
 ghost use Rattle.arrow_schema.specs.TypeTables.{is_zone, meaning_of, time_units, timestamp_of};
-ghost use Rattle.arrow_schema.specs.TypeTables.{timestamp_slots, unit_number};
+ghost use Rattle.arrow_schema.specs.TypeTables.{time_bits, time_of, timestamp_slots, unit_number};
 ghost use Rattle.arrow_schema.specs.TypeTables.{type_of, integer_part, type_number, type_part};
 
 use crate::header::table_wanted;
@@ -102,6 +102,27 @@ fn timestamp(table: &Table<'_>) -> Result<DataType, Fault>
     Ok(DataType::Number(NumberType::Timestamp(unit, is_zone(zone))))
 }
 
+// A time of a day, in the bits of its unit.
+#[tactic(auto, unfolding(crate::specs::TypeTables::time_of))]
+fn time(table: &Table<'_>) -> Result<DataType, Fault>
+    ensures value { Gives (λ time. time) result (time_of table.now) }
+    ensures valid { IfOk result IsType }
+{
+    let unit = time_unit(table.scalar(0, Width::Two, 1)?)?;
+    let bits = table.scalar(1, Width::Four, 32)?;
+    if bits != time_bits(unit) {
+        return Err(Fault::UnsupportedArrow);
+    }
+    Ok(DataType::Number(NumberType::Time(unit)))
+}
+
+// The bits of a time of a day.
+fn time_bits(unit: TimeUnit) -> u64
+    ensures { result ≡ time_bits unit }
+{
+    u64::from(unit.time_integer().bit_width())
+}
+
 /// The type of a field's values, by the number of its kind. It refuses an unknown kind before an
 /// absent table.
 pub(crate) fn type_from(kind: u64, field: &Table<'_>) -> Result<DataType, Fault>
@@ -122,6 +143,7 @@ pub(crate) fn type_from(kind: u64, field: &Table<'_>) -> Result<DataType, Fault>
         }
         7 => decimal(&table?),
         8 => date(&table?),
+        9 => time(&table?),
         10 => timestamp(&table?),
         _ => Err(Fault::UnsupportedArrow),
     }
@@ -179,6 +201,13 @@ pub(crate) fn type_block(builder: &Builder, data_type: DataType) -> Result<(u64,
         DataType::Number(NumberType::Date) => Ok((8, builder.table(&[Slot::Number(0)])?)),
         DataType::Number(NumberType::Timestamp(unit, zoned)) => {
             Ok((10, timestamp_block(builder, unit, zoned)?))
+        }
+        DataType::Number(NumberType::Time(unit)) => {
+            let slots = [
+                Slot::Number(unit_number(unit)),
+                Slot::Number(time_bits(unit)),
+            ];
+            Ok((9, builder.table(&slots)?))
         }
     }
 }

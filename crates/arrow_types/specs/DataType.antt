@@ -49,12 +49,21 @@ zeptos_in Millisecond = 1000000000000000000
 zeptos_in Microsecond = 1000000000000000
 zeptos_in Nanosecond = 1000000000000
 
--- how a number lies in a slot: a date in 32 bits with a sign, a timestamp in 64, a decimal in 128
+-- the numbers that the times of a day lie in
+abbrev pub time_integer : TimeUnit → IntegerType
+time_integer Second = Int32
+time_integer Millisecond = Int32
+time_integer Microsecond = Int64
+time_integer Nanosecond = Int64
+
+-- how a number lies in a slot: a date in 32 bits with a sign, a timestamp in 64, a time by its unit,
+-- a decimal in 128
 abbrev pub cell_of : NumberType → Cell
 cell_of (number.Integer integer) = cell.Integer integer
 cell_of number.Decimal = cell.Wide
 cell_of number.Date = cell.Integer Int32
 cell_of (number.Timestamp unit zoned) = cell.Integer Int64
+cell_of (number.Time unit) = cell.Integer (time_integer unit)
 
 -- whether two are one type
 abbrev pub same_number : NumberType → NumberType → Bool
@@ -64,6 +73,7 @@ same_number number.Decimal number.Decimal = true
 same_number number.Date number.Date = true
 same_number (number.Timestamp one zoned) (number.Timestamp other too) =
     per_second one == per_second other && same_flag zoned too
+same_number (number.Time one) (number.Time other) = per_second one == per_second other
 same_number _ _ = false
 
 -- the dictionary of a type, where it has one

@@ -4,7 +4,7 @@ ghost use Rattle.std.specs.Prelude.{◌≡◌, ◌^◌, ◌<ℤ◌, pos};
 ghost use Rattle.std.specs.Int.{int_div_euclid, int_rem_euclid};
 ghost use Rattle.arrow_types.specs.Answer.{answered_at, copied_type};
 ghost use Rattle.arrow_types.specs.DataType.{bit_width, cell_of, is_signed, per_second};
-ghost use Rattle.arrow_types.specs.DataType.{same_number, zeptos_in};
+ghost use Rattle.arrow_types.specs.DataType.{same_number, time_integer, zeptos_in};
 
 /// The whole numbers of fixed width.
 #[derive(Clone, Copy, Debug, PartialEq, Eq)]
@@ -55,6 +55,8 @@ pub enum NumberType {
     /// How many of the unit have passed since 1970-01-01 00:00:00, and whether the type has a zone:
     /// then that is said of UTC.
     Timestamp(TimeUnit, bool),
+    /// How many of the unit have passed since a day began.
+    Time(TimeUnit),
 }
 
 /// How a number lies in a slot: as an integer of fixed width, or in 16 bytes with a sign.
@@ -112,6 +114,16 @@ impl TimeUnit {
         }
     }
 
+    /// The numbers that the times of a day lie in.
+    pub fn time_integer(self) -> IntegerType
+        ensures { result ≡ time_integer self }
+    {
+        match self {
+            TimeUnit::Second | TimeUnit::Millisecond => IntegerType::Int32,
+            TimeUnit::Microsecond | TimeUnit::Nanosecond => IntegerType::Int64,
+        }
+    }
+
     /// How many of this unit a number of zeptoseconds is, rounded down, and how many are left. A
     /// second has 10^21 of them.
     pub fn parts(self, zeptos: i128) -> (i128, i128)
@@ -149,6 +161,7 @@ impl NumberType {
             NumberType::Decimal => Cell::Wide,
             NumberType::Date => Cell::Integer(IntegerType::Int32),
             NumberType::Timestamp(_, _) => Cell::Integer(IntegerType::Int64),
+            NumberType::Time(unit) => Cell::Integer(unit.time_integer()),
         }
     }
 
@@ -164,6 +177,9 @@ impl NumberType {
             (NumberType::Date, NumberType::Date) => true,
             (NumberType::Timestamp(one, zoned), NumberType::Timestamp(other, too)) => {
                 one.per_second() == other.per_second() && zoned == too
+            }
+            (NumberType::Time(one), NumberType::Time(other)) => {
+                one.per_second() == other.per_second()
             }
             (_, _) => false,
         }

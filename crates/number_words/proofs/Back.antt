@@ -12,13 +12,13 @@ use Rattle.std.proofs.lemmas.Fmt.{decimal_is_IsNumeral_wide}
 use Rattle.std.proofs.lemmas.Str.Parse.{IsNumeralModel, not_in_digits, numerals_by_value}
 use Rattle.arrow_types.specs.declared.data_type.Cell.{Cell}
 use Rattle.arrow_types.specs.declared.data_type.NumberType.{NumberType}
-use Rattle.arrow_types.specs.declared.data_type.NumberType.TheVariants.{Integer, Decimal, Date, Timestamp}
+use Rattle.arrow_types.specs.declared.data_type.NumberType.TheVariants.{Integer, Decimal, Date, Timestamp, Time}
 use Rattle.arrow_types.specs.DataType.{cell_of}
 use Rattle.sql_text.specs.Values.{number_of}
 use Rattle.number_words.specs.DateText.{DayReadsBack}
 use Rattle.number_words.specs.WholeNumbers.{holds, kept_in, decimal_in}
 use Rattle.number_words.specs.NumberTexts.{ReadsBack, day_number, is_sayable}
-use Rattle.number_words.proofs.MomentTexts.{timestamp_back}
+use Rattle.number_words.proofs.MomentTexts.{time_reads, timestamp_back}
 use Rattle.number_words.proofs.Parts.{both}
 
 own : IsNumeralModel (λ ds. list_all is_ascii_digit ds ≡ true) (digits_value 10)
@@ -56,3 +56,6 @@ reads_back Date number day fits = let parts = both (holds (cell_of Date) number)
 reads_back (Timestamp unit zoned) number day fits =
     let parts = both (holds (cell_of (Timestamp unit zoned)) number) (is_sayable (Timestamp unit zoned) number) fits in
     rw parts.1 (kept (cell_of (Timestamp unit zoned)) number _ parts.0 (timestamp_back unit zoned number day parts.1))
+reads_back (Time unit) number day fits =
+    let parts = both (holds (cell_of (Time unit)) number) (is_sayable (Time unit) number) fits in
+    rw parts.1 (kept (cell_of (Time unit)) number _ parts.0 (time_reads unit number parts.1))

@@ -1,5 +1,5 @@
 -- What the forms of clocks and fractions say.
-use Rattle.std.proofs.Common.{ℕ, zero, suc, ◌≡◌, ◌<◌, ◌≤◌, ◌==◌, ◌&&◌, nat_le, List, [], ◌∷◌, length, slice_index, slice_range, take, drop, IsTrue, Option, ℤ, false, ◌-◌, refl, subst, arith}
+use Rattle.std.proofs.Common.{ℕ, zero, suc, ◌≡◌, ◌<◌, ◌≤◌, ◌==◌, ◌&&◌, nat_le, List, [], ◌∷◌, length, slice_index, slice_range, take, drop, IsTrue, Option, Some, ℤ, pos, true, false, ◌-◌, refl, subst, arith}
 use Rattle.std.specs.Char.{is_ascii_digit}
 use Rattle.std.specs.List.{list_all}
 use Rattle.std.specs.Str.{byte}
@@ -7,7 +7,7 @@ use Rattle.std.proofs.Math.Seq.{take-length}
 use Rattle.std.proofs.lemmas.Bool.{eqb-true}
 use Rattle.std.proofs.lemmas.List.{length-drop}
 use Rattle.number_words.specs.Dates.{day_in, two_stand}
-use Rattle.number_words.specs.Moments.{clock_in, fraction_in, has_time, is_clock_form, is_fraction_form, is_more_form, moment_in, moment_of, more_in, moment_zeptos, zeptos_of}
+use Rattle.number_words.specs.Moments.{clock_in, fraction_in, has_time, is_clock_form, is_fraction_form, is_more_form, moment_in, moment_of, more_in, moment_zeptos, time_in, time_zeptos, zeptos_of}
 use Rattle.number_words.proofs.Parts.{both}
 
 -- of a text of eight bytes with this form: its length, and where two digits stand
@@ -52,6 +52,15 @@ more_digits (x ∷ text) form = (both (nat_le (length text) 12) (list_all is_asc
 pub zeptos_by : (text : List ℕ) (nanos : Option ℤ) (more : Option ℕ) → nat_le (length text) 29 ≡ false → nanos ≡ moment_in (take 29 text) → more ≡ more_in (drop 28 text) →
     zeptos_of nanos more ≡ moment_zeptos text
 zeptos_by text nanos more long n m = rw (long, n, m) refl
+
+pub time_by : (text : List ℕ) (seconds nanos : Option ℕ) → nat_le 8 (length text) ≡ true → seconds ≡ clock_in (take 8 text) → nanos ≡ fraction_in (drop 8 text) →
+    moment_of (Some (pos 0)) seconds nanos ≡ time_in text
+unfolding time_in
+time_by text seconds nanos long s n = rw (long, s, n) refl
+
+pub time_zeptos_by : (text : List ℕ) (nanos : Option ℤ) (more : Option ℕ) → nat_le (length text) 18 ≡ false → nanos ≡ time_in (take 18 text) → more ≡ more_in (drop 17 text) →
+    zeptos_of nanos more ≡ time_zeptos text
+time_zeptos_by text nanos more long n m = rw (long, n, m) refl
 
 -- a text from a byte to its end
 pub to_its_end : (from : ℕ) (text : List ℕ) → take (length text - from) (drop from text) ≡ drop from text

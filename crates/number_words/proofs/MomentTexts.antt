@@ -1,5 +1,5 @@
 -- The text of a timestamp reads back.
-use Rattle.std.proofs.Common.{◌≡◌, ℕ, ◌+◌, ◌-◌, ◌*◌, ◌/◌, ◌%◌, ◌<◌, ◌&&◌, ◌==◌, Bool, true, false, if◌then◌else◌, List, [], ◌∷◌, ◌++◌, append_assoc, append-nil, length, take, slice_index, nat_le, IsTrue, Option, Some, None, option_map, ℤ, pos, ◌+ℤ◌, ◌*ℤ◌, unsigned_abs, refl, sym, ap, ◌∙◌, arith}
+use Rattle.std.proofs.Common.{◌≡◌, ℕ, ◌+◌, ◌-◌, ◌*◌, ◌/◌, ◌%◌, ◌<◌, ◌&&◌, ◌==◌, Bool, true, false, if◌then◌else◌, List, [], ◌∷◌, ◌++◌, append_assoc, append-nil, length, take, slice_index, nat_le, IsTrue, Option, Some, None, option_map, ℤ, pos, ◌≤ℤ◌, ◌+ℤ◌, ◌*ℤ◌, unsigned_abs, refl, sym, ap, ◌∙◌, arith}
 use Rattle.std.specs.Char.{is_ascii_digit}
 use Rattle.std.specs.Int.{int_div_euclid, int_rem_euclid}
 use Rattle.std.specs.Str.{byte}
@@ -10,8 +10,9 @@ use Rattle.arrow_types.specs.declared.data_type.TimeUnit.{TimeUnit}
 use Rattle.arrow_types.specs.declared.data_type.TimeUnit.TheVariants.{Second, Millisecond, Microsecond, Nanosecond}
 use Rattle.number_words.specs.Dates.{day_in, two_digits}
 use Rattle.number_words.specs.DateText.{date_text, date_of, date_within, has_date, DayReadsBack}
-use Rattle.number_words.specs.Moments.{is_clock_form, seconds_of, clock_in, is_fraction_form, three_digits, fraction_in, moment_of, moment_in, ends_with_zone, stamp_in, nanos_in, whole_in, in_unit, timestamp_in}
-use Rattle.number_words.specs.MomentText.{in_three_digits, clock_text, millis_text, micros_text, nanos_text, time_text, per_day, day_at, time_at, zone_text, timestamp_text, timestamp_within}
+use Rattle.number_words.specs.Moments.{is_clock_form, seconds_of, clock_in, is_fraction_form, three_digits, fraction_in, moment_of, moment_in, ends_with_zone, stamp_in, nanos_in, whole_in, in_unit, timestamp_in, time_in, time_said}
+use Rattle.number_words.specs.MomentText.{in_three_digits, clock_text, millis_text, micros_text, nanos_text, time_text, per_day, is_time, day_at, time_at, zone_text, timestamp_text, timestamp_within}
+use Rattle.number_words.proofs.Parts.{from_to-parts}
 use Rattle.number_words.proofs.Texts.{all, digit_stands, said, two_stand_there}
 
 -- ---- the time of a day
@@ -167,6 +168,46 @@ whole_unit Second n m e = whole_of 1000000000 m n (omega (arith, signed_arith)) 
 whole_unit Millisecond n m e = whole_of 1000000 m n (omega (arith, signed_arith)) (omega (arith, signed_arith))
 whole_unit Microsecond n m e = whole_of 1000 m n (omega (arith, signed_arith)) (omega (arith, signed_arith))
 whole_unit Nanosecond n m e = whole_of 1 m n (omega (arith, signed_arith)) (omega (arith, signed_arith))
+
+-- ---- a time of a day
+
+time_parts : (s : ℕ) (fraction : List ℕ) → time_in (clock_text s ++ fraction) ≡ moment_of (Some (pos 0)) (clock_in (clock_text s)) (fraction_in fraction)
+unfolding time_in
+time_parts s fraction =
+    let text = clock_text s ++ fraction in
+    let long : nat_le 8 (length text) ≡ true = le-leb 8 (length text) (omega arith) in
+    rw long refl
+
+time_back : (unit : TimeUnit) (t : ℕ) → t < per_day unit → time_in (time_text unit t) ≡ Some (pos (t * nanos_in unit))
+time_back unit t low =
+    let parts = splits unit t low in
+    ap time_in parts.text
+    ∙ time_parts parts.seconds parts.fraction
+    ∙ moment_made (Some (pos 0)) (clock_in (clock_text parts.seconds)) (fraction_in parts.fraction) (pos 0) parts.seconds parts.nanos refl (clock_back parts.seconds parts.low) parts.back
+    ∙ ap (λ (nanos : ℕ). Some (pos 0 *ℤ pos 86400000000000 +ℤ pos nanos)) parts.all
+    ∙ ap Some (omega (arith, signed_arith))
+
+natural_is : (unit : TimeUnit) (n : ℤ) → pos 0 ≤ℤ n → pos (unsigned_abs n * nanos_in unit) ≡ n *ℤ pos (nanos_in unit)
+natural_is Second n low = omega (arith, signed_arith)
+natural_is Millisecond n low = omega (arith, signed_arith)
+natural_is Microsecond n low = omega (arith, signed_arith)
+natural_is Nanosecond n low = omega (arith, signed_arith)
+
+natural_low : (unit : TimeUnit) (n : ℤ) → (pos 0 ≤ℤ n) × (n ≤ℤ pos (per_day unit - 1)) → unsigned_abs n < per_day unit
+natural_low Second n ends = omega (arith, signed_arith, ends.0, ends.1)
+natural_low Millisecond n ends = omega (arith, signed_arith, ends.0, ends.1)
+natural_low Microsecond n ends = omega (arith, signed_arith, ends.0, ends.1)
+natural_low Nanosecond n ends = omega (arith, signed_arith, ends.0, ends.1)
+
+-- a time of a day is below a day
+pub natural_in : (unit : TimeUnit) (n : ℤ) → IsTrue (is_time unit n) → unsigned_abs n < per_day unit
+natural_in unit n is = natural_low unit n (from_to-parts (pos 0) (pos (per_day unit - 1)) n is)
+
+pub time_reads : (unit : TimeUnit) (n : ℤ) → IsTrue (is_time unit n) → time_said unit (time_text unit (unsigned_abs n)) ≡ Some n
+time_reads unit n is =
+    let ends = from_to-parts (pos 0) (pos (per_day unit - 1)) n is in
+    ap (in_unit unit) (time_back unit (unsigned_abs n) (natural_low unit n ends))
+    ∙ whole_unit unit n (pos (unsigned_abs n * nanos_in unit)) (natural_is unit n ends.0)
 
 -- ---- a zone
 

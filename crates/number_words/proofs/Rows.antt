@@ -6,11 +6,11 @@ use Rattle.jiff_core.specs.Calendar.{days_from_civil, day_count, days_of_years, 
 use Rattle.number_words.specs.Dates.{day_in}
 use Rattle.arrow_types.specs.declared.data_type.IntegerType.TheVariants.{Int8, Int16, Int32}
 use Rattle.arrow_types.specs.declared.data_type.Cell.TheVariants as cell
-use Rattle.arrow_types.specs.declared.data_type.NumberType.TheVariants.{Integer, Decimal, Date, Timestamp}
+use Rattle.arrow_types.specs.declared.data_type.NumberType.TheVariants.{Integer, Decimal, Date, Timestamp, Time}
 use Rattle.arrow_types.specs.declared.data_type.TimeUnit.TheVariants.{Second, Millisecond, Microsecond, Nanosecond}
 use Rattle.sql_text.specs.Values.{number_of}
 use Rattle.number_words.specs.DateText.{date_of}
-use Rattle.number_words.specs.Moments.{clock_in, fraction_in, moment_in}
+use Rattle.number_words.specs.Moments.{clock_in, fraction_in, moment_in, time_in}
 use Rattle.number_words.specs.MomentText.{timestamp_text}
 use Rattle.number_words.specs.WholeNumbers.{kept_in}
 use Rattle.number_words.specs.NumberTexts.{form_of, literal_text, number_read, shown, worded}
@@ -202,3 +202,21 @@ letter_between = refl
 far_nanos : number_read (Timestamp Nanosecond false) (codes "2300-01-01 00:00:00") ≡ None
 unfolding days_from_civil day_count days_of_years days_of_months moment_in clock_in fraction_in
 far_nanos = refl
+
+-- ---- times of a day
+
+time_is : number_read (Time Millisecond) (codes "23:59:59.5") ≡ Some (pos 86399500)
+unfolding time_in clock_in fraction_in
+time_is = refl
+
+time_of_24 : number_read (Time Second) (codes "24:00:00") ≡ None
+unfolding time_in clock_in fraction_in
+time_of_24 = refl
+
+time_shown : literal_text (Time Nanosecond) (pos 43200250000000) ≡ codes "TIME '12:00:00.250000000'"
+time_shown = refl
+
+-- no time of a day is its number
+past_the_day : shown (Time Second) (pos 86400) ≡ codes "86400"
+unfolding digits
+past_the_day = refl

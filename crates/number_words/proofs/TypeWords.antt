@@ -6,7 +6,7 @@ use Rattle.std.specs.List.{list_all}
 use Rattle.std.specs.Str.{byte}
 use Rattle.arrow_types.specs.declared.data_type.IntegerType.TheVariants.{Int8, Int16, Int32, Int64, UInt8, UInt16, UInt32, UInt64}
 use Rattle.arrow_types.specs.declared.data_type.NumberType.{NumberType}
-use Rattle.arrow_types.specs.declared.data_type.NumberType.TheVariants.{Integer, Decimal, Date, Timestamp}
+use Rattle.arrow_types.specs.declared.data_type.NumberType.TheVariants.{Integer, Decimal, Date, Timestamp, Time}
 use Rattle.arrow_types.specs.declared.data_type.TimeUnit.TheVariants.{Second, Millisecond, Microsecond, Nanosecond}
 use Rattle.number_words.specs.declared.words.TheConstants.{TYPES}
 use Rattle.number_words.specs.NumberTexts.{word}
@@ -35,6 +35,10 @@ plain_word (Timestamp Second true) = refl
 plain_word (Timestamp Millisecond true) = refl
 plain_word (Timestamp Microsecond true) = refl
 plain_word (Timestamp Nanosecond true) = refl
+plain_word (Time Second) = refl
+plain_word (Time Millisecond) = refl
+plain_word (Time Microsecond) = refl
+plain_word (Time Nanosecond) = refl
 
 -- a text that is the word of none of them is that of no type
 pub none_named : (text : List ℕ) → ((k : ℕ) (d : NumberType) → k < length TYPES → text ≢ word (get_or TYPES k d)) → (kind : NumberType) → text ≢ word kind
@@ -56,3 +60,7 @@ none_named text other (Timestamp Second true) = other 14 Date (omega arith)
 none_named text other (Timestamp Millisecond true) = other 15 Date (omega arith)
 none_named text other (Timestamp Microsecond true) = other 16 Date (omega arith)
 none_named text other (Timestamp Nanosecond true) = other 17 Date (omega arith)
+none_named text other (Time Second) = other 18 Date (omega arith)
+none_named text other (Time Millisecond) = other 19 Date (omega arith)
+none_named text other (Time Microsecond) = other 20 Date (omega arith)
+none_named text other (Time Nanosecond) = other 21 Date (omega arith)

@@ -1,11 +1,12 @@
--- Timestamps as texts.
-use Rattle.std.specs.Prelude.{ℕ, ◌+◌, ◌/◌, ◌%◌, Bool, true, false, if◌then◌else◌, List, [], ◌∷◌}
+-- Timestamps and times of a day, as texts.
+use Rattle.std.specs.Prelude.{ℕ, ◌+◌, ◌-◌, ◌/◌, ◌%◌, Bool, true, false, if◌then◌else◌, List, [], ◌∷◌}
 use Rattle.std.specs.Prelude.{◌++◌, codes, ℤ, pos, unsigned_abs, Option, Some, None}
 use Rattle.std.specs.Int.{int_div_euclid, int_rem_euclid}
 use Rattle.std.specs.Str.{byte}
 use Rattle.arrow_types.specs.declared.data_type.TimeUnit.{TimeUnit}
 use Rattle.arrow_types.specs.declared.data_type.TimeUnit.TheVariants.{Second, Millisecond}
 use Rattle.arrow_types.specs.declared.data_type.TimeUnit.TheVariants.{Microsecond, Nanosecond}
+use Rattle.number_words.specs.Dates.{is_from_to}
 use Rattle.number_words.specs.DateText.{date_of, has_date, in_two_digits}
 
 -- ---- the time of a day
@@ -36,14 +37,23 @@ time_text Millisecond time = clock_text (time / 1000) ++ millis_text (time % 100
 time_text Microsecond time = clock_text (time / 1000000) ++ micros_text (time % 1000000)
 time_text Nanosecond time = clock_text (time / 1000000000) ++ nanos_text (time % 1000000000)
 
--- ---- timestamps
-
 -- how many of a unit a day has
 abbrev pub per_day : TimeUnit → ℕ
 per_day Second = 86400
 per_day Millisecond = 86400000
 per_day Microsecond = 86400000000
 per_day Nanosecond = 86400000000000
+
+-- whether a number is a time of a day
+abbrev pub is_time : TimeUnit → ℤ → Bool
+is_time unit number = is_from_to (pos 0) (pos (per_day unit - 1)) number
+
+-- the text of a time of a day
+abbrev pub time_within : TimeUnit → ℤ → Option (List ℕ)
+time_within unit number =
+    if is_time unit number then Some (time_text unit (unsigned_abs number)) else None
+
+-- ---- timestamps
 
 -- the day of a timestamp, and the time since that day began
 abbrev pub day_at : TimeUnit → ℤ → ℤ

@@ -76,6 +76,11 @@ stamp_in false text = moment_in text
 stamp_in true text =
     if ends_with_zone text then moment_in (take (length text - 1) text) else None
 
+-- the nanoseconds since a day began that a text says: a clock and a fraction
+unfoldable pub time_in : List ℕ → Option ℤ
+time_in text = if nat_le 8 (length text)
+    then moment_of (Some (pos 0)) (clock_in (take 8 text)) (fraction_in (drop 8 text)) else None
+
 -- ---- units
 
 -- how many nanoseconds a unit has
@@ -98,6 +103,10 @@ in_unit unit (Some nanos) = whole_in (pos (nanos_in unit)) nanos
 -- the timestamp that a text says
 abbrev pub timestamp_in : TimeUnit → Bool → List ℕ → Option ℤ
 timestamp_in unit zoned text = in_unit unit (stamp_in zoned text)
+
+-- the time of a day that a text says
+abbrev pub time_said : TimeUnit → List ℕ → Option ℤ
+time_said unit text = in_unit unit (time_in text)
 
 -- ---- literals, in zeptoseconds, of which a nanosecond has 10^12
 
@@ -127,3 +136,8 @@ moment_zeptos text = if nat_le (length text) 29 then zeptos_of (moment_in text) 
 abbrev pub zeptos_said : List ℕ → Option ℤ
 zeptos_said text = if ends_with_zone text then moment_zeptos (take (length text - 1) text)
     else moment_zeptos text
+
+-- the zeptoseconds since a day began that a text says: the first 18 bytes have up to nine digits
+abbrev pub time_zeptos : List ℕ → Option ℤ
+time_zeptos text = if nat_le (length text) 18 then zeptos_of (time_in text) (Some 0)
+    else zeptos_of (time_in (take 18 text)) (more_in (drop 17 text))

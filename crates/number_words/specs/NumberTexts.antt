@@ -8,14 +8,14 @@ use Rattle.arrow_types.specs.declared.data_type.IntegerType.TheVariants.{UInt8, 
 use Rattle.arrow_types.specs.declared.data_type.IntegerType.TheVariants.{UInt64}
 use Rattle.arrow_types.specs.declared.data_type.NumberType.{NumberType}
 use Rattle.arrow_types.specs.declared.data_type.NumberType.TheVariants.{Integer, Decimal, Date}
-use Rattle.arrow_types.specs.declared.data_type.NumberType.TheVariants.{Timestamp}
+use Rattle.arrow_types.specs.declared.data_type.NumberType.TheVariants.{Timestamp, Time}
 use Rattle.arrow_types.specs.declared.data_type.TimeUnit.TheVariants.{Second, Millisecond}
 use Rattle.arrow_types.specs.declared.data_type.TimeUnit.TheVariants.{Microsecond, Nanosecond}
 use Rattle.arrow_types.specs.DataType.{cell_of}
 use Rattle.number_words.specs.Dates.{day_in}
 use Rattle.number_words.specs.DateText.{date_within, has_date}
-use Rattle.number_words.specs.Moments.{timestamp_in}
-use Rattle.number_words.specs.MomentText.{day_at, timestamp_within}
+use Rattle.number_words.specs.Moments.{time_said, timestamp_in}
+use Rattle.number_words.specs.MomentText.{day_at, is_time, time_within, timestamp_within}
 use Rattle.number_words.specs.WholeNumbers.{holds, kept_in, decimal_in}
 
 -- ---- words
@@ -40,31 +40,38 @@ word (Timestamp Second true) = codes "timestamptz_s"
 word (Timestamp Millisecond true) = codes "timestamptz_ms"
 word (Timestamp Microsecond true) = codes "timestamptz"
 word (Timestamp Nanosecond true) = codes "timestamptz_ns"
+word (Time Second) = codes "time_s"
+word (Time Millisecond) = codes "time_ms"
+word (Time Microsecond) = codes "time"
+word (Time Nanosecond) = codes "time_ns"
 
 -- how a column of a text is spelled, with the words of all types, for people
 abbrev pub spelling_line : List ℕ
 spelling_line = codes "'a:int8, b:utf8?': int8..int64, uint8..uint64, decimal, date, "
-    ++ codes "timestamp[tz][_s|_ms|_ns], bool or utf8\n"
+    ++ codes "timestamp[tz][_s|_ms|_ns], time[_s|_ms|_ns], bool or utf8\n"
 
 -- the word before a literal of a type; an integer and a decimal have none
 abbrev pub keyword : NumberType → Option (List ℕ)
 keyword Date = Some (codes "DATE")
 keyword (Timestamp unit zoned) = Some (codes "TIMESTAMP")
+keyword (Time unit) = Some (codes "TIME")
 keyword _ = None
 
 -- the types that a text may be of, in the order in which they are tried
 abbrev pub types_tried : List NumberType
 types_tried = Integer Int64 ∷ Decimal ∷ Date
     ∷ Timestamp Microsecond false ∷ Timestamp Nanosecond false
-    ∷ Timestamp Microsecond true ∷ Timestamp Nanosecond true ∷ []
+    ∷ Timestamp Microsecond true ∷ Timestamp Nanosecond true
+    ∷ Time Microsecond ∷ Time Nanosecond ∷ []
 
 -- ---- what is printed
 
 -- what a type has for a number in the place of its decimal: a date, and a timestamp, in the years
--- 1 to 9999
+-- 1 to 9999, and a time of a day
 abbrev pub form_of : NumberType → ℤ → Option (List ℕ)
 form_of Date day = date_within day
 form_of (Timestamp unit zoned) number = timestamp_within unit zoned number
+form_of (Time unit) number = time_within unit number
 form_of _ number = None
 
 -- what is printed of a number: its form, or else its decimal
@@ -84,10 +91,11 @@ literal_text kind number =
 
 -- ---- what is read
 
--- the number that a text says: a day, a moment in its unit, or a whole number
+-- the number that a text says: a day, a moment or a time in its unit, or a whole number
 abbrev pub number_said : NumberType → List ℕ → Option ℤ
 number_said Date text = day_in text
 number_said (Timestamp unit zoned) text = timestamp_in unit zoned text
+number_said (Time unit) text = time_said unit text
 number_said _ text = decimal_in text
 
 -- the number that a text says, if a cell of the type holds it
@@ -96,10 +104,11 @@ number_read kind text = kept_in (cell_of kind) (number_said kind text)
 
 -- ---- laws
 
--- whether a text may say the number: it lies in the years 1 to 9999, or is below 10^38
+-- whether a text may say the number: it lies in the years 1 to 9999 or in a day, or is below 10^38
 abbrev pub is_sayable : NumberType → ℤ → Bool
 is_sayable Date day = has_date day
 is_sayable (Timestamp unit zoned) number = has_date (day_at unit number)
+is_sayable (Time unit) number = is_time unit number
 is_sayable _ number = nat_lt (unsigned_abs number) (10 ^ 38)
 
 -- the day of a number: that of a timestamp, and the number of any other type

@@ -6,7 +6,7 @@ ghost use Rattle.number_words.specs.NumberTexts.{form_of, literal_text, shown, w
 
 use crate::calendar::{FORM_BYTES, date_of};
 use crate::keyword;
-use crate::moment::timestamp_of;
+use crate::moment::{time_of, timestamp_of};
 use arrayvec::ArrayString;
 use arrow_types::NumberType;
 use itoa::Buffer;
@@ -59,6 +59,7 @@ fn form_of(kind: NumberType, number: i128) -> Option<ArrayString<FORM_BYTES>>
     match kind {
         NumberType::Date => date_of(number),
         NumberType::Timestamp(unit, zoned) => timestamp_of(unit, zoned, number),
+        NumberType::Time(unit) => time_of(unit, number),
         NumberType::Integer(_) | NumberType::Decimal => None,
     }
 }

@@ -9,7 +9,7 @@ ghost use Rattle.number_words.specs.NumberTexts.{keyword, spelling_line, word};
 use arrow_types::{IntegerType, NumberType, TimeUnit};
 
 // All types of numbers.
-const TYPES: [NumberType; 18] = [
+const TYPES: [NumberType; 22] = [
     NumberType::Integer(IntegerType::Int8),
     NumberType::Integer(IntegerType::Int16),
     NumberType::Integer(IntegerType::Int32),
@@ -28,10 +28,14 @@ const TYPES: [NumberType; 18] = [
     NumberType::Timestamp(TimeUnit::Millisecond, true),
     NumberType::Timestamp(TimeUnit::Microsecond, true),
     NumberType::Timestamp(TimeUnit::Nanosecond, true),
+    NumberType::Time(TimeUnit::Second),
+    NumberType::Time(TimeUnit::Millisecond),
+    NumberType::Time(TimeUnit::Microsecond),
+    NumberType::Time(TimeUnit::Nanosecond),
 ];
 
 /// The types that a text may be of, in the order in which they are tried.
-pub const TYPES_TRIED: [NumberType; 7] = [
+pub const TYPES_TRIED: [NumberType; 9] = [
     NumberType::Integer(IntegerType::Int64),
     NumberType::Decimal,
     NumberType::Date,
@@ -39,6 +43,8 @@ pub const TYPES_TRIED: [NumberType; 7] = [
     NumberType::Timestamp(TimeUnit::Nanosecond, false),
     NumberType::Timestamp(TimeUnit::Microsecond, true),
     NumberType::Timestamp(TimeUnit::Nanosecond, true),
+    NumberType::Time(TimeUnit::Microsecond),
+    NumberType::Time(TimeUnit::Nanosecond),
 ];
 
 /// The type of a word, if it is one of a type.
@@ -64,6 +70,7 @@ pub fn word(kind: NumberType) -> &'static str
         NumberType::Date => "date",
         NumberType::Timestamp(unit, false) => timestamp_word(unit),
         NumberType::Timestamp(unit, true) => zoned_word(unit),
+        NumberType::Time(unit) => time_word(unit),
     }
 }
 
@@ -107,12 +114,24 @@ fn zoned_word(unit: TimeUnit) -> &'static str
     }
 }
 
+// The word for a time of a day.
+fn time_word(unit: TimeUnit) -> &'static str
+    ensures { result.now ≡ word (type.Time unit) }
+{
+    match unit {
+        TimeUnit::Second => "time_s",
+        TimeUnit::Millisecond => "time_ms",
+        TimeUnit::Microsecond => "time",
+        TimeUnit::Nanosecond => "time_ns",
+    }
+}
+
 /// A line for people: how a column is spelled, with the words of all types.
 pub fn spelling_line() -> &'static [u8]
     ensures { result.now ≡ spelling_line }
 {
     b"'a:int8, b:utf8?': int8..int64, uint8..uint64, decimal, date, \
-    timestamp[tz][_s|_ms|_ns], bool or utf8\n"
+    timestamp[tz][_s|_ms|_ns], time[_s|_ms|_ns], bool or utf8\n"
 }
 
 /// The word before a literal of a type, if it has one.
@@ -123,6 +142,7 @@ pub fn keyword(kind: NumberType) -> Option<&'static str>
     match kind {
         NumberType::Date => Some("DATE"),
         NumberType::Timestamp(_, _) => Some("TIMESTAMP"),
+        NumberType::Time(_) => Some("TIME"),
         NumberType::Integer(_) | NumberType::Decimal => None,
     }
 }

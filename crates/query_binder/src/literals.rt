@@ -1,4 +1,4 @@
-//! Literals of timestamps next to a column.
+//! Literals of timestamps and times next to a column.
 
 ghost use Rattle.std.specs.Prelude.{◌≡◌, ◌^◌, ◌<ℤ◌, pos, unwrap_or};
 ghost use Rattle.typed_plan.specs.SettledLiterals.{number_beside, number_between, settled_operand};
@@ -42,6 +42,9 @@ fn typed(kind: NumberType, comparison: Comparison, literal: &Literal) -> Option<
 {
     match (kind, literal) {
         (NumberType::Timestamp(unit, _), Literal::Timestamp(zeptos)) => {
+            Some(Literal::Number(kind, number_beside(comparison, unit, *zeptos)))
+        }
+        (NumberType::Time(unit), Literal::Time(zeptos)) => {
             Some(Literal::Number(kind, number_beside(comparison, unit, *zeptos)))
         }
         (_, _) => None,

@@ -67,7 +67,7 @@ fn bind_literal(literal: &Literal) -> Result<Value, AllocError>
         Literal::Text(text) => Ok(Value::Text(text.clone()?)),
         Literal::Truth(flag) => Ok(Value::Bool(*flag)),
         Literal::Number(_, number) => Ok(Value::Int(*number)),
-        Literal::Timestamp(zeptos) => Ok(Value::Int(*zeptos)),
+        Literal::Timestamp(zeptos) | Literal::Time(zeptos) => Ok(Value::Int(*zeptos)),
     }
 }
 

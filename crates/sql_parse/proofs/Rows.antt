@@ -20,7 +20,7 @@ use Rattle.number_words.specs.LiteralWords.{worded_tokens_in as tokens_in}
 use Rattle.sql_text.specs.Values.{number_of, unquoted}
 use Rattle.sql_text.specs.Words.{word_kind}
 use Rattle.jiff_core.specs.Calendar.{days_from_civil, day_count, days_of_years, days_of_months}
-use Rattle.number_words.specs.Moments.{clock_in, fraction_in, moment_in, more_in}
+use Rattle.number_words.specs.Moments.{clock_in, fraction_in, moment_in, more_in, time_in}
 use Rattle.grammar.specs.Reading.{begins, token, reads, read}
 use Rattle.grammar.specs.Sentence.{Begins, Offends}
 use Rattle.sql_query.specs.declared.query.ColumnName.{ColumnName}
@@ -396,6 +396,11 @@ a_part_of_a_nanosecond : Means (codes "SELECT a FROM t WHERE a = TIMESTAMP '1970
     (Ok (filtered (comparing Equal a (literally (literals.Timestamp (pos 1))))))
 unfolding answer days_from_civil day_count days_of_years days_of_months clock_in fraction_in moment_in more_in
 a_part_of_a_nanosecond = worked refl
+
+a_time : Means (codes "SELECT a FROM t WHERE a = time '00:00:01.5'")
+    (Ok (filtered (comparing Equal a (literally (literals.Time (pos 1500000000000000000000))))))
+unfolding answer clock_in fraction_in time_in
+a_time = worked refl
 
 a_truth : Means (codes "SELECT a FROM t WHERE a = TRUE") (Ok (filtered (comparing Equal a (literally (literals.Truth true)))))
 unfolding answer

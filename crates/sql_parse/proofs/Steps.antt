@@ -5,7 +5,7 @@ use Rattle.std.specs.Prelude.{◌==◌, ℤ}
 use Rattle.sql_text.specs.Values.{number_of}
 use Rattle.std.proofs.lemmas.Bool.{ne_eqb}
 use Rattle.jiff_core.specs.Calendar.{days_from_civil, day_count, days_of_years, days_of_months}
-use Rattle.number_words.specs.Moments.{clock_in, fraction_in, moment_in}
+use Rattle.number_words.specs.Moments.{clock_in, fraction_in, moment_in, time_in}
 use Rattle.sql_text.specs.declared.word.Keyword.{Keyword}
 use Rattle.sql_text.specs.declared.word.Keyword.TheVariants as word
 use Rattle.sql_text.specs.declared.symbol.Symbol.TheVariants as symbol
@@ -267,7 +267,7 @@ nil_after xs ys x = append_assoc xs (x ∷ []) ys
 
 operand_made : well_made (a_symbol symbol.Comma ⊳ operand) ≡ true
 unfolding literal operand column name number minus digits date string same_symbol same_word number_of unquoted days_from_civil day_count days_of_years days_of_months
-    clock_in fraction_in moment_in
+    clock_in fraction_in moment_in time_in
 operand_made = refl
 
 operands_flat : (D : Nest) (ts : List Mark) →

@@ -11,15 +11,15 @@ use Rattle.sql_text.specs.declared.symbol.Symbol.TheVariants as symbol
 use Rattle.grammar.specs.Rule.{one, empty, both, either, make}
 use Rattle.sql_query.specs.declared.query.ColumnName.{ColumnName}
 use Rattle.sql_query.specs.declared.query.Literal.{Literal}
-use Rattle.sql_query.specs.declared.query.Literal.TheVariants.{Text, Truth, Number, Timestamp}
+use Rattle.sql_query.specs.declared.query.Literal.TheVariants.{Text, Truth, Number, Timestamp, Time}
 use Rattle.sql_query.specs.declared.query.Term.{Term}
 use Rattle.sql_query.specs.declared.query.Term.TheVariants as term
 use Rattle.number_words.specs.NumberTexts.{number_read}
-use Rattle.number_words.specs.Moments.{zeptos_said}
+use Rattle.number_words.specs.Moments.{time_zeptos, zeptos_said}
 use Rattle.sql_text.specs.Words.{is_name}
 use Rattle.sql_parse.specs.Tokens.{Mark, is_string, is_digits}
 use Rattle.sql_parse.specs.Tokens.{name_token, string_token, digits_token, date_token}
-use Rattle.sql_parse.specs.Tokens.{timestamp_token}
+use Rattle.sql_parse.specs.Tokens.{time_token, timestamp_token}
 use Rattle.sql_text.specs.Calls.{said, numeral}
 use Rattle.sql_parse.specs.Notation.{Of, a_word, a_symbol, word_for, symbol_for, ◌⊳◌}
 use Rattle.sql_parse.specs.Notation.{maybe}
@@ -64,6 +64,7 @@ string = one is_string (λ t. Some (said t.0 t.1.1)) string_token
 abbrev pub literal_said : Keyword → List ℕ → Option Literal
 literal_said word.Date text = option_map (Number Date) (number_read Date text)
 literal_said word.Timestamp text = option_map Timestamp (zeptos_said text)
+literal_said word.Time text = option_map Time (time_zeptos text)
 literal_said other text = None
 
 -- a word and a string, where the string says a literal; and such a string
@@ -75,12 +76,13 @@ literal_after before token =
 unfoldable pub date : Of Literal
 date = literal_after word.Date date_token
 
--- DATE string | TIMESTAMP string | string | TRUE | FALSE | number
+-- DATE string | TIMESTAMP string | TIME string | string | TRUE | FALSE | number
 unfoldable pub literal : Of Literal
 literal = either date
     (either (literal_after word.Timestamp timestamp_token)
-    (either (make Text string) (either (word_for word.True (Truth true))
-    (either (word_for word.False (Truth false)) (make (Number Decimal) number)))))
+    (either (literal_after word.Time time_token) (either (make Text string)
+    (either (word_for word.True (Truth true)) (either (word_for word.False (Truth false))
+    (make (Number Decimal) number))))))
 
 -- column | literal
 unfoldable pub operand : Of (Operand Term)

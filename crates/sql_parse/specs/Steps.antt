@@ -78,6 +78,7 @@ unfoldable pub literal_at : List Mark → Answer Literal
 literal_at ts =
     if at (is_word word.Date) ts then literal_after_at word.Date ts
     else (if at (is_word word.Timestamp) ts then literal_after_at word.Timestamp ts
+    else (if at (is_word word.Time) ts then literal_after_at word.Time ts
     else (if at is_string ts then (do
       t ← token_at is_string ts
       Ok (Text (value_of t.0), t.1)) else (if at (is_word word.True) ts then (do
@@ -86,7 +87,7 @@ literal_at ts =
           t ← token_at (is_word word.False) ts
           Ok (Truth false, t.1)) else (do
             n ← number_at ts
-            Ok (Number Decimal n.0, n.1))))))
+            Ok (Number Decimal n.0, n.1)))))))
 
 unfoldable pub operand_at : List Mark → Answer (Operand Term)
 operand_at ts =

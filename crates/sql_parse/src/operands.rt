@@ -9,7 +9,7 @@ ghost use Rattle.sql_parse.specs.Steps as steps;
 use crate::refusal::Refusal;
 use crate::tokens::{Class, Rest};
 use arrow_types::NumberType;
-use number_words::{read, zeptos_said};
+use number_words::{read, time_zeptos, zeptos_said};
 use scan_base::{Comparison, Operand, Text};
 use sql_query::{ColumnName, Literal, Term};
 use sql_text::{Keyword, Symbol};
@@ -118,11 +118,12 @@ fn literal_said(word: Keyword, text: &str) -> Option<Literal>
     match word {
         Keyword::Date => Some(Literal::Number(NumberType::Date, read(NumberType::Date, text)?)),
         Keyword::Timestamp => Some(Literal::Timestamp(zeptos_said(text)?)),
+        Keyword::Time => Some(Literal::Time(time_zeptos(text)?)),
         _ => None,
     }
 }
 
-// DATE string | TIMESTAMP string | string | TRUE | FALSE | number
+// DATE string | TIMESTAMP string | TIME string | string | TRUE | FALSE | number
 #[tactic(auto, unfolding(crate::specs::Steps::literal_at))]
 fn literal<'t>(alloc: Global, tokens: Rest<'t>) -> Result<(Literal, Rest<'t>), Refusal>
     ensures exact { Gives (λ x. (x.0, unread x.1)) result (steps.literal_at (unread tokens.entry)) }
@@ -132,6 +133,8 @@ fn literal<'t>(alloc: Global, tokens: Rest<'t>) -> Result<(Literal, Rest<'t>), R
         literal_after(alloc, tokens, Keyword::Date)
     } else if tokens.at(Class::Word(Keyword::Timestamp)) {
         literal_after(alloc, tokens, Keyword::Timestamp)
+    } else if tokens.at(Class::Word(Keyword::Time)) {
+        literal_after(alloc, tokens, Keyword::Time)
     } else if tokens.at(Class::String) {
         let (token, rest) = tokens.take(Class::String)?;
         Ok((Literal::Text(token.value(alloc)?), rest))

@@ -36,6 +36,8 @@ pub enum Literal {
     /// What the string after `TIMESTAMP` says, in zeptoseconds since 1970-01-01 00:00:00, of which a
     /// second has 10^21. Next to a column it gets the column's type.
     Timestamp(i128),
+    /// What the string after `TIME` says, in zeptoseconds since a day began.
+    Time(i128),
 }
 
 /// A side of a comparison as it is written.

@@ -1,5 +1,5 @@
--- A literal of a timestamp next to a column of timestamps: it gets the column's type, and the number
--- that compares with those of the column as the literal does.
+-- A literal of a timestamp or a time next to a column of such: it gets the column's type, and the
+-- number that compares with those of the column as the literal does.
 use Rattle.std.specs.Prelude.{◌≡◌, ℕ, ◌^◌, ◌==◌, map, slice_get, Option, Some, None, Result}
 use Rattle.std.specs.Prelude.{Ok, Err, if◌then◌else◌, ℤ, pos, ◌+ℤ◌, ◌*ℤ◌, ◌<ℤ◌, unsigned_abs}
 use Rattle.std.specs.Prelude.{option_map}
@@ -56,6 +56,8 @@ number_beside comparison unit zeptos =
 abbrev pub typed : NumberType → Comparison → Literal → Literal
 typed (number.Timestamp unit zoned) comparison (literal.Timestamp zeptos) = literal.Number
     (number.Timestamp unit zoned) (number_beside comparison unit zeptos)
+typed (number.Time unit) comparison (literal.Time zeptos) =
+    literal.Number (number.Time unit) (number_beside comparison unit zeptos)
 typed kind comparison written = written
 
 -- the same next to a column of a type

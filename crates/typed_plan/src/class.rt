@@ -17,10 +17,12 @@ pub enum Class {
     Text,
     /// Truth values.
     Truth,
-    /// What is no integer and no decimal, each type for itself: dates, timestamps.
+    /// What is no integer and no decimal, each type for itself: dates, timestamps, times.
     Own(NumberType),
     /// Timestamps of literals that stand next to no column of timestamps.
     Moment,
+    /// Times of literals that stand next to no column of times.
+    Clock,
 }
 
 impl Class {
@@ -41,7 +43,9 @@ impl Class {
     {
         match kind {
             NumberType::Integer(_) | NumberType::Decimal => Class::Number,
-            NumberType::Date | NumberType::Timestamp(_, _) => Class::Own(kind),
+            NumberType::Date | NumberType::Timestamp(_, _) | NumberType::Time(_) => {
+                Class::Own(kind)
+            }
         }
     }
 
@@ -55,6 +59,7 @@ impl Class {
             (Class::Truth, Class::Truth) => true,
             (Class::Own(one), Class::Own(other)) => one.is_same(other),
             (Class::Moment, Class::Moment) => true,
+            (Class::Clock, Class::Clock) => true,
             (_, _) => false,
         }
     }
@@ -68,6 +73,7 @@ impl Class {
             Literal::Truth(_) => Class::Truth,
             Literal::Number(kind, _) => Class::of_number(*kind),
             Literal::Timestamp(_) => Class::Moment,
+            Literal::Time(_) => Class::Clock,
         }
     }
 

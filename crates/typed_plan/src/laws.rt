@@ -19,8 +19,8 @@ pub fn typed_predicates_name_columns()
     ensures { TypedPredicatesNameColumns }
 {}
 
-/// A literal of a timestamp compares with the numbers of a column exactly as it is written, however
-/// many digits its fraction has.
+/// A literal of a timestamp or a time compares with the numbers of a column exactly as it is
+/// written, however many digits its fraction has.
 pub fn literals_compare_exactly()
     ensures { (comparison : Comparison) (unit : TimeUnit) (number zeptos : ℤ) →
         ComparesExactly comparison unit number zeptos }

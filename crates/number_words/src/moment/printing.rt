@@ -1,10 +1,11 @@
-//! The texts of timestamps.
+//! The texts of timestamps, and of times of a day.
 
-ghost use Rattle.std.specs.Prelude.{◌≡◌, ◌<◌, ◌≤◌, ◌+◌, ◌++◌, option_map};
+ghost use Rattle.std.specs.Prelude.{◌≡◌, ◌<◌, ◌≤◌, ◌+◌, ◌-◌, ◌++◌, option_map, pos};
 ghost use Rattle.arrayvec.specs.ArrayString.{array_string_len};
 ghost use Rattle.number_words.specs.MomentText.{clock_text, day_at, in_three_digits, micros_text};
-ghost use Rattle.number_words.specs.MomentText.{millis_text, nanos_text, per_day, time_at};
-ghost use Rattle.number_words.specs.MomentText.{time_text, timestamp_within, zone_text};
+ghost use Rattle.number_words.specs.MomentText.{is_time, millis_text, nanos_text, per_day};
+ghost use Rattle.number_words.specs.MomentText.{time_at, time_text, time_within};
+ghost use Rattle.number_words.specs.MomentText.{timestamp_within, zone_text};
 
 use crate::calendar::{FORM_BYTES, date_of, push_two_digits};
 use arrayvec::ArrayString;
@@ -24,6 +25,40 @@ pub(crate) fn timestamp_of(
     push_time(&mut text, unit, time_at(unit, number));
     push_zone(&mut text, zoned);
     Some(text)
+}
+
+/// A time of a day as `hh:mm:ss` and the digits of its unit after a point. `None` outside a day. It
+/// takes no memory.
+#[tactic(auto, using(crate::proofs::MomentTexts::natural_in))]
+pub(crate) fn time_of(unit: TimeUnit, number: i128) -> Option<ArrayString<FORM_BYTES>>
+    ensures { option_map (λ text. text.bytes) result ≡ time_within unit number }
+{
+    if is_time(unit, number) {
+        let mut text = ArrayString::new();
+        push_time(&mut text, unit, number.unsigned_abs() as u64);
+        Some(text)
+    } else {
+        None
+    }
+}
+
+// Whether a number is a time of a day.
+fn is_time(unit: TimeUnit, number: i128) -> bool
+    ensures { result ≡ is_time unit number }
+{
+    0 <= number && number <= last_time(unit)
+}
+
+// The last time of a day.
+fn last_time(unit: TimeUnit) -> i128
+    ensures { result ≡ pos (per_day unit - 1) }
+{
+    match unit {
+        TimeUnit::Second => 86_399,
+        TimeUnit::Millisecond => 86_399_999,
+        TimeUnit::Microsecond => 86_399_999_999,
+        TimeUnit::Nanosecond => 86_399_999_999_999,
+    }
 }
 
 /// The day of a timestamp, where 1970-01-01 is 0.

@@ -1,4 +1,4 @@
-//! The moment that a text says.
+//! The moment, or the time of a day, that a text says.
 
 ghost use Rattle.std.specs.Prelude.{◌≡◌, ◌≤◌, ◌<◌, ◌<ℤ◌, ◌≤ℤ◌, IfSome, IsTrue, drop};
 ghost use Rattle.std.specs.Prelude.{neg_ℤ, pos};
@@ -9,7 +9,8 @@ ghost use Rattle.number_words.specs.Moments.{clock_in, digit_at, ends_with_zone,
 ghost use Rattle.number_words.specs.Moments.{has_time, in_unit, is_clock_form, is_fraction_form};
 ghost use Rattle.number_words.specs.Moments.{is_more_form, zeptos_said, moment_in};
 ghost use Rattle.number_words.specs.Moments.{moment_of, more_in, nanos_in, seconds_of, stamp_in};
-ghost use Rattle.number_words.specs.Moments.{three_digits, timestamp_in, whole_in, moment_zeptos};
+ghost use Rattle.number_words.specs.Moments.{three_digits, time_in, time_said, time_zeptos};
+ghost use Rattle.number_words.specs.Moments.{timestamp_in, whole_in, moment_zeptos};
 ghost use Rattle.number_words.specs.Moments.{zeptos_of};
 
 use crate::calendar::{day_of_bytes, two_digits, two_stand};
@@ -21,6 +22,13 @@ pub(crate) fn timestamp_in(unit: TimeUnit, zoned: bool, text: &str) -> Option<i1
     ensures { result ≡ timestamp_in unit zoned text.now }
 {
     in_unit(unit, stamp_in(zoned, text.as_bytes()))
+}
+
+/// The time of a day that a text says, if it is a whole number of the unit. It takes no memory.
+pub(crate) fn time_said(unit: TimeUnit, text: &str) -> Option<i128>
+    ensures { result ≡ time_said unit text.now }
+{
+    in_unit(unit, time_in(text.as_bytes()))
 }
 
 // A moment in a unit, if it is a whole number of it.
@@ -76,6 +84,19 @@ fn moment_zeptos(text: &[u8]) -> Option<i128>
         zeptos_of(moment_in(text), Some(0))
     } else {
         zeptos_of(moment_in(&text[..29]), more_in(&text[28..]))
+    }
+}
+
+/// The zeptoseconds, of which a second has 10^21, from the beginning of a day to the time that the
+/// text of a literal says. It takes no memory.
+pub fn time_zeptos(text: &str) -> Option<i128>
+    ensures { result ≡ time_zeptos text.now }
+{
+    let text = text.as_bytes();
+    if text.len() <= 18 {
+        zeptos_of(time_in(text), Some(0))
+    } else {
+        zeptos_of(time_in(&text[..18]), more_in(&text[17..]))
     }
 }
 
@@ -155,6 +176,20 @@ fn moment_in(text: &[u8]) -> Option<i128>
             clock_in(&text[11..19]),
             fraction_in(&text[19..]),
         )
+    } else {
+        None
+    }
+}
+
+// The nanoseconds since a day began that a text says.
+#[tactic(auto, unfolding(crate::specs::Moments::time_in))]
+fn time_in(text: &[u8]) -> Option<i128>
+    ensures value { result ≡ time_in text.now }
+    ensures near { IfSome result (λ nanos. (neg_ℤ (pos 1000000000000000000000000) ≤ℤ nanos)
+        × (nanos ≤ℤ pos 1000000000000000000000000)) }
+{
+    if text.len() >= 8 {
+        moment_of(Some(0), clock_in(&text[..8]), fraction_in(&text[8..]))
     } else {
         None
     }
