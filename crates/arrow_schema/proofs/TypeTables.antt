@@ -15,13 +15,13 @@ use Rattle.flatbuf.proofs.Lengths.{whole_table, whole_text, short_table, short_t
 use Rattle.flatbuf.proofs.Led.{led_text}
 use Rattle.arrow_types.specs.declared.data_type.IntegerType.{IntegerType}
 use Rattle.arrow_types.specs.declared.data_type.IntegerType.TheVariants.{Int8, Int16, Int32, Int64, UInt8, UInt16, UInt32, UInt64}
-use Rattle.arrow_types.specs.declared.data_type.NumberType.TheVariants.{Integer, Decimal, Date, Timestamp, Time}
+use Rattle.arrow_types.specs.declared.data_type.NumberType.TheVariants.{Integer, Decimal, Date, Timestamp, Time, Duration}
 use Rattle.arrow_types.specs.declared.data_type.TimeUnit.{TimeUnit}
 use Rattle.arrow_types.specs.declared.data_type.TimeUnit.TheVariants.{Second, Millisecond, Microsecond, Nanosecond}
 use Rattle.arrow_types.specs.declared.data_type.DataType.{DataType}
 use Rattle.arrow_types.specs.declared.data_type.DataType.TheVariants.{Number, Utf8, Bool as Flags, Dictionary}
 use Rattle.arrow_types.specs.DataType.{bit_width, is_signed}
-use Rattle.arrow_schema.specs.TypeTables.{meaning_of, flag, SaysInteger, SaysDecimal, SaysDate, SaysTimestamp, SaysTime, SaysType, signed_types, unsigned_types, integer_type, integer_of, integer_slots, integer_part, decimal_of, date_of, unit_number, time_units, is_zone, timestamp_of, timestamp_slots, time_bits, time_of, type_readings, type_written, type_number, type_part, type_of}
+use Rattle.arrow_schema.specs.TypeTables.{meaning_of, flag, SaysInteger, SaysDecimal, SaysDate, SaysTimestamp, SaysTime, SaysDuration, SaysType, signed_types, unsigned_types, integer_type, integer_of, integer_slots, integer_part, decimal_of, date_of, unit_number, time_units, is_zone, timestamp_of, timestamp_slots, time_bits, time_of, duration_of, type_readings, type_written, type_number, type_part, type_of}
 use Rattle.arrow_schema.proofs.Readings.{bind_ok, demand_ok, HoldOf, meaning_told, says_scalar, reads_scalar, says_text, reads_text}
 
 -- ---- Int
@@ -197,6 +197,15 @@ time_row table t is e =
       record { unit = says_unit table 1 a.0 b.0 is a.1 b.1; width = subst (λ (n : ℕ). HasScalar 4 table 1 32 n) same (says_scalar 4 table 1 32 c.0 is c.1) },
     )
 
+duration_row : IsTold 18 duration_of
+unfolding duration_of
+duration_row table t is e =
+    let a = bind_ok (scalar_of 2 table 0 1) _ t e in
+    let b = bind_ok (meaning_of time_units a.0) _ t a.2 in
+    let last = b.2 in
+    let f : Number (Duration b.0) ≡ t = cc in
+    rw (← f) (refl, says_unit table 1 a.0 b.0 is a.1 b.1)
+
 utf8_row : IsTold 5 (λ table. Ok Utf8)
 utf8_row table t is e = let f : Utf8 ≡ t = cc in rw (← f) (refl, tt)
 
@@ -204,7 +213,7 @@ flags_row : IsTold 6 (λ table. Ok Flags)
 flags_row table t is e = let f : Flags ≡ t = cc in rw (← f) (refl, tt)
 
 told_rows : HoldOf IsTold type_readings
-told_rows = (integer_row, (utf8_row, (flags_row, (decimal_row, (date_row, (time_row, (timestamp_row, tt)))))))
+told_rows = (integer_row, (utf8_row, (flags_row, (decimal_row, (date_row, (time_row, (timestamp_row, (duration_row, tt))))))))
 
 pub type_told : (kind : ℕ) (table : Result TableAt Fault) (t : DataType) → type_of kind table ≡ Ok t → (found : TableAt) × (table ≡ Ok found) × (IsBytes found.bytes → (kind ≡ type_number t) × SaysType t found)
 type_told kind table t e =
@@ -339,6 +348,25 @@ unfolding time_of
 time_read unit table is says =
     rw (reads_scalar 2 table 0 1 (unit_number unit) is says.unit, unit_again unit, reads_scalar 4 table 1 32 (time_bits unit) is says.width, eq-eqb (time_bits unit) (time_bits unit) refl) refl
 
+-- the table of a duration
+
+abbrev duration_slots : TimeUnit → List Given
+duration_slots unit = Scalar (unit_number unit) ∷ []
+
+duration_again : (unit : TimeUnit) (bytes : List ℕ) (at : ℕ) → Stands (table_part (duration_slots unit)).bytes bytes at →
+    duration_of (table_at bytes at (table_part (duration_slots unit))) ≡ Ok (Number (Duration unit))
+unfolding duration_of
+duration_again unit bytes at s =
+    let slots = duration_slots unit in
+    let t = table_at bytes at (table_part slots) in
+    let low = low_unit unit in
+    let number : scalar_of 2 t 0 1 ≡ Ok (unit_number unit) = table_reads slots bytes at (fits_table slots (omega arith) (omega arith)) tt s 0 2 1 (omega arith) (omega arith) in
+    rw (number, unit_again unit) refl
+
+duration_read : (unit : TimeUnit) (table : TableAt) → IsBytes table.bytes → SaysDuration table unit → duration_of table ≡ Ok (Number (Duration unit))
+unfolding duration_of
+duration_read unit table is says = rw (reads_scalar 2 table 0 1 (unit_number unit) is says, unit_again unit) refl
+
 pub row : (t : DataType) → Row t
 unfolding type_part integer_part
 row (Number (Integer integer)) = record {
@@ -360,6 +388,7 @@ row (Number (Timestamp unit zoned)) = record {
   read = timestamp_read unit zoned;
 }
 row (Number (Time unit)) = record { whole = tt; short = (let s = short_table (time_slots unit) in omega arith); reading = time_of; known = refl; again = time_again unit; read = time_read unit }
+row (Number (Duration unit)) = record { whole = tt; short = (let s = short_table (duration_slots unit) in omega arith); reading = duration_of; known = refl; again = duration_again unit; read = duration_read unit }
 row Utf8 = record { whole = tt; short = (let s = short_table [] in omega arith); reading = λ table. Ok Utf8; known = refl; again = λ bytes at s. refl; read = λ table is says. refl }
 row Flags = record { whole = tt; short = (let s = short_table [] in omega arith); reading = λ table. Ok Flags; known = refl; again = λ bytes at s. refl; read = λ table is says. refl }
 row (Dictionary encoding) = record { whole = tt; short = (let s = short_table [] in omega arith); reading = λ table. Ok Utf8; known = refl; again = λ bytes at s. refl; read = λ table is says. absurd says }
@@ -369,7 +398,7 @@ abbrev IsKind : ℕ → (TableAt → Result DataType Fault) → Type 0
 IsKind kind reading = (1 ≤ kind) × (kind < 256)
 
 pub is_kind : (t : DataType) → (1 ≤ type_number t) × (type_number t < 256)
-is_kind t = meaning_told IsKind type_readings (type_number t) (row t).reading ((omega arith, omega arith), ((omega arith, omega arith), ((omega arith, omega arith), ((omega arith, omega arith), ((omega arith, omega arith), ((omega arith, omega arith), ((omega arith, omega arith), tt))))))) (row t).known
+is_kind t = meaning_told IsKind type_readings (type_number t) (row t).reading ((omega arith, omega arith), ((omega arith, omega arith), ((omega arith, omega arith), ((omega arith, omega arith), ((omega arith, omega arith), ((omega arith, omega arith), ((omega arith, omega arith), ((omega arith, omega arith), tt)))))))) (row t).known
 
 pub whole_type : (t : DataType) → IsWhole (type_part t)
 unfolding type_part

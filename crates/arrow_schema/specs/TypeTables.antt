@@ -14,7 +14,7 @@ use Rattle.arrow_types.specs.declared.data_type.IntegerType.TheVariants.{Int8, I
 use Rattle.arrow_types.specs.declared.data_type.IntegerType.TheVariants.{UInt8, UInt16, UInt32}
 use Rattle.arrow_types.specs.declared.data_type.IntegerType.TheVariants.{UInt64}
 use Rattle.arrow_types.specs.declared.data_type.NumberType.TheVariants.{Integer, Decimal, Date}
-use Rattle.arrow_types.specs.declared.data_type.NumberType.TheVariants.{Timestamp, Time}
+use Rattle.arrow_types.specs.declared.data_type.NumberType.TheVariants.{Timestamp, Time, Duration}
 use Rattle.arrow_types.specs.declared.data_type.TimeUnit.{TimeUnit}
 use Rattle.arrow_types.specs.declared.data_type.TimeUnit.TheVariants.{Second, Millisecond}
 use Rattle.arrow_types.specs.declared.data_type.TimeUnit.TheVariants.{Microsecond, Nanosecond}
@@ -159,6 +159,19 @@ time_of table = do
   _ ← demand (bits == time_bits unit) UnsupportedArrow
   Ok (Number (Time unit))
 
+-- ---- Duration
+
+-- a Duration table: its unit, MILLISECOND (1) by default
+abbrev pub SaysDuration : TableAt → TimeUnit → Type 0
+SaysDuration table unit = HasScalar 2 table 0 1 (unit_number unit)
+
+-- what a Duration table says: its unit
+unfoldable pub duration_of : TableAt → Result DataType Fault
+duration_of table = do
+  number ← scalar_of 2 table 0 1
+  unit ← meaning_of time_units number
+  Ok (Number (Duration unit))
+
 -- ---- the rows
 
 -- what the table of a type says; no type's table says a dictionary
@@ -168,6 +181,7 @@ SaysType (Number Decimal) table = SaysDecimal table
 SaysType (Number Date) table = SaysDate table
 SaysType (Number (Timestamp unit zoned)) table = SaysTimestamp table unit zoned
 SaysType (Number (Time unit)) table = SaysTime table unit
+SaysType (Number (Duration unit)) table = SaysDuration table unit
 SaysType Utf8 table = Unit {0}
 SaysType Flags table = Unit {0}
 SaysType (Dictionary encoding) table = ⊥
@@ -181,6 +195,7 @@ type_readings = (2, λ table. integer_of table >>= λ integer. Ok (Number (Integ
     ∷ (8, date_of)
     ∷ (9, time_of)
     ∷ (10, timestamp_of)
+    ∷ (18, duration_of)
     ∷ []
 
 -- how a type is written: the number of its kind, and the slots of its table. Those of a dictionary
@@ -191,6 +206,7 @@ type_written (Number Decimal) = (7, Scalar 38 ∷ Scalar 0 ∷ Scalar 128 ∷ []
 type_written (Number Date) = (8, Scalar 0 ∷ [])
 type_written (Number (Timestamp unit zoned)) = (10, timestamp_slots unit zoned)
 type_written (Number (Time unit)) = (9, Scalar (unit_number unit) ∷ Scalar (time_bits unit) ∷ [])
+type_written (Number (Duration unit)) = (18, Scalar (unit_number unit) ∷ [])
 type_written Utf8 = (5, [])
 type_written Flags = (6, [])
 type_written (Dictionary encoding) = (5, [])

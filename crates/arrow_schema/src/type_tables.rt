@@ -9,6 +9,7 @@ ghost use Rattle.arrow_schema.specs.Fields.{table_wanted};
 ghost use Rattle.arrow_schema.specs.TypeTables.{integer_type, integer_of, decimal_of, date_of};
 ghost use Rattle.arrow_schema.specs.TypeTables.{is_zone, meaning_of, time_units, timestamp_of};
 ghost use Rattle.arrow_schema.specs.TypeTables.{time_bits, time_of, timestamp_slots, unit_number};
+ghost use Rattle.arrow_schema.specs.TypeTables.{duration_of};
 ghost use Rattle.arrow_schema.specs.TypeTables.{type_of, integer_part, type_number, type_part};
 
 use crate::header::table_wanted;
@@ -116,6 +117,16 @@ fn time(table: &Table<'_>) -> Result<DataType, Fault>
     Ok(DataType::Number(NumberType::Time(unit)))
 }
 
+// A duration.
+#[tactic(auto, unfolding(crate::specs::TypeTables::duration_of))]
+fn duration(table: &Table<'_>) -> Result<DataType, Fault>
+    ensures value { Gives (λ duration. duration) result (duration_of table.now) }
+    ensures valid { IfOk result IsType }
+{
+    let unit = time_unit(table.scalar(0, Width::Two, 1)?)?;
+    Ok(DataType::Number(NumberType::Duration(unit)))
+}
+
 // The bits of a time of a day.
 fn time_bits(unit: TimeUnit) -> u64
     ensures { result ≡ time_bits unit }
@@ -145,6 +156,7 @@ pub(crate) fn type_from(kind: u64, field: &Table<'_>) -> Result<DataType, Fault>
         8 => date(&table?),
         9 => time(&table?),
         10 => timestamp(&table?),
+        18 => duration(&table?),
         _ => Err(Fault::UnsupportedArrow),
     }
 }
@@ -208,6 +220,9 @@ pub(crate) fn type_block(builder: &Builder, data_type: DataType) -> Result<(u64,
                 Slot::Number(time_bits(unit)),
             ];
             Ok((9, builder.table(&slots)?))
+        }
+        DataType::Number(NumberType::Duration(unit)) => {
+            Ok((18, builder.table(&[Slot::Number(unit_number(unit))])?))
         }
     }
 }

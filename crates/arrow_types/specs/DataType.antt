@@ -56,14 +56,15 @@ time_integer Millisecond = Int32
 time_integer Microsecond = Int64
 time_integer Nanosecond = Int64
 
--- how a number lies in a slot: a date in 32 bits with a sign, a timestamp in 64, a time by its unit,
--- a decimal in 128
+-- how a number lies in a slot: a date in 32 bits with a sign, a timestamp and a duration in 64, a
+-- time by its unit, a decimal in 128
 abbrev pub cell_of : NumberType → Cell
 cell_of (number.Integer integer) = cell.Integer integer
 cell_of number.Decimal = cell.Wide
 cell_of number.Date = cell.Integer Int32
 cell_of (number.Timestamp unit zoned) = cell.Integer Int64
 cell_of (number.Time unit) = cell.Integer (time_integer unit)
+cell_of (number.Duration unit) = cell.Integer Int64
 
 -- whether two are one type
 abbrev pub same_number : NumberType → NumberType → Bool
@@ -74,6 +75,7 @@ same_number number.Date number.Date = true
 same_number (number.Timestamp one zoned) (number.Timestamp other too) =
     per_second one == per_second other && same_flag zoned too
 same_number (number.Time one) (number.Time other) = per_second one == per_second other
+same_number (number.Duration one) (number.Duration other) = per_second one == per_second other
 same_number _ _ = false
 
 -- the dictionary of a type, where it has one

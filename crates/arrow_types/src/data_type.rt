@@ -57,6 +57,8 @@ pub enum NumberType {
     Timestamp(TimeUnit, bool),
     /// How many of the unit have passed since a day began.
     Time(TimeUnit),
+    /// How many of the unit have passed.
+    Duration(TimeUnit),
 }
 
 /// How a number lies in a slot: as an integer of fixed width, or in 16 bytes with a sign.
@@ -162,6 +164,7 @@ impl NumberType {
             NumberType::Date => Cell::Integer(IntegerType::Int32),
             NumberType::Timestamp(_, _) => Cell::Integer(IntegerType::Int64),
             NumberType::Time(unit) => Cell::Integer(unit.time_integer()),
+            NumberType::Duration(_) => Cell::Integer(IntegerType::Int64),
         }
     }
 
@@ -179,6 +182,9 @@ impl NumberType {
                 one.per_second() == other.per_second() && zoned == too
             }
             (NumberType::Time(one), NumberType::Time(other)) => {
+                one.per_second() == other.per_second()
+            }
+            (NumberType::Duration(one), NumberType::Duration(other)) => {
                 one.per_second() == other.per_second()
             }
             (_, _) => false,

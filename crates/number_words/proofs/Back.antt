@@ -12,7 +12,7 @@ use Rattle.std.proofs.lemmas.Fmt.{decimal_is_IsNumeral_wide}
 use Rattle.std.proofs.lemmas.Str.Parse.{IsNumeralModel, not_in_digits, numerals_by_value}
 use Rattle.arrow_types.specs.declared.data_type.Cell.{Cell}
 use Rattle.arrow_types.specs.declared.data_type.NumberType.{NumberType}
-use Rattle.arrow_types.specs.declared.data_type.NumberType.TheVariants.{Integer, Decimal, Date, Timestamp, Time}
+use Rattle.arrow_types.specs.declared.data_type.NumberType.TheVariants.{Integer, Decimal, Date, Timestamp, Time, Duration}
 use Rattle.arrow_types.specs.DataType.{cell_of}
 use Rattle.sql_text.specs.Values.{number_of}
 use Rattle.number_words.specs.DateText.{DayReadsBack}
@@ -52,6 +52,7 @@ kept cell number found held is = ap (kept_in cell) is ∙ ap (λ (b : Bool). if 
 pub reads_back : (kind : NumberType) (number : ℤ) → DayReadsBack (day_number kind number) → ReadsBack kind number
 reads_back (Integer integer) number day fits = let parts = both _ _ fits in kept (cell_of (Integer integer)) number _ parts.0 (number_back number parts.1)
 reads_back Decimal number day fits = let parts = both _ _ fits in kept (cell_of Decimal) number _ parts.0 (number_back number parts.1)
+reads_back (Duration unit) number day fits = let parts = both _ _ fits in kept (cell_of (Duration unit)) number _ parts.0 (number_back number parts.1)
 reads_back Date number day fits = let parts = both (holds (cell_of Date) number) (is_sayable Date number) fits in rw parts.1 (kept (cell_of Date) number _ parts.0 (day parts.1))
 reads_back (Timestamp unit zoned) number day fits =
     let parts = both (holds (cell_of (Timestamp unit zoned)) number) (is_sayable (Timestamp unit zoned) number) fits in

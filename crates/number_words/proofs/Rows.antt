@@ -6,7 +6,7 @@ use Rattle.jiff_core.specs.Calendar.{days_from_civil, day_count, days_of_years, 
 use Rattle.number_words.specs.Dates.{day_in}
 use Rattle.arrow_types.specs.declared.data_type.IntegerType.TheVariants.{Int8, Int16, Int32}
 use Rattle.arrow_types.specs.declared.data_type.Cell.TheVariants as cell
-use Rattle.arrow_types.specs.declared.data_type.NumberType.TheVariants.{Integer, Decimal, Date, Timestamp, Time}
+use Rattle.arrow_types.specs.declared.data_type.NumberType.TheVariants.{Integer, Decimal, Date, Timestamp, Time, Duration}
 use Rattle.arrow_types.specs.declared.data_type.TimeUnit.TheVariants.{Second, Millisecond, Microsecond, Nanosecond}
 use Rattle.sql_text.specs.Values.{number_of}
 use Rattle.number_words.specs.DateText.{date_of}
@@ -220,3 +220,7 @@ time_shown = refl
 past_the_day : shown (Time Second) (pos 86400) ≡ codes "86400"
 unfolding digits
 past_the_day = refl
+
+duration_shown : literal_text (Duration Second) (negsuc 89) ≡ codes "-90"
+unfolding digits
+duration_shown = refl

@@ -6,7 +6,7 @@ use Rattle.std.specs.List.{list_all}
 use Rattle.std.specs.Str.{byte}
 use Rattle.arrow_types.specs.declared.data_type.IntegerType.TheVariants.{Int8, Int16, Int32, Int64, UInt8, UInt16, UInt32, UInt64}
 use Rattle.arrow_types.specs.declared.data_type.NumberType.{NumberType}
-use Rattle.arrow_types.specs.declared.data_type.NumberType.TheVariants.{Integer, Decimal, Date, Timestamp, Time}
+use Rattle.arrow_types.specs.declared.data_type.NumberType.TheVariants.{Integer, Decimal, Date, Timestamp, Time, Duration}
 use Rattle.arrow_types.specs.declared.data_type.TimeUnit.TheVariants.{Second, Millisecond, Microsecond, Nanosecond}
 use Rattle.number_words.specs.declared.words.TheConstants.{TYPES}
 use Rattle.number_words.specs.NumberTexts.{word}
@@ -39,6 +39,10 @@ plain_word (Time Second) = refl
 plain_word (Time Millisecond) = refl
 plain_word (Time Microsecond) = refl
 plain_word (Time Nanosecond) = refl
+plain_word (Duration Second) = refl
+plain_word (Duration Millisecond) = refl
+plain_word (Duration Microsecond) = refl
+plain_word (Duration Nanosecond) = refl
 
 -- a text that is the word of none of them is that of no type
 pub none_named : (text : List ℕ) → ((k : ℕ) (d : NumberType) → k < length TYPES → text ≢ word (get_or TYPES k d)) → (kind : NumberType) → text ≢ word kind
@@ -64,3 +68,7 @@ none_named text other (Time Second) = other 18 Date (omega arith)
 none_named text other (Time Millisecond) = other 19 Date (omega arith)
 none_named text other (Time Microsecond) = other 20 Date (omega arith)
 none_named text other (Time Nanosecond) = other 21 Date (omega arith)
+none_named text other (Duration Second) = other 22 Date (omega arith)
+none_named text other (Duration Millisecond) = other 23 Date (omega arith)
+none_named text other (Duration Microsecond) = other 24 Date (omega arith)
+none_named text other (Duration Nanosecond) = other 25 Date (omega arith)

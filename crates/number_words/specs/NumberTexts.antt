@@ -8,7 +8,7 @@ use Rattle.arrow_types.specs.declared.data_type.IntegerType.TheVariants.{UInt8, 
 use Rattle.arrow_types.specs.declared.data_type.IntegerType.TheVariants.{UInt64}
 use Rattle.arrow_types.specs.declared.data_type.NumberType.{NumberType}
 use Rattle.arrow_types.specs.declared.data_type.NumberType.TheVariants.{Integer, Decimal, Date}
-use Rattle.arrow_types.specs.declared.data_type.NumberType.TheVariants.{Timestamp, Time}
+use Rattle.arrow_types.specs.declared.data_type.NumberType.TheVariants.{Timestamp, Time, Duration}
 use Rattle.arrow_types.specs.declared.data_type.TimeUnit.TheVariants.{Second, Millisecond}
 use Rattle.arrow_types.specs.declared.data_type.TimeUnit.TheVariants.{Microsecond, Nanosecond}
 use Rattle.arrow_types.specs.DataType.{cell_of}
@@ -44,13 +44,17 @@ word (Time Second) = codes "time_s"
 word (Time Millisecond) = codes "time_ms"
 word (Time Microsecond) = codes "time"
 word (Time Nanosecond) = codes "time_ns"
+word (Duration Second) = codes "duration_s"
+word (Duration Millisecond) = codes "duration_ms"
+word (Duration Microsecond) = codes "duration"
+word (Duration Nanosecond) = codes "duration_ns"
 
 -- how a column of a text is spelled, with the words of all types, for people
 abbrev pub spelling_line : List ℕ
 spelling_line = codes "'a:int8, b:utf8?': int8..int64, uint8..uint64, decimal, date, "
-    ++ codes "timestamp[tz][_s|_ms|_ns], time[_s|_ms|_ns], bool or utf8\n"
+    ++ codes "timestamp[tz][_s|_ms|_ns], time[..], duration[..], bool or utf8\n"
 
--- the word before a literal of a type; an integer and a decimal have none
+-- the word before a literal of a type; an integer, a decimal and a duration have none
 abbrev pub keyword : NumberType → Option (List ℕ)
 keyword Date = Some (codes "DATE")
 keyword (Timestamp unit zoned) = Some (codes "TIMESTAMP")

@@ -60,7 +60,7 @@ fn form_of(kind: NumberType, number: i128) -> Option<ArrayString<FORM_BYTES>>
         NumberType::Date => date_of(number),
         NumberType::Timestamp(unit, zoned) => timestamp_of(unit, zoned, number),
         NumberType::Time(unit) => time_of(unit, number),
-        NumberType::Integer(_) | NumberType::Decimal => None,
+        NumberType::Integer(_) | NumberType::Decimal | NumberType::Duration(_) => None,
     }
 }
 

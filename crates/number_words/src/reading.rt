@@ -27,7 +27,7 @@ fn number_said(kind: NumberType, text: &str) -> Option<i128>
         NumberType::Date => day_said(text),
         NumberType::Timestamp(unit, zoned) => timestamp_in(unit, zoned, text),
         NumberType::Time(unit) => time_said(unit, text),
-        NumberType::Integer(_) | NumberType::Decimal => decimal_in(text),
+        NumberType::Integer(_) | NumberType::Decimal | NumberType::Duration(_) => decimal_in(text),
     }
 }
 

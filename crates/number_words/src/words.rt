@@ -9,7 +9,7 @@ ghost use Rattle.number_words.specs.NumberTexts.{keyword, spelling_line, word};
 use arrow_types::{IntegerType, NumberType, TimeUnit};
 
 // All types of numbers.
-const TYPES: [NumberType; 22] = [
+const TYPES: [NumberType; 26] = [
     NumberType::Integer(IntegerType::Int8),
     NumberType::Integer(IntegerType::Int16),
     NumberType::Integer(IntegerType::Int32),
@@ -32,6 +32,10 @@ const TYPES: [NumberType; 22] = [
     NumberType::Time(TimeUnit::Millisecond),
     NumberType::Time(TimeUnit::Microsecond),
     NumberType::Time(TimeUnit::Nanosecond),
+    NumberType::Duration(TimeUnit::Second),
+    NumberType::Duration(TimeUnit::Millisecond),
+    NumberType::Duration(TimeUnit::Microsecond),
+    NumberType::Duration(TimeUnit::Nanosecond),
 ];
 
 /// The types that a text may be of, in the order in which they are tried.
@@ -71,6 +75,7 @@ pub fn word(kind: NumberType) -> &'static str
         NumberType::Timestamp(unit, false) => timestamp_word(unit),
         NumberType::Timestamp(unit, true) => zoned_word(unit),
         NumberType::Time(unit) => time_word(unit),
+        NumberType::Duration(unit) => duration_word(unit),
     }
 }
 
@@ -126,12 +131,24 @@ fn time_word(unit: TimeUnit) -> &'static str
     }
 }
 
+// The word for a duration.
+fn duration_word(unit: TimeUnit) -> &'static str
+    ensures { result.now ≡ word (type.Duration unit) }
+{
+    match unit {
+        TimeUnit::Second => "duration_s",
+        TimeUnit::Millisecond => "duration_ms",
+        TimeUnit::Microsecond => "duration",
+        TimeUnit::Nanosecond => "duration_ns",
+    }
+}
+
 /// A line for people: how a column is spelled, with the words of all types.
 pub fn spelling_line() -> &'static [u8]
     ensures { result.now ≡ spelling_line }
 {
     b"'a:int8, b:utf8?': int8..int64, uint8..uint64, decimal, date, \
-    timestamp[tz][_s|_ms|_ns], time[_s|_ms|_ns], bool or utf8\n"
+    timestamp[tz][_s|_ms|_ns], time[..], duration[..], bool or utf8\n"
 }
 
 /// The word before a literal of a type, if it has one.
@@ -143,6 +160,6 @@ pub fn keyword(kind: NumberType) -> Option<&'static str>
         NumberType::Date => Some("DATE"),
         NumberType::Timestamp(_, _) => Some("TIMESTAMP"),
         NumberType::Time(_) => Some("TIME"),
-        NumberType::Integer(_) | NumberType::Decimal => None,
+        NumberType::Integer(_) | NumberType::Decimal | NumberType::Duration(_) => None,
     }
 }

@@ -17,7 +17,8 @@ pub enum Class {
     Text,
     /// Truth values.
     Truth,
-    /// What is no integer and no decimal, each type for itself: dates, timestamps, times.
+    /// What is no integer and no decimal, each type for itself: dates, timestamps, times,
+    /// durations.
     Own(NumberType),
     /// Timestamps of literals that stand next to no column of timestamps.
     Moment,
@@ -43,9 +44,10 @@ impl Class {
     {
         match kind {
             NumberType::Integer(_) | NumberType::Decimal => Class::Number,
-            NumberType::Date | NumberType::Timestamp(_, _) | NumberType::Time(_) => {
-                Class::Own(kind)
-            }
+            NumberType::Date
+            | NumberType::Timestamp(_, _)
+            | NumberType::Time(_)
+            | NumberType::Duration(_) => Class::Own(kind),
         }
     }
 
