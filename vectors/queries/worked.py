@@ -729,8 +729,8 @@ COLUMNS = [
     ("SELECT * FROM p JOIN q ON p.a = q.a", "a Integer(Int64) true;a Integer(Int64) true;"),
     ('SELECT a AS "x""y", a "Ab", b Cd FROM t', 'x"y Integer(Int64) true;Ab Integer(Int64) true;Cd Integer(Int64) true;'),
     ("SELECT d, COUNT(d) FROM days GROUP BY d", "d Date true;col2 Integer(Int64) false;"),
-    ("SELECT t, COUNT(t) FROM moments GROUP BY t", "t Timestamp true;col2 Integer(Int64) false;"),
-    ("SELECT t AS timestamp, i timestamp FROM clocks Timestamp", "timestamp Timestamp false;timestamp Integer(Int64) false;"),
+    ("SELECT t, COUNT(t) FROM moments GROUP BY t", "t Timestamp(Microsecond, false) true;col2 Integer(Int64) false;"),
+    ("SELECT t AS timestamp, i timestamp FROM clocks Timestamp", "timestamp Timestamp(Microsecond, false) false;timestamp Integer(Int64) false;"),
     (
         "SELECT c, k, c AS d FROM types",
         "c Dictionary(DictionaryEncoding { id: 0, index: Int32 }) true;k Integer(Int8) false;"
