@@ -21,7 +21,9 @@ use Rattle.arrow_types.specs.declared.data_type.TimeUnit.TheVariants.{Second, Mi
 use Rattle.arrow_types.specs.declared.data_type.DataType.{DataType}
 use Rattle.arrow_types.specs.declared.data_type.DataType.TheVariants.{Number, Utf8, Bool as Flags, Dictionary}
 use Rattle.arrow_types.specs.DataType.{bit_width, is_signed}
-use Rattle.arrow_schema.specs.TypeTables.{meaning_of, flag, SaysInteger, SaysDecimal, SaysDate, SaysTimestamp, SaysTime, SaysDuration, SaysType, signed_types, unsigned_types, integer_type, integer_of, integer_slots, integer_part, decimal_of, date_of, unit_number, time_units, is_zone, timestamp_of, timestamp_slots, time_bits, time_of, duration_of, type_readings, type_written, type_number, type_part, type_of}
+use Rattle.arrow_schema.specs.Meanings.{meaning_of}
+use Rattle.arrow_schema.specs.TimeTables.{SaysTimestamp, SaysTime, SaysDuration, unit_number, time_units, is_zone, timestamp_of, timestamp_slots, time_bits, time_of, duration_of}
+use Rattle.arrow_schema.specs.TypeTables.{flag, SaysInteger, SaysDecimal, SaysDate, SaysType, signed_types, unsigned_types, integer_type, integer_of, integer_slots, integer_part, decimal_of, date_of, type_readings, type_written, type_number, type_part, type_of}
 use Rattle.arrow_schema.proofs.Readings.{bind_ok, demand_ok, HoldOf, meaning_told, says_scalar, reads_scalar, says_text, reads_text}
 
 -- ---- Int

@@ -7,9 +7,10 @@ ghost use Rattle.flatbuf.specs.Block.{table_part};
 ghost use Rattle.arrow_types.specs.Schema.{IsType};
 ghost use Rattle.arrow_schema.specs.Fields.{table_wanted};
 ghost use Rattle.arrow_schema.specs.TypeTables.{integer_type, integer_of, decimal_of, date_of};
-ghost use Rattle.arrow_schema.specs.TypeTables.{is_zone, meaning_of, time_units, timestamp_of};
-ghost use Rattle.arrow_schema.specs.TypeTables.{time_bits, time_of, timestamp_slots, unit_number};
-ghost use Rattle.arrow_schema.specs.TypeTables.{duration_of};
+ghost use Rattle.arrow_schema.specs.Meanings.{meaning_of};
+ghost use Rattle.arrow_schema.specs.TimeTables.{is_zone, time_units, timestamp_of};
+ghost use Rattle.arrow_schema.specs.TimeTables.{time_bits, time_of, timestamp_slots, unit_number};
+ghost use Rattle.arrow_schema.specs.TimeTables.{duration_of};
 ghost use Rattle.arrow_schema.specs.TypeTables.{type_of, integer_part, type_number, type_part};
 
 use crate::header::table_wanted;
@@ -93,7 +94,7 @@ fn is_zone(zone: Option<&str>) -> bool
 }
 
 // A timestamp. Of a zone it is kept that there is one.
-#[tactic(auto, unfolding(crate::specs::TypeTables::timestamp_of))]
+#[tactic(auto, unfolding(crate::specs::TimeTables::timestamp_of))]
 fn timestamp(table: &Table<'_>) -> Result<DataType, Fault>
     ensures value { Gives (λ timestamp. timestamp) result (timestamp_of table.now) }
     ensures valid { IfOk result IsType }
@@ -104,7 +105,7 @@ fn timestamp(table: &Table<'_>) -> Result<DataType, Fault>
 }
 
 // A time of a day, in the bits of its unit.
-#[tactic(auto, unfolding(crate::specs::TypeTables::time_of))]
+#[tactic(auto, unfolding(crate::specs::TimeTables::time_of))]
 fn time(table: &Table<'_>) -> Result<DataType, Fault>
     ensures value { Gives (λ time. time) result (time_of table.now) }
     ensures valid { IfOk result IsType }
@@ -118,7 +119,7 @@ fn time(table: &Table<'_>) -> Result<DataType, Fault>
 }
 
 // A duration.
-#[tactic(auto, unfolding(crate::specs::TypeTables::duration_of))]
+#[tactic(auto, unfolding(crate::specs::TimeTables::duration_of))]
 fn duration(table: &Table<'_>) -> Result<DataType, Fault>
     ensures value { Gives (λ duration. duration) result (duration_of table.now) }
     ensures valid { IfOk result IsType }

@@ -25,7 +25,8 @@ kind_names =
     ∷ (12, codes "list") ∷ (13, codes "struct") ∷ (14, codes "union")
     ∷ (15, codes "fixed size binary") ∷ (16, codes "fixed size list") ∷ (17, codes "map")
     ∷ (18, codes "duration of another unit") ∷ (19, codes "large binary")
-    ∷ (20, codes "large utf8") ∷ (21, codes "large list") ∷ (23, codes "binary view") ∷ (24, codes "utf8 view") ∷ []
+    ∷ (20, codes "large utf8") ∷ (21, codes "large list") ∷ (23, codes "binary view")
+    ∷ (24, codes "utf8 view") ∷ []
 
 -- the name of a kind among these
 abbrev pub name_among : List (ℕ × List ℕ) → ℕ → List ℕ

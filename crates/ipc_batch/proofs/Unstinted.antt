@@ -13,7 +13,9 @@ use Rattle.arrow_types.specs.declared.data_type.NumberType.TheVariants.{Integer}
 use Rattle.arrow_types.specs.declared.data_type.DataType.{DataType}
 use Rattle.arrow_types.specs.declared.data_type.DataType.TheVariants.{Number, Utf8, Bool as Flags, Dictionary}
 use Rattle.arrow_types.specs.Schema.{same_dictionary}
-use Rattle.arrow_schema.specs.TypeTables.{meaning_of, signed_types, unsigned_types, integer_type, integer_of, decimal_of, date_of, time_units, time_bits, time_of, timestamp_of, duration_of, type_readings}
+use Rattle.arrow_schema.specs.Meanings.{meaning_of}
+use Rattle.arrow_schema.specs.TimeTables.{time_units, time_bits, time_of, timestamp_of, duration_of}
+use Rattle.arrow_schema.specs.TypeTables.{signed_types, unsigned_types, integer_type, integer_of, decimal_of, date_of, type_readings}
 use Rattle.arrow_schema.proofs.Readings.{HoldOf}
 use Rattle.arrow_schema.specs.Fields.{table_wanted, vector_wanted, name_of, value_type_of, is_bare, childless, index_of, dictionary_of, encoded, field_in}
 use Rattle.arrow_schema.specs.Header.{MessageAt, header_of, body_length_of, field_at, fields_of, schema_in}

@@ -23,7 +23,8 @@ begins_with_string (token ∷ more) = is_a_string token.kind
 abbrev pub kind_of_name : List ℕ → TokenKind
 kind_of_name text =
     if str_eq_ignore_ascii_case text (codes "TIMESTAMP") then kind.Keyword word.Timestamp
-    else (if str_eq_ignore_ascii_case text (codes "TIME") then kind.Keyword word.Time else kind.Name)
+    else (if str_eq_ignore_ascii_case text (codes "TIME") then kind.Keyword word.Time
+    else kind.Name)
 
 -- what a token is, where a string follows or not
 abbrev pub kind_before : TokenKind → List ℕ → Bool → TokenKind

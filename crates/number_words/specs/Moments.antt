@@ -1,5 +1,5 @@
--- What texts say of moments: yyyy-mm-dd hh:mm:ss, digits after a point, and Z for UTC. The clock has
--- no leap seconds.
+-- What texts say of moments: yyyy-mm-dd hh:mm:ss, digits after a point, and Z for UTC. The clock
+-- has no leap seconds.
 use Rattle.std.specs.Prelude.{ℕ, ◌+◌, ◌-◌, ◌*◌, ◌==◌, ◌&&◌, Bool, true, false, nat_le, nat_lt}
 use Rattle.std.specs.Prelude.{if◌then◌else◌, List, [], ◌∷◌, length, take, drop, slice_index}
 use Rattle.std.specs.Prelude.{slice_range, ℤ, pos, ◌+ℤ◌, ◌*ℤ◌, unsigned_abs, Option, Some, None}

@@ -51,7 +51,8 @@ fn typed(kind: NumberType, comparison: Comparison, literal: &Literal) -> Option<
     }
 }
 
-/// An operand on the right of a comparison with another one, if that is a column whose type it gets.
+/// An operand on the right of a comparison with another one, if that is a column and it gets its
+/// type.
 pub(crate) fn settled_operand(
     scope: &Scope<'_>,
     comparison: Comparison,

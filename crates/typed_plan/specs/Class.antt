@@ -10,7 +10,8 @@ use Rattle.scan_base.specs.declared.value.Value.TheVariants as value
 use Rattle.sql_query.specs.declared.query.Literal.{Literal}
 use Rattle.sql_query.specs.declared.query.Literal.TheVariants as literal
 use Rattle.typed_plan.specs.declared.class.Class.{Class}
-use Rattle.typed_plan.specs.declared.class.Class.TheVariants.{Number, Text, Truth, Own, Moment, Clock}
+use Rattle.typed_plan.specs.declared.class.Class.TheVariants.{Number, Text, Truth, Own, Moment}
+use Rattle.typed_plan.specs.declared.class.Class.TheVariants.{Clock}
 
 -- whether two classes are one
 abbrev pub same_class : Class → Class → Bool

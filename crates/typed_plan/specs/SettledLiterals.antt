@@ -74,7 +74,8 @@ type_of_column scope (Err fault) = None
 -- an operand on the right of a comparison with another one
 abbrev pub settled_operand : Scope → Comparison → Operand Term → Operand Term → Operand Term
 settled_operand scope comparison (Column (term.Name name)) (Column (term.Literal written)) =
-    Column (term.Literal (typed_by (type_of_column scope (column_of scope name)) comparison written))
+    let beside = type_of_column scope (column_of scope name) in
+    Column (term.Literal (typed_by beside comparison written))
 settled_operand scope comparison other operand = operand
 
 -- ---- predicates
