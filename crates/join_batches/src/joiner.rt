@@ -160,6 +160,15 @@ impl Joiner {
         Ok(Joiner::unfed(alloc, Arc::try_clone(&self.sides)?))
     }
 
+    /// As how many rows a left one counts that looks for its partners, and one at least. Contracts
+    /// say no more of it.
+    pub fn weight(&self) -> usize
+        ensures { 1 ≤ result }
+    {
+        let built: &BuiltSides = &self.sides;
+        built.build.weight()
+    }
+
     // How many columns the joined rows have.
     fn width(&self) -> usize
         ensures { result ≡ length (joined_types self.now) }
