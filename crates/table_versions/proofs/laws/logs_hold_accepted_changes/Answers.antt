@@ -1,5 +1,5 @@
-use Rattle.table_versions.proofs.Databases.{logs_hold_accepted_puts}
-use Rattle.table_versions.proofs.laws.logs_hold_accepted_puts.Goals as goal
+use Rattle.table_versions.proofs.Databases.{logs_hold_accepted_changes}
+use Rattle.table_versions.proofs.laws.logs_hold_accepted_changes.Goals as goal
 
 pub returns : goal.returns
-returns c = logs_hold_accepted_puts
+returns c = logs_hold_accepted_changes
