@@ -9,6 +9,7 @@
 pub mod action;
 pub mod any;
 pub mod command;
+pub mod drop;
 pub mod expiry;
 pub mod flight_data;
 pub mod flight_descriptor;
@@ -26,6 +27,7 @@ pub mod wrapped_bytes;
 pub use crate::action::Action;
 pub use crate::any::Any;
 pub use crate::command::Command;
+pub use crate::drop::{asks_drop, put_drop, read_drop};
 pub use crate::expiry::{floor_message, put_expiry, put_floor, read_expiry, read_floor};
 pub use crate::flight_data::{
     BorrowedData, FlightData, StreamDescriptor, put_flight_data, put_flight_data_head,

@@ -19,7 +19,7 @@ ghost use Rattle.table_versions.specs.Valid.{IsPut, IsChange};
 
 use crate::catalog::CatalogVersion;
 use crate::cells::{has_bad_null, has_long_row};
-use crate::change::Change;
+use crate::change::{Change, Deed};
 use crate::fields::{has_repeat, same_fields};
 use crate::growing_table::GrowingTable;
 use crate::limits::{MAX_COMMITS, MAX_ROWS, MAX_TABLES};
@@ -276,8 +276,8 @@ pub fn apply(
     ensures refused { RefusesFirst result (after (tables_of catalog.now) above (change_of change)) }
     ensures typed { IfOk result (λ _. IsChange (change_of change)) }
 {
-    match change {
-        Change::Put(put) => next_catalog(alloc, catalog, above, put),
-        Change::Drop(name) => dropped(alloc, catalog, above, &name),
+    match change.deed {
+        Deed::Put(put) => next_catalog(alloc, catalog, above, put),
+        Deed::Drop(name) => dropped(alloc, catalog, above, &name),
     }
 }
