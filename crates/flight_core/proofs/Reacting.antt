@@ -262,7 +262,7 @@ drop_ok : (action : Payload) (name : Name) → drop_of action ≡ Ok name → Is
 drop_ok action name said = rw said refl
 
 -- an action that does not read is refused for its own fault
-drop_unsaid : (log : Log) (action : Payload) (fault : Fault) → drop_of action ≡ Err fault → RefusedFor (drop_of action) (database_dropped log action) fault
+pub drop_unsaid : (log : Log) (action : Payload) (fault : Fault) → drop_of action ≡ Err fault → RefusedFor (drop_of action) (database_dropped log action) fault
 drop_unsaid log action fault unread = rw unread refl
 
 -- one that reads for that of its table, or for want of memory
