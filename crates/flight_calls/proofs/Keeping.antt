@@ -1,5 +1,5 @@
 -- Versions that are kept after a reply, and the expiry of the others, which the server asks of itself.
-use Rattle.std.proofs.Common.{◌≡◌, ◌≢◌, ◌<◌, ◌≤◌, ℕ, zero, suc, ◌+◌, ◌-◌, ◌^◌, Vec, List, [], ◌∷◌, length, Option, Some, None, Result, Ok, Err, refl, ap, subst, arith}
+use Rattle.std.proofs.Common.{◌≡◌, ◌≢◌, ◌<◌, ◌≤◌, ℕ, zero, suc, ◌+◌, ◌-◌, ◌^◌, Vec, Bor, List, [], ◌∷◌, length, Option, Some, None, Result, Ok, Err, refl, ap, subst, arith}
 use Rattle.std.specs.Global.{Global}
 use Rattle.std.specs.Prelude.{codes}
 use lib.Utf8.{encode}
@@ -109,7 +109,7 @@ refused_keeps keep (remove action) cause after = refl
 
 -- nor after what is no change
 pub others_keep : (keep : ℕ) (operation : Operation) (asked : Asked) (fault : Option Fault) (after : Log)
-    → ((read : Result PutAt Fault) → operation ≢ operations.Put read) → ((action : Shared (List ℕ)) → operation ≢ operations.Drop action)
+    → ((read : Result PutAt Fault) → operation ≢ operations.Put read) → ((action : Bor (List ℕ)) → operation ≢ operations.Drop action)
     → StandsFor operation asked → expired_behind keep (Ok asked) fault after ≡ 0
 others_keep keep (operations.Put read) asked fault after no_put no_drop stands = absurd (no_put read refl)
 others_keep keep (operations.Info payload parts) asked fault after no_put no_drop stands = rw stands refl

@@ -67,7 +67,7 @@ fn answer_drop<B: Backend>(alloc: Global, backend: &mut B, action: &[u8], keep: 
             keep_newest(alloc, backend, keep, version);
             Answer::Dropped(version)
         }
-        refused => refused,
+        undone => undone,
     }
 }
 

@@ -156,7 +156,12 @@ impl<C: CellName, R: Wait + Drop> Publisher<C, R> {
 
     // Makes the next version, with this put of the seat with a number. It waits for the seats that
     // are reading the copy which it changes.
-    pub(crate) fn put(&mut self, alloc: Global, seat: u64, change: Change) -> Result<Receipt<C>, Fault>
+    pub(crate) fn put(
+        &mut self,
+        alloc: Global,
+        seat: u64,
+        change: Change,
+    ) -> Result<Receipt<C>, Fault>
         ensures answered { IsAnswered result (log_of self.old) (change_of change) (log_of self.new) }
         ensures added { MatchResult result
             (λ _. self.new ≡ self.old ++ signed seat (added (change_of change)) ∷ [])
