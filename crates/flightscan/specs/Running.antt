@@ -15,14 +15,14 @@ use Rattle.command_line.specs.declared.request.PutForm.{PutForm}
 use Rattle.command_line.specs.declared.request.PutForm.TheVariants.{Arrow, Csv}
 use Rattle.command_line.specs.declared.request.Request.{Request}
 use Rattle.command_line.specs.declared.request.Request.TheVariants.{Pipe, Serve, Put, Query, Tables}
-use Rattle.command_line.specs.declared.request.Request.TheVariants.{Describe, Expire}
+use Rattle.command_line.specs.declared.request.Request.TheVariants.{Describe, Drop, Expire}
 use Rattle.command_ends.specs.Network.{Ends}
 use Rattle.command_ends.specs.Printing.{Said, Prints, fault_line, said_of}
 use Rattle.command_ends.specs.WholeInput.{Source, source_of}
 use Rattle.command_ends.specs.declared.exit_status.ExitStatus.{ExitStatus}
 use Rattle.command_ends.specs.declared.exit_status.ExitStatus.TheVariants.{FaultAtThisEnd}
 use Rattle.client_calls.specs.declared.put_call.Target.{Target}
-use Rattle.client_commands.specs.Commands.{Describes, Desk, Expires, ListsTables, desk_of}
+use Rattle.client_commands.specs.Commands.{Describes, Desk, Drops, Expires, ListsTables, desk_of}
 use Rattle.client_commands.specs.Puts.{Puts, PutsCsv}
 use Rattle.client_commands.specs.Queries.{Queries, QueriesInput}
 use Rattle.flightscan.specs.declared.runner.Streams.{Streams}
@@ -111,6 +111,9 @@ CallsServer seed connects shares (Tables port) status before behind old new =
 CallsServer seed connects shares (Describe port table) status before behind old new =
     Describes (behind ≡ before) (λ ends. connects before port ends behind) table.now status
     (desk_in old) (desk_in new)
+    × (new.input ≡ old.input)
+CallsServer seed connects shares (Drop port table) status before behind old new =
+    Drops (λ ends. connects before port ends behind) table.now status (desk_in old) (desk_in new)
     × (new.input ≡ old.input)
 CallsServer seed connects shares (Expire port version) status before behind old new =
     Expires (λ ends. connects before port ends behind) version status (desk_in old) (desk_in new)
