@@ -20,7 +20,8 @@ use Rattle.client_calls.specs.Answers.{AnswersOne}
 use Rattle.client_calls.specs.Commands.{ReadsFloor, ReadsVersion}
 use Rattle.client_calls.specs.Outcome.{Calls, Line}
 use Rattle.command_ends.specs.Network.{Ends}
-use Rattle.command_ends.specs.Printing.{Said, Prints, cause_lines, dropped_line, fault_line, floor_line}
+use Rattle.command_ends.specs.Printing.{Said, Prints, cause_lines, dropped_line, fault_line}
+use Rattle.command_ends.specs.Printing.{floor_line}
 use Rattle.command_ends.specs.declared.exit_status.ExitStatus.{ExitStatus}
 use Rattle.command_ends.specs.declared.exit_status.ExitStatus.TheVariants.{FaultAtThisEnd}
 use Rattle.client_commands.specs.Fetching.{Fetches}

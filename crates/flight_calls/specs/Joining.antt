@@ -22,9 +22,9 @@ use Rattle.flight_core.specs.Reacts.{StartsAt}
 use Rattle.flight_calls.specs.Responds.{Responds, Answers}
 use Rattle.flight_calls.specs.OwedAnswers.{Connection, Serves}
 
--- What a call leaves is where every later call of the connection starts, but for a put, a
--- drop or an expiry that was read, which goes by the log that it meets. So an info or a schema sees each put that was
--- accepted before it, and a fetch finds its version.
+-- What a call leaves is where every later call of the connection starts, but for a put, a drop or
+-- an expiry that was read, which goes by the log that it meets. So an info or a schema sees each
+-- put that was accepted before it, and a fetch finds its version.
 abbrev pub LaterCallsSee : Moves → Type 0
 LaterCallsSee moves =
     (options : Options) (one other : Result Asked Fault) (before between behind new : Seat)

@@ -56,8 +56,8 @@ abbrev pub MayLook : Seat → Seat → Type 0
 MayLook old new = (new.looks ≡ old.looks) ⊎ LooksOnce old new
 
 -- A change at a log: the entry of an accepted one is its last, and the last of those that the seat
--- made, at the place after that log, and its number is how many changes there are then. A refused one
--- changes nothing, and its fault is due, or memory was refused.
+-- made, at the place after that log, and its number is how many changes there are then. A refused
+-- one changes nothing, and its fault is due, or memory was refused.
 abbrev pub PutsAt : Result ℕ Fault → Seat → Log → Change → Log → Seat → Type 0
 PutsAt (Ok number) old log change next new = IsOk (after_log log change)
     × (next ≡ log ++ added change ∷ []) × (new.made ≡ old.made ++ (length log, added change) ∷ [])
@@ -65,9 +65,9 @@ PutsAt (Ok number) old log change next new = IsOk (after_log log change)
 PutsAt (Err fault) old log change next new = (next ≡ log) × (new.made ≡ old.made)
     × (fault ≢ OutOfMemory → after_log log change ≡ Err fault)
 
--- A change at the log that it meets, which is refused by its first fault if it has one. The seat asks
--- for that log, also where the change is refused. After it the seat has seen that log with the change,
--- and all that it had seen.
+-- A change at the log that it meets, which is refused by its first fault if it has one. The seat
+-- asks for that log, also where the change is refused. After it the seat has seen that log with the
+-- change, and all that it had seen.
 pub record Puts (moves : Moves) (result : Result ℕ Fault) (old : Seat) (change : Change)
     (new : Seat) : Type 0 where
   pub log : Log

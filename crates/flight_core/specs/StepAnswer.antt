@@ -8,7 +8,8 @@ use Rattle.flight_info.specs.Payloads.{Payload, FitMessages}
 use Rattle.flight_info.specs.Replies.{ReplyAt, whole}
 use Rattle.version_log.specs.Log.{Log, changes_in}
 use Rattle.flight_core.specs.declared.answer.Answer.{Answer}
-use Rattle.flight_core.specs.declared.answer.Answer.TheVariants.{Whole, Accepted, Floor, Dropped, Stream}
+use Rattle.flight_core.specs.declared.answer.Answer.TheVariants.{Whole, Accepted, Floor, Dropped}
+use Rattle.flight_core.specs.declared.answer.Answer.TheVariants.{Stream}
 use Rattle.flight_core.specs.Asked.{Asked, fetch}
 use Rattle.flight_core.specs.Machine.{ReplyTo, OpensIn}
 use Rattle.flight_core.specs.Reacts.{Goes, HasAsked, HasLooked, MayAsk}

@@ -4,12 +4,13 @@ use Rattle.table_versions.specs.Database.{Database, Change, with_change}
 use Rattle.version_log.specs.Log.{Log, changes_of, changes_in, floor_of}
 use Rattle.table_versions.specs.StoredTables.{VersionAt, tables_of}
 
--- the database after each of these changes, and how many were accepted up to it, where n were before
--- them
+-- the database after each of these changes, and how many were accepted up to it, where n were
+-- before them
 abbrev pub versions_from : Database → ℕ → List Change → List (ℕ × Database)
 versions_from database n [] = []
 versions_from database n (change ∷ changes) =
-    (n + 1, with_change database change) ∷ versions_from (with_change database change) (n + 1) changes
+    (n + 1, with_change database change)
+    ∷ versions_from (with_change database change) (n + 1) changes
 
 -- version 0 and up
 unfoldable pub versions_of : List Change → List (ℕ × Database)

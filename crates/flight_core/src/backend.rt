@@ -89,7 +89,8 @@ pub trait Backend {
             ⊎ (((fault ≡ VersionUnknown) × LooksOnce (seat self.old) (seat self.new)
             × (changes_in (seat self.new).log < number))
             ⊎ ((fault ≡ VersionExpired) × LooksOnce (seat self.old) (seat self.new)
-            × (number ≤ changes_in (seat self.new).log) × (number < floor_of (seat self.new).log)))) };
+            × (number ≤ changes_in (seat self.new).log)
+            × (number < floor_of (seat self.new).log)))) };
 
     /// Whether it knows without memory which versions are there. Then `at` is refused memory only
     /// for one that is.

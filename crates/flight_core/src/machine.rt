@@ -60,8 +60,8 @@ fn operation_of(alloc: Global, event: &Event) -> Operation<'_>
 ///
 /// # Errors
 ///
-/// F21 (`Fault::OutOfMemory`) where memory is refused for the payload of a number, and no other. The
-/// step was made then.
+/// F21 (`Fault::OutOfMemory`) where memory is refused for the payload of a number, and no other.
+/// The step was made then.
 pub fn reply_to<B: Backend, X: Executor>(
     alloc: Global,
     executor: &X,

@@ -7,7 +7,8 @@ ghost use Rattle.flight_core.specs.Versions.{numbered};
 ghost use Rattle.scan_base.specs.declared.fault.Fault.TheVariants.{OutOfMemory, VersionExpired};
 ghost use Rattle.scan_base.specs.declared.fault.Fault.TheVariants.{VersionUnknown};
 ghost use Rattle.version_log.specs.Expiry.{IsExpired};
-ghost use Rattle.version_log.specs.Log.{added, changes_in, floor_of, database_of, after_log, version};
+ghost use Rattle.version_log.specs.Log.{added, changes_in, floor_of, database_of, after_log};
+ghost use Rattle.version_log.specs.Log.{version};
 ghost use Rattle.table_versions.specs.StoredTables.{change_of, tables_of};
 ghost use Rattle.table_versions.specs.Valid.{IsChange};
 
@@ -105,8 +106,8 @@ impl Plain {
     ///
     /// # Errors
     ///
-    /// F18 (`Fault::VersionUnknown`) where fewer changes were accepted, F19 (`Fault::VersionExpired`)
-    /// where the number is below the floor, and no other.
+    /// F18 (`Fault::VersionUnknown`) where fewer changes were accepted, F19
+    /// (`Fault::VersionExpired`) where the number is below the floor, and no other.
     pub fn at(&self, number: u64) -> Result<&Snapshot, Fault>
         ensures within { IfOk result (λ _. number ≤ changes_in self.now) }
         ensures kept { IfOk result (λ _. floor_of self.now ≤ number) }
@@ -162,8 +163,8 @@ impl Plain {
     ///
     /// # Errors
     ///
-    /// F18 (`Fault::VersionUnknown`) where fewer changes were accepted, and F21 (`Fault::OutOfMemory`)
-    /// only where as many were. Nothing has changed then.
+    /// F18 (`Fault::VersionUnknown`) where fewer changes were accepted, and F21
+    /// (`Fault::OutOfMemory`) only where as many were. Nothing has changed then.
     pub fn expire(&mut self, version: u64) -> Result<u64, Fault>
         ensures { IsExpired result self.old version self.new }
     {

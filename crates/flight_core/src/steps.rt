@@ -36,15 +36,14 @@ use table_versions::{Change, Put, Snapshot};
 
 /// Answers an operation by one step over a backend. A put or a drop that is accepted stands at the
 /// end of the log that it met, and so does the mark of an expiry; any other operation changes
-/// nothing. Infos
-/// and schemas ask nobody what others have done, and a fetch asks once, where its version is none
-/// that the seat had seen.
+/// nothing. Infos and schemas ask nobody what others have done, and a fetch asks once, where its
+/// version is none that the seat had seen.
 ///
 /// A refusal's fault is that of the put's payloads, or one of those of `Backend::put`; of
 /// `answer_info`, `answer_tables` or `answer_schema`, at the newest version; of `read_ticket`,
 /// `Backend::at` and `Opening::new`, in that order; of `read_expiry` and `Backend::expire`; or of
-/// `read_drop` and `Backend::put`. What a fetch shows before any memory is taken is never answered by want of it, where the backend
-/// knows its versions without memory.
+/// `read_drop` and `Backend::put`. What a fetch shows before any memory is taken is never answered
+/// by want of it, where the backend knows its versions without memory.
 pub fn step<B: Backend>(alloc: Global, backend: &mut B, operation: Operation<'_>) -> Answer
     // The answer is one that what is asked may get over the backend.
     ensures step { (asked : Asked) → StandsFor operation.entry asked

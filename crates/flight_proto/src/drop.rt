@@ -1,5 +1,5 @@
-//! A drop of a table: the `Action` that asks for it. It is answered by a number, as an expiry is. The
-//! form is this project's own.
+//! A drop of a table: the `Action` that asks for it. It is answered by a number, as an expiry is.
+//! The form is this project's own.
 
 ghost use Rattle.std.specs.Prelude.{◌≡◌, ◌++◌, OnOk, OnErr};
 ghost use Rattle.scan_base.specs.Reading.{Gives};

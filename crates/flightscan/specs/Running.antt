@@ -80,8 +80,8 @@ LacksSeed status old new =
     (status ≡ FaultAtThisEnd) × Prints (fault_line Transport) old.faults new.faults
     × (new.out ≡ old.out) × (new.input ≡ old.input)
 
--- with a seed, the rows that a query answers are printed in a form; `-` stands for the text that the
--- input is
+-- with a seed, the rows that a query answers are printed in a form; `-` stands for the text that
+-- the input is
 abbrev pub QueriesWith : {S N : Type 0} → Option S → (N → Option Ends → N → Type 0)
     → (N → N → N → Type 0) → ℕ → List ℕ → Format → ExitStatus → N → N → Standard → Standard → Type 0
 QueriesWith (Some seed) connects shares streams sql format status before behind old new =
@@ -94,8 +94,8 @@ QueriesWith None connects shares streams sql format status before behind old new
     LacksSeed status old new × (behind ≡ before)
 
 -- What a client does for a request, with the seed of its hashes, if there is one, by a network that
--- connects and is shared so. Only a put, and a query `-`, reads the input. A request for a server leaves the network
--- as it was.
+-- connects and is shared so. Only a put, and a query `-`, reads the input. A request for a server
+-- leaves the network as it was.
 abbrev pub CallsServer : {S N : Type 0} → Option S → Connecting N → (N → N → N → Type 0) → Request →
     ExitStatus → N → N → Standard → Standard → Type 0
 CallsServer seed connects shares (Put port table mode form progress) status before behind old new =

@@ -78,8 +78,8 @@ fn overflows(old: Option<&TableVersion>, put: &Put) -> bool
     }
 }
 
-// Why a put is refused, if it is, where this is the table of its name, there are so many tables, and
-// so many versions above the floor.
+// Why a put is refused, if it is, where this is the table of its name, there are so many tables,
+// and so many versions above the floor.
 fn refusal_at(old: Option<&TableVersion>, tables: usize, above: u64, put: &Put) -> Option<Fault>
     ensures first { result
         ≡ first_fault (faults_at (plain (option_copied old.entry)) tables above (put_of put.now)) }
@@ -234,10 +234,10 @@ fn dropped(
 /// an append goes on with them after the old batches, and a replace has them alone. A drop leaves
 /// all tables but that of its name. The old catalog stays as it is.
 ///
-/// Old tables and batches are shared: a change copies a handle for each table, and an append at most
-/// 255 handles of batches and one for each 256 batches before those. Values are looked at for nulls
-/// only in columns that take none but may have some, and for long texts only in columns of texts.
-/// Of a dictionary, the values count that stand in rows.
+/// Old tables and batches are shared: a change copies a handle for each table, and an append at
+/// most 255 handles of batches and one for each 256 batches before those. Values are looked at for
+/// nulls only in columns that take none but may have some, and for long texts only in columns of
+/// texts. Of a dictionary, the values count that stand in rows.
 ///
 /// # Errors
 ///

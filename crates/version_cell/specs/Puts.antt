@@ -7,10 +7,11 @@ use Rattle.table_versions.specs.Database.{Change}
 use Rattle.version_log.specs.Log.{Log, added, after_log, Begins}
 use Rattle.version_cell.specs.Seats.{Seat, MakesNone}
 
--- A change that meets a log, with the log after it: an accepted one stands last. A refused one changes
--- nothing, and its fault is the first one, or memory was refused.
+-- A change that meets a log, with the log after it: an accepted one stands last. A refused one
+-- changes nothing, and its fault is the first one, or memory was refused.
 abbrev pub IsAnswered : {X : Type 0} → Result X Fault → Log → Change → Log → Type 0
-IsAnswered (Ok receipt) log change next = (next ≡ log ++ added change ∷ []) × IsOk (after_log log change)
+IsAnswered (Ok receipt) log change next =
+    (next ≡ log ++ added change ∷ []) × IsOk (after_log log change)
 IsAnswered (Err fault) log change next =
     (next ≡ log) × (fault ≢ OutOfMemory → after_log log change ≡ Err fault)
 
@@ -20,8 +21,8 @@ abbrev pub CountsPut : {X : Type 0} → Result X Fault → Seat → Log → Chan
 CountsPut (Ok done) old log change new = new.made ≡ old.made ++ (length log, added change) ∷ []
 CountsPut (Err fault) old log change new = MakesNone old new
 
--- A change of a seat: it met a log that goes on from all that the seat had seen, and the seat has then
--- seen the log after it, and no more.
+-- A change of a seat: it met a log that goes on from all that the seat had seen, and the seat has
+-- then seen the log after it, and no more.
 pub record PutsBehind {X : Type 0} (result : Result X Fault) (old : Seat) (change : Change)
     (new : Seat) : Type 0 where
   pub log : Log

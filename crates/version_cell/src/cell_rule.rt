@@ -106,7 +106,8 @@ impl Store {
     pub(crate) fn without(&self, alloc: Global, version: u64) -> Result<Arc<VersionIndex>, Fault>
         ensures ok { IfOk result (λ index. IsIndexOf (arc_value index)
             (log_of self.now.history.seen.log ++ expired version ∷ [])) }
-        ensures reached { IfOk result (λ _. version ≤ changes_in (log_of self.now.history.seen.log)) }
+        ensures reached { IfOk result
+            (λ _. version ≤ changes_in (log_of self.now.history.seen.log)) }
         ensures room { IfOk result (λ _. length self.now.history.seen.log < 2 ^ 62) }
         ensures err { IfErr result
             (λ fault. RefusesExpiry fault (log_of self.now.history.seen.log) version) }

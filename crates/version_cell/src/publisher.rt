@@ -38,8 +38,8 @@ pub struct Receipt<C: CellName> {
 }
 
 // Who makes the versions of a cell. Contracts see it as the cell's log, with the seat of each
-// entry; it is a log of accepted changes. It keeps the handle `rt`, since its end waits for the seats
-// that are reading.
+// entry; it is a log of accepted changes. It keeps the handle `rt`, since its end waits for the
+// seats that are reading.
 pub(crate) struct Publisher<C: CellName, R: Wait + Drop> {
     head: Head,
     writer: Option<CellWriter<C>>,
@@ -86,9 +86,10 @@ impl<C: CellName, R: Wait + Drop> Publisher<C, R> {
 
     // The versions after a put, or why it is refused. Nothing has changed yet.
     fn prepare(&self, alloc: Global, change: Change) -> Result<Arc<VersionIndex>, Fault>
-        ensures ok { IfOk result
-            (λ index. IsIndexOf (arc_value index) (log_of self.now ++ added (change_of change) ∷ [])) }
-        ensures accepted { IfOk result (λ _. IsOk (after_log (log_of self.now) (change_of change))) }
+        ensures ok { IfOk result (λ index. IsIndexOf (arc_value index)
+            (log_of self.now ++ added (change_of change) ∷ [])) }
+        ensures accepted { IfOk result
+            (λ _. IsOk (after_log (log_of self.now) (change_of change))) }
         ensures room { IfOk result (λ _. length self.now < 2 ^ 62) }
         ensures typed { IfOk result (λ _. IsChange (change_of change)) }
         ensures err { IfErr result (λ fault. fault ≢ OutOfMemory
@@ -162,7 +163,8 @@ impl<C: CellName, R: Wait + Drop> Publisher<C, R> {
         seat: u64,
         change: Change,
     ) -> Result<Receipt<C>, Fault>
-        ensures answered { IsAnswered result (log_of self.old) (change_of change) (log_of self.new) }
+        ensures answered { IsAnswered result (log_of self.old) (change_of change)
+            (log_of self.new) }
         ensures added { MatchResult result
             (λ _. self.new ≡ self.old ++ signed seat (added (change_of change)) ∷ [])
             (λ _. self.new ≡ self.old) }

@@ -91,8 +91,8 @@ impl<C: CellName, R: Wait + Drop> Putter<C, R> {
     ///
     /// # Errors
     ///
-    /// F18 (`Fault::VersionUnknown`) where the log has fewer changes, and F21 (`Fault::OutOfMemory`)
-    /// only where it has as many. Nothing has changed then.
+    /// F18 (`Fault::VersionUnknown`) where the log has fewer changes, and F21
+    /// (`Fault::OutOfMemory`) only where it has as many. Nothing has changed then.
     pub fn expire(&mut self, alloc: Global, version: u64) -> Result<u64, Fault>
         ensures { IsExpired result self.old version self.new }
     {

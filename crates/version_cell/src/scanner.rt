@@ -117,8 +117,9 @@ impl<C: CellName> Scanner<C> {
     ///
     /// # Errors
     ///
-    /// F18 (`Fault::VersionUnknown`) where that log has fewer changes, F19 (`Fault::VersionExpired`)
-    /// where the number is below its floor, and F21 (`Fault::OutOfMemory`) as `current` does.
+    /// F18 (`Fault::VersionUnknown`) where that log has fewer changes, F19
+    /// (`Fault::VersionExpired`) where the number is below its floor, and F21
+    /// (`Fault::OutOfMemory`) as `current` does.
     pub fn at(&mut self, number: u64) -> Result<Snapshot, Fault>
         ensures number { self.new.number ≡ self.old.number }
         ensures made { MakesNone self.old self.new }

@@ -8,7 +8,8 @@ use Rattle.version_log.specs.Index.{IndexAt}
 -- this database, and those after each of these changes
 abbrev pub versions_from : Database → List Change → List Database
 versions_from database [] = database ∷ []
-versions_from database (change ∷ changes) = database ∷ versions_from (with_change database change) changes
+versions_from database (change ∷ changes) =
+    database ∷ versions_from (with_change database change) changes
 
 unfoldable pub versions_of : List Change → List Database
 versions_of changes = versions_from [] changes

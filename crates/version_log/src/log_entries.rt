@@ -52,7 +52,8 @@ impl Entry {
 
     /// Whether it is a mark.
     pub fn is_mark(&self) -> bool
-        ensures { MatchBool result (changes_in (self.now ∷ []) ≡ 0) (changes_in (self.now ∷ []) ≡ 1) }
+        ensures { MatchBool result (changes_in (self.now ∷ []) ≡ 0)
+            (changes_in (self.now ∷ []) ≡ 1) }
     {
         matches!(&self.deed, Deed::Expired(_))
     }

@@ -11,8 +11,8 @@ use std::alloc::{AllocError, Global};
 use std::sync::Arc;
 use table_versions::laws::{
     accepted_changes_keep_databases, accepted_puts_are_few, batches_are_rows,
-    dropped_tables_are_away, logs_grow,
-    logs_hold_accepted_changes, names_are_in_order, tables_are_found, versions_are_databases,
+    dropped_tables_are_away, logs_grow, logs_hold_accepted_changes, names_are_in_order,
+    tables_are_found, versions_are_databases,
 };
 use table_versions::{CatalogVersion, Change, MAX_ROWS, Put, Snapshot, apply};
 
@@ -94,7 +94,12 @@ fn bare(alloc: Global, seed: HashSeed, number: u64) -> Result<Snapshot, Fault> {
 
 // The version after a put, where none is expired.
 fn after(alloc: Global, snapshot: &Snapshot, put: Put) -> Result<Snapshot, Fault> {
-    let catalog = apply(alloc, snapshot.catalog(), snapshot.number(), Change::put(put))?;
+    let catalog = apply(
+        alloc,
+        snapshot.catalog(),
+        snapshot.number(),
+        Change::put(put),
+    )?;
     let number = snapshot.number().saturating_add(1);
     Ok(Snapshot::new(number, Arc::new(alloc, catalog)?))
 }
@@ -138,7 +143,13 @@ fn fault_of(
     rows: usize,
 ) -> Result<Option<Fault>, Fault> {
     let put = put(alloc, first(alloc, b't', is_append)?, zeros(alloc, rows)?)?;
-    Ok(apply(alloc, snapshot.catalog(), snapshot.number(), Change::put(put)).err())
+    Ok(apply(
+        alloc,
+        snapshot.catalog(),
+        snapshot.number(),
+        Change::put(put),
+    )
+    .err())
 }
 
 // The version of a table of the most rows.

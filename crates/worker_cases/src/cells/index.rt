@@ -17,7 +17,12 @@ fn longer(alloc: Global, index: &VersionIndex) -> Result<VersionIndex, Fault>
 {
     let newest = index.newest();
     let above = newest.number() - index.floor();
-    let catalog = apply(alloc, newest.catalog(), above, Change::put(one_row(alloc, "t")?))?;
+    let catalog = apply(
+        alloc,
+        newest.catalog(),
+        above,
+        Change::put(one_row(alloc, "t")?),
+    )?;
     Ok(index.with(alloc, catalog)?)
 }
 
