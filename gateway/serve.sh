@@ -6,9 +6,10 @@
 #       [--memory MB] [--program PATH]
 #
 # The server listens on 127.0.0.1:4711 for our own clients, and the gateway on 127.0.0.1:4712 for those of gRPC. Of port 0
-# the system chooses one; both ports are printed. With --memory the server has at most so many MB of data, its threads' stacks
-# and what the C library keeps among them: a call that needs more is F21. Where one of the two ends, the other one is ended too. It needs the built
-# program (crates/flightscan/out/flightscan, or --program) and Debian's package python3-grpcio; PYTHON names another Python.
+# the system chooses one; both ports are printed. With --memory the server has at most so many MB of data, its threads'
+# stacks and what the C library keeps among them: a call that needs more is F21. Where one of the two ends, the other one is
+# ended too. It needs the built program (crates/flightscan/out/flightscan, or --program) and Debian's package python3-grpcio;
+# PYTHON names another Python.
 
 here=$(cd "$(dirname "$0")" && pwd)
 program=$here/../crates/flightscan/out/flightscan
