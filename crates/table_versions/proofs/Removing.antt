@@ -10,13 +10,13 @@ use Rattle.table_versions.specs.Laws.{DroppedTablesAreAway}
 use Rattle.table_versions.proofs.Databases.{skipped, replaced, apart}
 use Rattle.table_versions.proofs.Places.{split_at}
 
+either_way : {X : Type 0} (b : Bool) (x : X) → x ≡ (if b then x else x)
+either_way true x = refl
+either_way false x = refl
+
 -- the dropped one is found no more, and each other name has what it had
 pub dropped_tables_are_away : DroppedTablesAreAway
-dropped_tables_are_away n m [] = by (bytes_eq n m)
-  where
-    by : {X : Type 0} (same : Bool) → None ≡ (if same then None {X} else None)
-    by true = refl
-    by false = refl
+dropped_tables_are_away n m [] = either_way (bytes_eq n m) None
 dropped_tables_are_away n m (e ∷ es) =
     elim (bytes_eq e.0 n) as (λ b. bytes_eq e.0 n ≡ b → table_at (if b then without_table n es else e ∷ without_table n es) m ≡ (if bytes_eq n m then None else table_at (e ∷ es) m)) [
       | true ↦ λ same. dropped_tables_are_away n m es
