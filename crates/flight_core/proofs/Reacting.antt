@@ -5,14 +5,13 @@ use Rattle.std.specs.Prelude.{IsOk}
 use Rattle.std.proofs.lemmas.List.Elements.{All-push}
 use Rattle.scan_base.specs.declared.fault.Fault.{Fault}
 use Rattle.scan_base.specs.declared.fault.Fault.TheVariants.{OutOfMemory}
-use Rattle.scan_base.specs.Reading.{◌>>=◌}
-use Rattle.table_versions.specs.Database.{Database, Put, Change, putting, dropping}
+use Rattle.table_versions.specs.Database.{Put, Change, putting, dropping}
 use Rattle.table_versions.specs.Table.{Name}
 use Rattle.flight_proto.specs.Drop.{drop_of, version_bytes}
 use Rattle.flight_proto.specs.Expiry.{expiry_of, floor_bytes}
 use Rattle.flight_info.specs.Payloads.{Payload}
 use Rattle.flight_info.specs.Replies.{ReplyAt, refusal}
-use Rattle.version_log.specs.Log.{Log, added, expired, changes_of, changes_in, after_log, Begins}
+use Rattle.version_log.specs.Log.{Log, added, expired, changes_of, after_log, Begins}
 use Rattle.version_log.proofs.Logs.{changes_of-added, changes_of-expired}
 use Rattle.flight_core.specs.declared.answer.Answer.{Answer}
 use Rattle.flight_core.specs.declared.answer.Answer.TheVariants.{Whole, Accepted, Floor, Dropped, Stream}
