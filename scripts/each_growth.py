@@ -3,10 +3,11 @@
 
     python3 scripts/each_growth.py [--program PATH] [--workers W,..] [--only pipe|serve] [--from N] [--every N]
 
-The session has puts of three tables, of which one has 140,000 rows in three batches, so two workers share its fetches;
-infos in two parts with puts between, one that extends a table and one that replaces it; fetches of the parts, the later one
-first; a join, groups, a filter, a schema, the list of tables, and a put that is refused; and an expiry, a fetch below its floor
-an expiry of what was never reached; and two drops. `serve` gets the calls in turn over two connections. Of N allocations the one of number 1, 2, .. N is refused, where N is how many the session takes.
+The session has puts of three tables, of which one has 140,000 rows in three batches, so two workers share its fetches; infos in two
+parts with puts between, one that extends a table and one that replaces it; fetches of the parts, the later one first; a join,
+groups, a filter, a schema, the list of tables, and a put that is refused; an expiry, a fetch below its floor and an expiry of what
+was never reached; and two drops. `serve` gets the calls in turn over two connections. Of N allocations the one of number 1, 2, .. N
+is refused, where N is how many the session takes.
 
 Each answer has to be whole, or F21, which a fetch may have behind a beginning of its rows. A put is in the history exactly
 where its status is 0, and so is the floor of an expiry: what the answers behind them have to be is worked out from the statuses so
