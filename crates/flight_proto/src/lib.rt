@@ -9,7 +9,6 @@
 pub mod action;
 pub mod any;
 pub mod command;
-pub mod drop;
 pub mod expiry;
 pub mod flight_data;
 pub mod flight_descriptor;
@@ -21,13 +20,13 @@ mod message;
 mod message_parts;
 pub mod put_result;
 pub mod statement_ingest;
+pub mod table_drop;
 pub mod ticket;
 pub mod wrapped_bytes;
 
 pub use crate::action::Action;
 pub use crate::any::Any;
 pub use crate::command::Command;
-pub use crate::drop::{asks_drop, put_drop, read_drop};
 pub use crate::expiry::{floor_message, put_expiry, put_floor, read_expiry, read_floor};
 pub use crate::flight_data::{
     BorrowedData, FlightData, StreamDescriptor, put_flight_data, put_flight_data_head,
@@ -42,6 +41,7 @@ pub use crate::info_command::{
 pub use crate::ingest::{Ingest, read_if_exists, read_if_not_exist, read_ingest};
 pub use crate::put_result::{put_rows_put, put_update, read_rows_put, read_update};
 pub use crate::statement_ingest::{CommandStatementIngest, TableDefinitionOptions};
+pub use crate::table_drop::{asks_drop, put_drop, read_drop};
 pub use crate::ticket::{put_statement_ticket, read_statement_handle};
 pub use crate::wrapped_bytes::{put_wrapped, read_wrapped};
 pub use scan_base::{IfExists, IfNotExist};

@@ -14,7 +14,7 @@ ghost use Rattle.flightscan.specs.Running.{standard_of};
 
 use client_calls::Target;
 use client_commands::describe::describe;
-use client_commands::drop::drop_table;
+use client_commands::drop_table::drop_table;
 use client_commands::expire::expire;
 use client_commands::put::{CsvPutting, PutCommand, put, put_csv};
 use client_commands::query::{QueryCommand, query, query_input};

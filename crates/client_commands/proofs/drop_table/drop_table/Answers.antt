@@ -1,5 +1,5 @@
 use Rattle.std.proofs.Common.{inr}
-use Rattle.client_commands.proofs.drop.drop_table.Goals as goal
+use Rattle.client_commands.proofs.drop_table.drop_table.Goals as goal
 
 pub returns : goal.returns
 returns g c =
