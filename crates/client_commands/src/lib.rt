@@ -6,9 +6,12 @@
 //! how over several. `specs/Formats.antt` says what is written of rows in each format,
 //! `specs/Streaming.antt` how it is written as they come, and `specs/InTurn.antt` how over several
 //! connections. `specs/RowsPut.antt` says how the rows of CSV are put, batch by batch.
-//! `specs/Commands.antt` and `specs/Queries.antt` say what each command does.
+//! `specs/Asking.antt` says what the server
+//! is asked after a fault. `specs/Commands.antt`, `specs/Describing.antt`, `specs/Puts.antt` and
+//! `specs/Queries.antt` say what each command does.
 #![tactic(auto)]
 
+mod asking;
 mod call_outcome;
 mod connecting;
 pub mod describe;

@@ -24,4 +24,4 @@ pub use crate::field_values::value_in;
 pub use crate::name::name_of;
 pub use crate::reading::columns_in;
 pub use crate::records::Records;
-pub use crate::writing::columns_text;
+pub use crate::writing::{columns_text, spelling};

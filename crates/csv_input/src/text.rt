@@ -6,7 +6,7 @@ ghost use Rattle.csv_input.specs.Rows.{SaysRecords, TakesMessage};
 
 use crate::reading::records_behind;
 use crate::{next_message, schema_message};
-use arrow_types::Schema;
+use arrow_types::{Field, Schema};
 use bytes::Bytes;
 use csv_columns::Records;
 use ipc_stream::IpcMessage;
@@ -42,6 +42,13 @@ impl Model for CsvText {
 }
 
 impl CsvText {
+    /// Its columns.
+    pub fn columns(&self) -> &[Field]
+        ensures { result.now ≡ self.now.schema.fields }
+    {
+        self.schema.fields.as_slice()
+    }
+
     /// The message of its columns, which is the first of their stream.
     ///
     /// # Errors

@@ -15,6 +15,9 @@ use std::time::{Clock, Duration, Instant};
 // A client that has ended what it sends is waited for so long, where no byte goes out to it.
 const WAIT_SECONDS: u64 = 5;
 
+// A server is waited for so long where a question may stay without an answer.
+const ANSWER_SECONDS: u64 = 2;
+
 /// The end of a client's stream that is written to. It can look whether the client is still there.
 #[derive(Drop)]
 pub struct SocketWriter<'a, R> {
@@ -143,6 +146,14 @@ impl<R: Net<Listener = TcpListener, Stream = TcpStream>> Connect for Loopback<'_
 
     fn connect(&mut self, port: u16) -> io::Result<(CountedEnd<TcpStream>, CountedEnd<TcpStream>)> {
         ends_of(TcpStream::connect(self.rt, (Ipv4Addr::LOCALHOST, port))?)
+    }
+
+    fn connect_briefly(
+        &mut self,
+        port: u16,
+    ) -> io::Result<(CountedEnd<TcpStream>, CountedEnd<TcpStream>)> {
+        let stream = TcpStream::connect(self.rt, (Ipv4Addr::LOCALHOST, port))?;
+        set_up(stream, Some(Duration::from_secs(ANSWER_SECONDS)))
     }
 
     fn share(&mut self) -> Self {

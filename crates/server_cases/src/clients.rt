@@ -228,6 +228,10 @@ impl<'a> Connect for FixedAnswers<'a> {
         }
     }
 
+    fn connect_briefly(&mut self, port: u16) -> io::Result<(MemoryInput<'a>, MemoryOutput)> {
+        self.connect(port)
+    }
+
     fn connect(&mut self, _port: u16) -> io::Result<(MemoryInput<'a>, MemoryOutput)> {
         self.made = self.made.saturating_add(1);
         Ok((MemoryInput::new(self.answer), MemoryOutput::new(self.alloc)))
