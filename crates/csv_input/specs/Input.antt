@@ -13,7 +13,7 @@ use Rattle.command_ends.specs.Printing.{Said, Prints, cause_lines, fault_line}
 use Rattle.command_ends.specs.WholeInput.{Source, Gives, StopsReading}
 use Rattle.command_ends.specs.declared.exit_status.ExitStatus.{ExitStatus}
 use Rattle.command_ends.specs.declared.exit_status.ExitStatus.TheVariants.{FaultAtThisEnd}
-use Rattle.csv_columns.specs.TextRecords.{records_in}
+use Rattle.csv_columns.specs.TextRecords.{records_by, records_in}
 use Rattle.csv_columns.specs.Refusals.{WhyNoColumns}
 use Rattle.csv_columns.specs.SpelledColumns.{Spells}
 use Rattle.csv_input.specs.Lines.{columns_line, wrong_line}
@@ -22,16 +22,18 @@ use Rattle.csv_input.specs.Long.{WhyNoneTold}
 use Rattle.csv_input.specs.Rows.{AreRight, IsFirstWrong}
 use Rattle.csv_input.specs.declared.outcome.WrongRecord.{WrongRecord}
 
--- how CSV is read: the text that spells its columns, if there is one, and whether its first record
--- has their names
+-- how CSV is read: the text that spells its columns, if there is one, whether its first record has
+-- their names, and the byte between two fields
 pub record Form : Type 0 where
   pub columns : Option (List ℕ)
   pub header : Bool
+  pub separator : ℕ
 
 abbrev pub form_of : CsvForm → Form
 form_of form = record {
   columns = option_map (λ (text : Bor (List ℕ)). text.now) form.columns;
   header = form.header;
+  separator = form.separator;
 }
 
 -- the columns are those that a text spells, and else those that the records fit
@@ -141,7 +143,7 @@ pub record GivesText {A : Type 0} (form : Form) (view : A → TextAt) (result : 
     (old new : Source) (said said' : Said) : Type 0 where
   pub text : List ℕ
   pub gives : Gives text old new
-  pub reads : ReadsText form (records_in text) view result said said'
+  pub reads : ReadsText form (records_by form.separator text) view result said said'
 
 abbrev pub ReadsCsv : {A : Type 0} → Form → (A → TextAt) → Result A ExitStatus → Source → Source →
     Said → Said → Type 0

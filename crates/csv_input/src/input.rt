@@ -2,7 +2,7 @@
 
 ghost use Rattle.std.specs.Prelude.{◌≡◌, IfErr, MatchResult, OnOk};
 ghost use Rattle.grpc_frame.specs.Ends.{CanFail};
-ghost use Rattle.csv_columns.specs.TextRecords.{records_in};
+ghost use Rattle.csv_columns.specs.TextRecords.{records_by};
 ghost use Rattle.command_ends.specs.Printing.{Prints, said_of};
 ghost use Rattle.command_ends.specs.WholeInput.{source_of};
 ghost use Rattle.command_ends.specs.declared.exit_status.ExitStatus.TheVariants.{FaultAtThisEnd};
@@ -10,14 +10,14 @@ ghost use Rattle.csv_input.specs.Input.{ChecksRows, IsTold, IsUntold, ReadsCsv, 
 ghost use Rattle.csv_input.specs.Input.{TellsWrong, form_of};
 
 use crate::WrongRecord;
-use crate::reading::{columns_of, wrong_record};
+use crate::reading::{columns_of, record_form, wrong_record};
 use crate::text::CsvText;
 use crate::wrong_lines::wrong_line;
 use arrow_types::{Field, Schema};
 use bytes::Bytes;
 use command_ends::{ExitStatus, end_by_cause, end_by_fault, read_whole};
 use command_line::CsvForm;
-use csv_columns::columns_text;
+use csv_columns::{RecordForm, columns_text};
 use grpc_frame::{Input, Output};
 use scan_base::Fault;
 use std::alloc::{AllocError, Global};
@@ -115,18 +115,18 @@ fn check_rows<E: Output>(
     text: &[u8],
     faults: &mut E,
     schema: &Schema,
-    header: bool,
+    form: RecordForm,
 ) -> Result<(), ExitStatus>
     requires { CanFail (E.failures faults.old) }
-    ensures checks { ChecksRows header schema.now (records_in text.now) result
+    ensures checks { ChecksRows form.header schema.now (records_by form.separator text.now) result
         (said_of E.Output faults.old) (said_of E.Output faults.new) }
     ensures quiet { OnOk result (E.failures faults.new ≡ E.failures faults.old) }
 {
-    match wrong_record(alloc, text, schema, header) {
+    match wrong_record(alloc, text, schema, form) {
         Ok(None) => Ok(()),
         Ok(Some(wrong)) => {
             let columns = schema.fields.as_slice();
-            Err(end_by_wrong(alloc, faults, columns, header, wrong))
+            Err(end_by_wrong(alloc, faults, columns, form.header, wrong))
         }
         Err(fault) => Err(end_by_fault(faults, fault)),
     }
@@ -140,7 +140,8 @@ fn read_text<E: Output>(
     form: CsvForm<'_>,
 ) -> Result<CsvText, ExitStatus>
     requires { CanFail (E.failures faults.old) }
-    ensures reads { ReadsText (form_of form.entry) (records_in text) (λ text. text) result
+    ensures reads { ReadsText (form_of form.entry) (records_by form.entry.separator text)
+        (λ text. text) result
         (said_of E.Output faults.old) (said_of E.Output faults.new) }
     ensures quiet { OnOk result (E.failures faults.new ≡ E.failures faults.old) }
 {
@@ -149,10 +150,11 @@ fn read_text<E: Output>(
         Err(fault) => return Err(end_by_fault(faults, fault)),
     };
     tell_columns(alloc, faults, schema.fields.as_slice(), form)?;
-    check_rows(alloc, text.as_slice(), faults, &schema, form.header)?;
+    let rows = record_form(form);
+    check_rows(alloc, text.as_slice(), faults, &schema, rows)?;
     Ok(CsvText {
         text,
         schema,
-        header: form.header,
+        form: rows,
     })
 }
