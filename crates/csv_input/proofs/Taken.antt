@@ -9,7 +9,7 @@ use Rattle.arrow_types.specs.declared.schema.Schema.{Schema}
 use Rattle.arrays.specs.Batch.{BatchAt, rows_of}
 use Rattle.ipc_batch.specs.WrittenMessages.{SaysBatch}
 use Rattle.ipc_stream.specs.declared.message.IpcMessage.{IpcMessage}
-use Rattle.csv_columns.specs.TextRecords.{records_by, records_in}
+use Rattle.csv_columns.specs.TextRecords.{records_in}
 use Rattle.csv_columns.specs.FieldValues.{cell_in}
 use Rattle.csv_input.specs.Rows.{AreRight, IsNext, IsRight, sent_in}
 use Rattle.csv_input.specs.inside.Batches.{HasTaken, IsBatchOf, IsNextBatch}
@@ -24,10 +24,6 @@ use Rattle.csv_input.proofs.Transposed.{batch_types, rows_are}
 pub none_in : records_in [] ≡ []
 unfolding strip_bom records_from next_record
 none_in = refl
-
-pub none_by : (separator : ℕ) → records_by separator [] ≡ []
-unfolding strip_bom records_from next_record
-none_by separator = refl
 
 -- ---- a chunk
 

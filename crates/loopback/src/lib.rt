@@ -4,6 +4,9 @@
 ghost use Rattle.std.specs.Prelude.{◌≡◌, ◌-◌, ◌<◌, ◌↔◌, [], IfOk, IsTrue, Some};
 ghost use Rattle.std.specs.Time.{instant_nanos};
 
+mod silence;
+
+pub use crate::silence::{Await, TellingNetwork, TellingReader};
 use command_ends::{AcceptFailure, Connect, Listen, PortLine, SeatView};
 use grpc_frame::{CountedEnd, Output};
 use scan_base::Fault;
