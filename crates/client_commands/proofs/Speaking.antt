@@ -5,7 +5,7 @@ use Rattle.arrow_types.specs.declared.schema.Field.{Field}
 use Rattle.fault_hints.specs.declared.question.Question.{Question}
 use Rattle.fault_hints.specs.declared.question.Question.TheVariants.{Rows, Put, Records, Names, Expiry}
 use Rattle.fault_hints.specs.Hints.{hint_of}
-use Rattle.fault_hints.specs.ServerLines.{columns_told, names_told, speech_of, wanted_of}
+use Rattle.fault_hints.specs.ServerLines.{columns_told, names_told, speech_of, inquiry_of}
 
 pub same_hint : (question : Question) → hint_of question ≡ (speech_of question).hint
 same_hint (Rows sql) = refl
@@ -14,12 +14,12 @@ same_hint (Records table mode columns) = refl
 same_hint Names = refl
 same_hint Expiry = refl
 
-pub same_wanted : (question : Question) (fault : Fault) → wanted_of question fault ≡ (speech_of question).wanted fault
-same_wanted (Rows sql) fault = refl
-same_wanted (Put table mode header) fault = refl
-same_wanted (Records table mode columns) fault = refl
-same_wanted Names fault = refl
-same_wanted Expiry fault = refl
+pub same_inquiry : (question : Question) (fault : Fault) → inquiry_of question fault ≡ (speech_of question).wanted fault
+same_inquiry (Rows sql) fault = refl
+same_inquiry (Put table mode header) fault = refl
+same_inquiry (Records table mode columns) fault = refl
+same_inquiry Names fault = refl
+same_inquiry Expiry fault = refl
 
 pub same_names : (question : Question) → names_told question ≡ (speech_of question).names
 same_names (Rows sql) = refl

@@ -3,8 +3,8 @@ use Rattle.std.specs.Prelude.{◌≡◌, ◌⊎◌, ℕ, List, Option, Some, Non
 use Rattle.scan_base.specs.declared.fault.Fault.TheVariants.{OutOfMemory}
 use Rattle.arrow_types.specs.declared.schema.Field.{Field}
 use Rattle.flight_proto.specs.InfoCommand.{rows_of}
-use Rattle.fault_hints.specs.declared.wanted.Wanted.{Wanted}
-use Rattle.fault_hints.specs.declared.wanted.Wanted.TheVariants.{Nothing, Names, Columns}
+use Rattle.fault_hints.specs.declared.inquiry.Inquiry.{Inquiry}
+use Rattle.fault_hints.specs.declared.inquiry.Inquiry.TheVariants.{Nothing, Names, Columns}
 use Rattle.fault_hints.specs.ServerLines.{Speech}
 use Rattle.table_versions.specs.Table.{Table}
 use Rattle.client_calls.specs.declared.failure.Failure.{Failure}
@@ -22,9 +22,9 @@ use Rattle.client_commands.specs.Lines.{opened_line}
 -- ---- the question
 
 -- what is asked after a failure: nothing, unless a server answered the fault
-abbrev pub wanted_after : Speech → Failure → Wanted
-wanted_after speech (Answered fault) = speech.wanted fault
-wanted_after speech (Found fault) = Nothing
+abbrev pub inquiry_after : Speech → Failure → Inquiry
+inquiry_after speech (Answered fault) = speech.inquiry fault
+inquiry_after speech (Found fault) = Nothing
 
 -- the names of the tables were fetched, and give these lines; or memory for these is refused
 abbrev pub NamesGive : (List (List ℕ) → List ℕ) → Result (List ℕ) Failure → Line → Line → Type 0
@@ -38,7 +38,8 @@ NamesGive told (Err failure) old new =
 
 -- the columns of a table were fetched, and give these lines; or memory for the query or for the
 -- lines is refused
-abbrev pub ColumnsGive : (List Field → List ℕ) → List ℕ → Result (List ℕ) Failure → Line → Line → Type 0
+abbrev pub ColumnsGive : (List Field → List ℕ) → List ℕ → Result (List ℕ) Failure → Line → Line →
+    Type 0
 ColumnsGive told table (Ok lines) old new =
     (rows : Table) × Fetches (rows_of (columns_query table)) (Ok rows) old new
     × (lines ≡ told rows.schema.fields)
@@ -49,7 +50,7 @@ ColumnsGive told table (Err failure) old new =
     ⊎ ((failure ≡ Found OutOfMemory) × (new ≡ old))
 
 -- what is wanted was fetched, and gives these lines
-abbrev pub FetchesLines : Speech → Wanted → Result (List ℕ) Failure → Line → Line → Type 0
+abbrev pub FetchesLines : Speech → Inquiry → Result (List ℕ) Failure → Line → Line → Type 0
 FetchesLines speech Nothing result old new = ⊥
 FetchesLines speech Names result old new = NamesGive speech.names result old new
 FetchesLines speech (Columns table) result old new =
@@ -62,17 +63,18 @@ PrintsFetched (Err failure) old new = new ≡ old
 
 -- The network gave a connection, what is wanted was asked over it, and the lines that came are
 -- printed. Where it gave none, or none came, nothing more is printed.
-abbrev pub AsksMore : (Option Ends → Type 0) → Speech → Wanted → Said → Said → Type 0
-AsksMore Gives speech wanted old new =
+abbrev pub AsksMore : (Option Ends → Type 0) → Speech → Inquiry → Said → Said → Type 0
+AsksMore Gives speech inquiry old new =
     (Gives None × (new ≡ old))
     ⊎ ((ends : Ends) × Gives (Some ends) × ((result : Result (List ℕ) Failure) × ((last : Line)
-    × FetchesLines speech wanted result (opened_line ends) last × PrintsFetched result old new)))
+    × FetchesLines speech inquiry result (opened_line ends) last × PrintsFetched result old new)))
 
 -- ---- a failure
 
 -- A failure is told, and no more is asked: nothing is wanted, or its lines were not printed, or
 -- memory for the question is refused.
-abbrev pub TellsAlone : {N : Type 0} → Speech → N → N → Failure → ExitStatus → Said → Said → Type 0
+abbrev pub TellsAlone : {N : Type 0} → Speech → N → N → Failure → ExitStatus → Said → Said →
+    Type 0
 TellsAlone speech before behind failure status old new =
     (behind ≡ before) × TellsFailure speech.hint failure status old new
 
@@ -83,7 +85,7 @@ pub record TellsAndAsks {N : Type 0} (Gives : Giving N) (speech : Speech) (befor
   pub middle : Said
   pub told : TellsFailure speech.hint failure status old middle
   pub whole : middle.failures ≡ old.failures
-  pub asks : AsksMore (λ ends. Gives before ends behind) speech (wanted_after speech failure)
+  pub asks : AsksMore (λ ends. Gives before ends behind) speech (inquiry_after speech failure)
       middle new
 
 abbrev pub TellsMore : {N : Type 0} → Giving N → Speech → N → N → Failure → ExitStatus → Said →

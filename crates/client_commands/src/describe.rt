@@ -11,11 +11,11 @@ ghost use Rattle.client_commands.specs.Commands.{columns_query, desk_of};
 ghost use Rattle.client_commands.specs.Describing.{Describes, FetchesColumns};
 ghost use Rattle.client_commands.specs.Lines.{CanCount};
 
-use crate::asking::{Asked, end_by_asking};
 use crate::call_outcome::end_by_printing;
 use crate::connecting::{end_unconnected, open};
 use crate::fetching::fetch_rows;
 use crate::quoted_name::quoted_name;
+use crate::server_inquiry::{Asked, end_by_asking};
 use client_calls::{Connection, Failure};
 use command_ends::{Connect, ExitStatus, end_by_fault};
 use csv_columns::columns_text;
@@ -55,7 +55,14 @@ pub fn describe<C: Connect, W: Output, E: Output>(
     };
     let fetched = fetch_columns(alloc, connection, sql.as_str());
     let question = Question::Rows(sql.as_str());
-    tell_columns(alloc, network, output, faults, Asked { port, question }, fetched)
+    tell_columns(
+        alloc,
+        network,
+        output,
+        faults,
+        Asked { port, question },
+        fetched,
+    )
 }
 
 /// A query that has the columns of a table, and none of its rows.

@@ -11,7 +11,6 @@
 //! `specs/Queries.antt` say what each command does.
 #![tactic(auto)]
 
-mod asking;
 mod call_outcome;
 mod connecting;
 pub mod describe;
@@ -28,6 +27,7 @@ mod quoted_name;
 mod row_writer;
 mod rows_put;
 mod run_relay;
+mod server_inquiry;
 mod stream_relay;
 mod stream_rows;
 mod table_rows;

@@ -19,10 +19,10 @@ ghost use Rattle.csv_columns.specs.Refusals.{WhyNoColumns};
 ghost use Rattle.csv_columns.specs.TextRecords.{records_in};
 ghost use Rattle.csv_input.specs.Input.{form_of};
 
-use crate::asking::{Asked, end_by_asking};
 use crate::call_outcome::{end_by_printing, print_fault};
 use crate::connecting::{end_unconnected, open};
 use crate::rows_put::put_rows;
+use crate::server_inquiry::{Asked, end_by_asking};
 use bytes::Bytes;
 use client_calls::{Connection, Failure, Target};
 use command_ends::{Connect, ExitStatus, end_by_cause, end_by_fault, print_count, read_whole};

@@ -9,11 +9,11 @@ ghost use Rattle.command_ends.specs.WholeInput.{source_of};
 ghost use Rattle.client_commands.specs.Queries.{Queries, QueriesInput};
 ghost use Rattle.client_commands.specs.inside.WrittenRuns.{TellsStreamed};
 
-use crate::asking::{Asked, end_by_asking};
 use crate::connecting::{end_unconnected, open};
 use crate::fetch_failure::FetchFailure;
 use crate::row_writer::RowWriter;
 use crate::run_relay::stream_rows;
+use crate::server_inquiry::{Asked, end_by_asking};
 use crate::table_rows::TableWriter;
 use crate::text_rows::{LineText, RecordText, TextWriter};
 use command_ends::{Connect, ExitStatus, end_by_cause, end_by_fault, read_whole};

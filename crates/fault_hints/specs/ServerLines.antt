@@ -18,8 +18,8 @@ use Rattle.arrow_schema.specs.Header.{schema_of}
 use Rattle.csv_columns.specs.SpelledColumns.{spelled}
 use Rattle.fault_hints.specs.declared.question.Question.{Question}
 use Rattle.fault_hints.specs.declared.question.Question.TheVariants.{Rows, Put, Records}
-use Rattle.fault_hints.specs.declared.wanted.Wanted.{Wanted}
-use Rattle.fault_hints.specs.declared.wanted.Wanted.TheVariants.{Nothing, Names, Columns}
+use Rattle.fault_hints.specs.declared.inquiry.Inquiry.{Inquiry}
+use Rattle.fault_hints.specs.declared.inquiry.Inquiry.TheVariants.{Nothing, Names, Columns}
 use Rattle.fault_hints.specs.declared.query_names.NameUse.TheVariants.{Table, Column}
 use Rattle.fault_hints.specs.Hints.{hint_of, lent, put_hint, query_hint}
 use Rattle.fault_hints.specs.MarkedLines.{shown_byte}
@@ -29,27 +29,27 @@ use Rattle.fault_hints.specs.QueryNames.{first_other, names_in}
 -- ---- what is asked
 
 -- the columns of a query's table, where it has one only
-abbrev pub only_table : List (List ℕ) → Wanted
+abbrev pub only_table : List (List ℕ) → Inquiry
 only_table (table ∷ []) = Columns table
 only_table tables = Nothing
 
 -- of a query: the tables where one is missing, and its columns where a name is unknown
-abbrev pub query_wanted : List ℕ → Fault → Wanted
-query_wanted sql TableMissing = Names
-query_wanted sql UnknownName = only_table (names_in Table (tokens_in sql))
-query_wanted sql fault = Nothing
+abbrev pub query_inquiry : List ℕ → Fault → Inquiry
+query_inquiry sql TableMissing = Names
+query_inquiry sql UnknownName = only_table (names_in Table (tokens_in sql))
+query_inquiry sql fault = Nothing
 
 -- of a put that appends: the tables where its own is missing, and the columns where they differ
-abbrev pub put_wanted : List ℕ → PutMode → Fault → Wanted
-put_wanted table Append TableMissing = Names
-put_wanted table Append SchemaMismatch = Columns table
-put_wanted table mode fault = Nothing
+abbrev pub put_inquiry : List ℕ → PutMode → Fault → Inquiry
+put_inquiry table Append TableMissing = Names
+put_inquiry table Append SchemaMismatch = Columns table
+put_inquiry table mode fault = Nothing
 
-abbrev pub wanted_of : Question → Fault → Wanted
-wanted_of (Rows sql) fault = query_wanted sql.now fault
-wanted_of (Put table mode header) fault = put_wanted table.now mode fault
-wanted_of (Records table mode columns) fault = put_wanted table.now mode fault
-wanted_of question fault = Nothing
+abbrev pub inquiry_of : Question → Fault → Inquiry
+inquiry_of (Rows sql) fault = query_inquiry sql.now fault
+inquiry_of (Put table mode header) fault = put_inquiry table.now mode fault
+inquiry_of (Records table mode columns) fault = put_inquiry table.now mode fault
+inquiry_of question fault = Nothing
 
 -- ---- names
 
@@ -69,21 +69,22 @@ missing_line what known (Some name) =
     what ++ (shown name ++ near_words (first_near known name))
 
 -- no table has this name
-abbrev pub table_line : List (List ℕ) → Option (List ℕ) → List ℕ
-table_line known missing = missing_line (codes "no table has the name ") known missing
+abbrev pub missing_table_line : List (List ℕ) → Option (List ℕ) → List ℕ
+missing_table_line known missing = missing_line (codes "no table has the name ") known missing
 
 -- no column has this name
-abbrev pub column_line : List (List ℕ) → Option (List ℕ) → List ℕ
-column_line known missing = missing_line (codes "no column has the name ") known missing
+abbrev pub missing_column_line : List (List ℕ) → Option (List ℕ) → List ℕ
+missing_column_line known missing = missing_line (codes "no column has the name ") known missing
 
 -- what is said of a query where these are the tables: of its first one that is missing
 abbrev pub query_names_told : List ℕ → List (List ℕ) → List ℕ
-query_names_told sql known = table_line known (first_other known (names_in Table (tokens_in sql)))
+query_names_told sql known =
+    missing_table_line known (first_other known (names_in Table (tokens_in sql)))
 
 abbrev pub names_told : Question → List (List ℕ) → List ℕ
 names_told (Rows sql) known = query_names_told sql.now known
-names_told (Put table mode header) known = table_line known (Some table.now)
-names_told (Records table mode columns) known = table_line known (Some table.now)
+names_told (Put table mode header) known = missing_table_line known (Some table.now)
+names_told (Records table mode columns) known = missing_table_line known (Some table.now)
 names_told question known = []
 
 -- ---- columns
@@ -102,7 +103,7 @@ listing columns = codes "its columns:" ++ (flat_map listed columns ++ codes "\n"
 
 -- the line of a query's table, and after it the first name of a column that is not among its own
 abbrev pub query_columns_told : List ℕ → List Field → List ℕ
-query_columns_told sql columns = listing columns ++ column_line (column_names columns)
+query_columns_told sql columns = listing columns ++ missing_column_line (column_names columns)
     (first_other (column_names columns) (names_in Column (tokens_in sql)))
 
 -- how the column at a place is spelled, and `none` where there is none
@@ -150,7 +151,7 @@ columns_told question table = []
 -- how a client speaks of what was asked: of a fault, and of what the server answers after it
 pub record Speech : Type 0 where
   pub hint : Fault → List ℕ
-  pub wanted : Fault → Wanted
+  pub inquiry : Fault → Inquiry
   pub names : List (List ℕ) → List ℕ
   pub columns : List Field → List ℕ
 
@@ -158,7 +159,7 @@ pub record Speech : Type 0 where
 abbrev pub query_speech : List ℕ → Speech
 query_speech sql = record {
   hint = query_hint sql;
-  wanted = query_wanted sql;
+  inquiry = query_inquiry sql;
   names = query_names_told sql;
   columns = query_columns_told sql;
 }
@@ -167,8 +168,8 @@ query_speech sql = record {
 abbrev pub put_speech : List ℕ → PutMode → Option (List ℕ) → Speech
 put_speech table mode header = record {
   hint = put_hint table mode header;
-  wanted = put_wanted table mode;
-  names = λ known. table_line known (Some table);
+  inquiry = put_inquiry table mode;
+  names = λ known. missing_table_line known (Some table);
   columns = λ own. header_columns_told own header;
 }
 
@@ -176,15 +177,15 @@ put_speech table mode header = record {
 abbrev pub records_speech : List ℕ → PutMode → List Field → Speech
 records_speech table mode columns = record {
   hint = put_hint table mode (Some []);
-  wanted = put_wanted table mode;
-  names = λ known. table_line known (Some table);
+  inquiry = put_inquiry table mode;
+  names = λ known. missing_table_line known (Some table);
   columns = λ own. put_columns_told own columns;
 }
 
 -- where nothing more is asked
 abbrev pub plain_speech : (Fault → List ℕ) → Speech
 plain_speech hint =
-    record { hint = hint; wanted = λ fault. Nothing; names = λ known. []; columns = λ own. [] }
+    record { hint = hint; inquiry = λ fault. Nothing; names = λ known. []; columns = λ own. [] }
 
 abbrev pub speech_of : Question → Speech
 speech_of (Rows sql) = query_speech sql.now

@@ -8,6 +8,7 @@
 
 pub mod hints;
 mod input_kinds;
+pub mod inquiry;
 mod left_out;
 mod marked_lines;
 mod near_names;
@@ -15,10 +16,9 @@ mod query_names;
 pub mod question;
 mod refused_types;
 mod server_lines;
-pub mod wanted;
 
 pub use crate::hints::{hint, spelling_lines};
 pub use crate::input_kinds::input_line;
+pub use crate::inquiry::Inquiry;
 pub use crate::question::Question;
-pub use crate::server_lines::{columns_told, names_told, wanted};
-pub use crate::wanted::Wanted;
+pub use crate::server_lines::{columns_told, inquiry_of, names_told};

@@ -11,7 +11,11 @@ use scan_base::Text;
 fn lower(byte: u8) -> u8
     ensures { result ≡ lower byte }
 {
-    if 65 <= byte && byte <= 90 { byte + 32 } else { byte }
+    if 65 <= byte && byte <= 90 {
+        byte + 32
+    } else {
+        byte
+    }
 }
 
 // Whether two names are the same but for their case.

@@ -65,11 +65,7 @@ fn is_used(used: NameUse, before: TokenKind, kind: TokenKind, after: TokenKind) 
 }
 
 // The names among tokens that are used so.
-fn names_used(
-    alloc: Global,
-    used: NameUse,
-    tokens: &[Token<'_>],
-) -> Result<Vec<Text>, AllocError>
+fn names_used(alloc: Global, used: NameUse, tokens: &[Token<'_>]) -> Result<Vec<Text>, AllocError>
     ensures { IfOk result (λ names. names.items
         ≡ names_used used (kind.Symbol symbol.Semicolon) (map lexeme_of tokens.now)) }
 {
@@ -92,11 +88,7 @@ fn names_used(
 /// # Errors
 ///
 /// `AllocError` where memory is refused.
-pub(crate) fn names_in(
-    alloc: Global,
-    used: NameUse,
-    sql: &str,
-) -> Result<Vec<Text>, AllocError>
+pub(crate) fn names_in(alloc: Global, used: NameUse, sql: &str) -> Result<Vec<Text>, AllocError>
     ensures { IfOk result (λ names. names.items ≡ names_in used (tokens_in sql.now)) }
 {
     match tokens(alloc, sql) {

@@ -15,15 +15,15 @@ ghost use Rattle.fault_hints.specs.ServerLines.{column_names, columns_told};
 ghost use Rattle.fault_hints.specs.ServerLines.{difference_from, difference_line};
 ghost use Rattle.fault_hints.specs.ServerLines.{header_columns_told, listed, listing};
 ghost use Rattle.fault_hints.specs.ServerLines.{missing_line, names_told, near_words};
-ghost use Rattle.fault_hints.specs.ServerLines.{only_table, put_columns_told, put_wanted};
-ghost use Rattle.fault_hints.specs.ServerLines.{query_columns_told, query_wanted};
-ghost use Rattle.fault_hints.specs.ServerLines.{spelled_at, table_line, wanted_of};
+ghost use Rattle.fault_hints.specs.ServerLines.{only_table, put_columns_told, put_inquiry};
+ghost use Rattle.fault_hints.specs.ServerLines.{query_columns_told, query_inquiry};
+ghost use Rattle.fault_hints.specs.ServerLines.{spelled_at, missing_table_line, inquiry_of};
 
+use crate::inquiry::Inquiry;
 use crate::marked_lines::push_shown;
 use crate::near_names::first_near;
 use crate::query_names::{NameUse, first_other, names_in};
 use crate::question::Question;
-use crate::wanted::Wanted;
 use arrow_schema::read_schema;
 use arrow_types::Field;
 use csv_columns::spelling;
@@ -33,44 +33,44 @@ use std::alloc::{AllocError, Global};
 // ---- what is asked
 
 // The columns of a query's table, where it has one only.
-fn only_table(alloc: Global, tables: &[Text]) -> Result<Wanted, AllocError>
-    ensures { IfOk result (λ wanted. wanted ≡ only_table tables.now) }
+fn only_table(alloc: Global, tables: &[Text]) -> Result<Inquiry, AllocError>
+    ensures { IfOk result (λ inquiry. inquiry ≡ only_table tables.now) }
 {
     match tables {
-        [table] => Ok(Wanted::Columns(Text::new(alloc, table.as_str())?)),
-        _ => Ok(Wanted::Nothing),
+        [table] => Ok(Inquiry::Columns(Text::new(alloc, table.as_str())?)),
+        _ => Ok(Inquiry::Nothing),
     }
 }
 
 // What is asked after a fault of a query.
-fn query_wanted(alloc: Global, sql: &str, fault: Fault) -> Result<Wanted, AllocError>
-    ensures { IfOk result (λ wanted. wanted ≡ query_wanted sql.now fault) }
+fn query_inquiry(alloc: Global, sql: &str, fault: Fault) -> Result<Inquiry, AllocError>
+    ensures { IfOk result (λ inquiry. inquiry ≡ query_inquiry sql.now fault) }
 {
     match fault {
-        Fault::TableMissing => Ok(Wanted::Names),
+        Fault::TableMissing => Ok(Inquiry::Names),
         Fault::UnknownName => {
             let tables = names_in(alloc, NameUse::Table, sql)?;
             only_table(alloc, &tables)
         }
-        _ => Ok(Wanted::Nothing),
+        _ => Ok(Inquiry::Nothing),
     }
 }
 
 // What is asked after a fault of a put into a table by a mode.
-fn put_wanted(
+fn put_inquiry(
     alloc: Global,
     table: &str,
     mode: PutMode,
     fault: Fault,
-) -> Result<Wanted, AllocError>
-    ensures { IfOk result (λ wanted. wanted ≡ put_wanted table.now mode fault) }
+) -> Result<Inquiry, AllocError>
+    ensures { IfOk result (λ inquiry. inquiry ≡ put_inquiry table.now mode fault) }
 {
     match (mode, fault) {
-        (PutMode::Append, Fault::TableMissing) => Ok(Wanted::Names),
+        (PutMode::Append, Fault::TableMissing) => Ok(Inquiry::Names),
         (PutMode::Append, Fault::SchemaMismatch) => {
-            Ok(Wanted::Columns(Text::new(alloc, table)?))
+            Ok(Inquiry::Columns(Text::new(alloc, table)?))
         }
-        (_, _) => Ok(Wanted::Nothing),
+        (_, _) => Ok(Inquiry::Nothing),
     }
 }
 
@@ -79,14 +79,18 @@ fn put_wanted(
 /// # Errors
 ///
 /// `AllocError` where memory is refused.
-pub fn wanted(alloc: Global, question: Question<'_>, fault: Fault) -> Result<Wanted, AllocError>
-    ensures { IfOk result (λ wanted. wanted ≡ wanted_of question.entry fault) }
+pub fn inquiry_of(
+    alloc: Global,
+    question: Question<'_>,
+    fault: Fault,
+) -> Result<Inquiry, AllocError>
+    ensures { IfOk result (λ inquiry. inquiry ≡ inquiry_of question.entry fault) }
 {
     match question {
-        Question::Rows(sql) => query_wanted(alloc, sql, fault),
-        Question::Put(table, mode, _) => put_wanted(alloc, table, mode, fault),
-        Question::Records(table, mode, _) => put_wanted(alloc, table, mode, fault),
-        Question::Names | Question::Expiry => Ok(Wanted::Nothing),
+        Question::Rows(sql) => query_inquiry(alloc, sql, fault),
+        Question::Put(table, mode, _) => put_inquiry(alloc, table, mode, fault),
+        Question::Records(table, mode, _) => put_inquiry(alloc, table, mode, fault),
+        Question::Names | Question::Expiry => Ok(Inquiry::Nothing),
     }
 }
 
@@ -123,8 +127,12 @@ fn push_missing(
 }
 
 // The line for a table that is not there.
-fn table_line(alloc: Global, known: &[Text], missing: Option<&str>) -> Result<Vec<u8>, AllocError>
-    ensures { IfOk result (λ lines. lines.items ≡ table_line known.now
+fn missing_table_line(
+    alloc: Global,
+    known: &[Text],
+    missing: Option<&str>,
+) -> Result<Vec<u8>, AllocError>
+    ensures { IfOk result (λ lines. lines.items ≡ missing_table_line known.now
         (option_map (λ (name : Bor (List ℕ)). name.now) missing.entry)) }
 {
     let mut lines = Vec::new(alloc);
@@ -134,11 +142,11 @@ fn table_line(alloc: Global, known: &[Text], missing: Option<&str>) -> Result<Ve
 
 // The line for the first table of a query that is not there.
 fn query_table_line(alloc: Global, known: &[Text], sql: &str) -> Result<Vec<u8>, AllocError>
-    ensures { IfOk result (λ lines. lines.items ≡ table_line known.now
+    ensures { IfOk result (λ lines. lines.items ≡ missing_table_line known.now
         (first_other known.now (names_in Table (tokens_in sql.now)))) }
 {
     let tables = names_in(alloc, NameUse::Table, sql)?;
-    table_line(alloc, known, first_other(known, &tables))
+    missing_table_line(alloc, known, first_other(known, &tables))
 }
 
 /// What is said after a fault of what was asked, where these are the names of the tables.
@@ -155,8 +163,8 @@ pub fn names_told(
 {
     match question {
         Question::Rows(sql) => query_table_line(alloc, known, sql),
-        Question::Put(table, _, _) => table_line(alloc, known, Some(table)),
-        Question::Records(table, _, _) => table_line(alloc, known, Some(table)),
+        Question::Put(table, _, _) => missing_table_line(alloc, known, Some(table)),
+        Question::Records(table, _, _) => missing_table_line(alloc, known, Some(table)),
         Question::Names | Question::Expiry => Ok(Vec::new(alloc)),
     }
 }
@@ -199,11 +207,7 @@ fn listing(alloc: Global, columns: &[Field]) -> Result<Vec<u8>, AllocError>
 }
 
 // The columns of a query's table, and the first name of a column that is not among them.
-fn query_columns_told(
-    alloc: Global,
-    sql: &str,
-    columns: &[Field],
-) -> Result<Vec<u8>, AllocError>
+fn query_columns_told(alloc: Global, sql: &str, columns: &[Field]) -> Result<Vec<u8>, AllocError>
     ensures { IfOk result (λ lines. lines.items ≡ query_columns_told sql.now columns.now) }
 {
     let known = column_names(alloc, columns)?;
@@ -294,11 +298,7 @@ fn number_words(alloc: Global, place: usize) -> Result<String, AllocError>
 }
 
 // Where a table's columns differ from those that are put.
-fn put_columns_told(
-    alloc: Global,
-    table: &[Field],
-    put: &[Field],
-) -> Result<Vec<u8>, AllocError>
+fn put_columns_told(alloc: Global, table: &[Field], put: &[Field]) -> Result<Vec<u8>, AllocError>
     ensures { IfOk result (λ lines. lines.items ≡ put_columns_told table.now put.now) }
 {
     let place = first_difference(alloc, table, put)?;

@@ -82,8 +82,8 @@ LacksSeed status old new =
     (status ≡ FaultAtThisEnd) × Prints (fault_line Transport) old.faults new.faults
     × (new.out ≡ old.out) × (new.input ≡ old.input)
 
--- with a seed, the rows that a query answers are printed in a form; `-` stands for the text that the
--- input is
+-- with a seed, the rows that a query answers are printed in a form; `-` stands for the text that
+-- the input is
 abbrev pub QueriesWith : {S N : Type 0} → Option S → (N → Option Ends → N → Type 0)
     → (N → N → N → Type 0) → ℕ → List ℕ → Format → ExitStatus → N → N → Standard → Standard → Type 0
 QueriesWith (Some seed) connects shares streams sql format status before behind old new =

@@ -15,8 +15,8 @@ records_behind config state (Some bytes) = records_from config (length bytes + 1
 
 -- those that a reader has left
 abbrev pub records_left : Reader (Bor (List ℕ)) → List (List (List ℕ))
-records_left reader =
-    records_behind (reader_config reader) (reader_state reader) (source_of (λ bytes. Some bytes.now) reader)
+records_left reader = records_behind (reader_config reader) (reader_state reader)
+    (source_of (λ bytes. Some bytes.now) reader)
 
 -- a reader that has not failed reads records of any length as they stand
 abbrev pub ReadsOn : Reader (Bor (List ℕ)) → Type 0

@@ -1,6 +1,6 @@
 use Rattle.std.proofs.Common.{inl, inr, refl}
 use Rattle.std.proofs.lemmas.Result.{err_from_is_err_and}
-use Rattle.client_commands.proofs.asking.fetch_name_lines.Goals as goal
+use Rattle.client_commands.proofs.server_inquiry.fetch_name_lines.Goals as goal
 
 pub returns-in_err-names : goal.returns-in_err-names
 returns-in_err-names g c =

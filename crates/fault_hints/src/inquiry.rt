@@ -4,7 +4,7 @@ use scan_base::Text;
 
 /// What is asked of a server after a fault.
 #[derive(Debug, Drop)]
-pub enum Wanted {
+pub enum Inquiry {
     /// Nothing.
     Nothing,
     /// The names of the tables.

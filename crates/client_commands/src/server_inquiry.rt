@@ -4,9 +4,9 @@ ghost use Rattle.std.specs.Prelude.{◌≡◌, ◌≢◌, ◌⊎◌, Ok, Err, Is
 ghost use Rattle.grpc_frame.specs.Ends.{CanFail};
 ghost use Rattle.command_ends.specs.Printing.{said_of};
 ghost use Rattle.fault_hints.specs.ServerLines.{columns_told, names_told, speech_of};
-ghost use Rattle.fault_hints.specs.declared.wanted.Wanted.TheVariants.{Nothing};
+ghost use Rattle.fault_hints.specs.declared.inquiry.Inquiry.TheVariants.{Nothing};
 ghost use Rattle.client_commands.specs.Asking.{AsksMore, ColumnsGive, FetchesLines, NamesGive};
-ghost use Rattle.client_commands.specs.Asking.{TellsMore, wanted_after};
+ghost use Rattle.client_commands.specs.Asking.{TellsMore, inquiry_after};
 
 use crate::call_outcome::end_by_failure;
 use crate::describe::columns_query;
@@ -14,7 +14,7 @@ use crate::fetching::fetch_rows;
 use crate::tables::fetch_names;
 use client_calls::{Connection, Failure};
 use command_ends::{Connect, ExitStatus};
-use fault_hints::{Question, Wanted, columns_told, names_told, wanted};
+use fault_hints::{Inquiry, Question, columns_told, inquiry_of, names_told};
 use flight_proto::InfoCommand;
 use grpc_frame::{Input, Output};
 use std::alloc::Global;
@@ -42,36 +42,39 @@ pub(crate) fn end_by_asking<C: Connect, E: Output>(
         (said_of E.Output faults.old) (said_of E.Output faults.new) }
 {
     let failed = faults.failures();
-    let wanted = wanted_after(alloc, asked.question, failure);
+    let inquiry = inquiry_after(alloc, asked.question, failure);
     let status = end_by_failure(alloc, faults, failure, asked.question);
-    if is_nothing(&wanted) || faults.failures() != failed {
+    if is_nothing(&inquiry) {
         return status;
     }
-    ask_more(alloc, network, faults, asked, &wanted);
+    if faults.failures() != failed {
+        return status;
+    }
+    ask_more(alloc, network, faults, asked, &inquiry);
     status
 }
 
 // What is asked after a failure; nothing, where memory for that is refused.
-fn wanted_after(alloc: Global, question: Question<'_>, failure: Failure) -> Wanted
-    ensures { (result ≡ wanted_after (speech_of question.entry) failure) ⊎ (result ≡ Nothing) }
+fn inquiry_after(alloc: Global, question: Question<'_>, failure: Failure) -> Inquiry
+    ensures { (result ≡ inquiry_after (speech_of question.entry) failure) ⊎ (result ≡ Nothing) }
 {
     match failure {
-        Failure::Answered(fault) => match wanted(alloc, question, fault) {
-            Ok(wanted) => wanted,
-            Err(_) => Wanted::Nothing,
+        Failure::Answered(fault) => match inquiry_of(alloc, question, fault) {
+            Ok(inquiry) => inquiry,
+            Err(_) => Inquiry::Nothing,
         },
-        Failure::Found(_) => Wanted::Nothing,
+        Failure::Found(_) => Inquiry::Nothing,
     }
 }
 
 // Whether nothing is asked.
-fn is_nothing(wanted: &Wanted) -> bool
-    ensures nothing { IsTrue result → wanted.now ≡ Nothing }
-    ensures some { IsFalse result → wanted.now ≢ Nothing }
+fn is_nothing(inquiry: &Inquiry) -> bool
+    ensures nothing { IsTrue result → inquiry.now ≡ Nothing }
+    ensures some { IsFalse result → inquiry.now ≢ Nothing }
 {
-    match wanted {
-        Wanted::Nothing => true,
-        Wanted::Names | Wanted::Columns(_) => false,
+    match inquiry {
+        Inquiry::Nothing => true,
+        Inquiry::Names | Inquiry::Columns(_) => false,
     }
 }
 
@@ -81,19 +84,19 @@ fn ask_more<C: Connect, E: Output>(
     network: &mut C,
     faults: &mut E,
     asked: Asked<'_>,
-    wanted: &Wanted,
+    inquiry: &Inquiry,
 )
-    requires some { wanted.now ≢ Nothing }
+    requires some { inquiry.now ≢ Nothing }
     requires prints { CanFail (E.failures faults.old) }
     ensures { AsksMore (λ ends. C.connects network.old asked.entry.port ends network.new)
-        (speech_of asked.entry.question) wanted.now
+        (speech_of asked.entry.question) inquiry.now
         (said_of E.Output faults.old) (said_of E.Output faults.new) }
 {
     let Ok((reader, writer)) = network.connect_briefly(asked.port) else {
         return;
     };
     let mut connection = Connection::new(alloc, reader, writer);
-    if let Ok(lines) = fetch_lines(alloc, &mut connection, asked.question, wanted) {
+    if let Ok(lines) = fetch_lines(alloc, &mut connection, asked.question, inquiry) {
         let _ = faults.write(&lines);
     }
 }
@@ -103,21 +106,21 @@ fn fetch_lines<R: Input, W: Output>(
     alloc: Global,
     connection: &mut Connection<R, W>,
     question: Question<'_>,
-    wanted: &Wanted,
+    inquiry: &Inquiry,
 ) -> Result<Vec<u8>, Failure>
-    requires some { wanted.now ≢ Nothing }
+    requires some { inquiry.now ≢ Nothing }
     requires reads { CanFail (connection.old.incoming.failed) }
     requires writes { CanFail (connection.old.outgoing.failed) }
     ensures { MatchResult result
-        (λ lines. FetchesLines (speech_of question.entry) wanted.now (Ok lines.items)
+        (λ lines. FetchesLines (speech_of question.entry) inquiry.now (Ok lines.items)
         connection.old connection.new)
-        (λ failure. FetchesLines (speech_of question.entry) wanted.now (Err failure)
+        (λ failure. FetchesLines (speech_of question.entry) inquiry.now (Err failure)
         connection.old connection.new) }
 {
-    match wanted {
-        Wanted::Nothing => unreachable!(),
-        Wanted::Names => fetch_name_lines(alloc, connection, question),
-        Wanted::Columns(table) => fetch_column_lines(alloc, connection, question, table.as_str()),
+    match inquiry {
+        Inquiry::Nothing => unreachable!(),
+        Inquiry::Names => fetch_name_lines(alloc, connection, question),
+        Inquiry::Columns(table) => fetch_column_lines(alloc, connection, question, table.as_str()),
     }
 }
 

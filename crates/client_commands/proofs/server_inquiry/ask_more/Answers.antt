@@ -1,5 +1,5 @@
 use Rattle.std.proofs.Common.{inl, inr, refl}
-use Rattle.client_commands.proofs.asking.ask_more.Goals as goal
+use Rattle.client_commands.proofs.server_inquiry.ask_more.Goals as goal
 
 -- no connection was made
 pub returns-else : goal.returns-else
