@@ -531,8 +531,8 @@ def separated_fields(run: Run) -> None:
         words = ("put", "--port", str(server.port), "--table", "t", "--mode", "replace", "--format", "csv", "--columns", "a:int8, b:utf8")
         for name, byte in ((",", b","), (";", b";"), ("|", b"|"), ("tab", b"\t")):
             same(name, printed("2 rows"), typed(run, *words, "--separator", name, data=b'1%bx\n2%b"%b,"\n' % (byte, byte, byte)))
-            read = byte.decode() + ","
-            same("its rows", [b"1", b"x", b"2", read.encode()], re.split(rb"[\t\n]", query(run, server, "SELECT * FROM t WHERE a = 1 OR a = 2")[1])[-5:-1] if byte != b"\t" else [b"1", b"x", b"2", read.encode()])
+            given = typed(run, "query", "--port", str(server.port), "--format", "csv", "SELECT * FROM t")
+            same("its rows", printed("a,b", "1,x", f'2,"{byte.decode()},"'), given)
         status, _, said = typed(run, *words, "--separator", ":", data=b"1:x\n")
         same("another", (2, True), (status, b"--separator" in said))
 
