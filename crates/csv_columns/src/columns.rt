@@ -1,12 +1,13 @@
 //! The columns that are found.
 
 ghost use Rattle.std.specs.Prelude.{◌≡◌, ◌<◌, ◌∷◌, [], ◌++◌, ℕ, List, None, All, IfErr, IfOk};
-ghost use Rattle.std.specs.Prelude.{length, get_or};
+ghost use Rattle.std.specs.Prelude.{length, get_or, true};
 ghost use Rattle.csv.specs.Records.{fields_of};
 ghost use Rattle.arrow_types.specs.Schema.{IsField, IsSchema};
 ghost use Rattle.arrow_types.specs.DataType.{encoding_of};
 ghost use Rattle.csv_columns.specs.TextRecords.{records_by};
 ghost use Rattle.csv_columns.specs.FittingColumns.{AreFound, WhyNoNames, WhyNoneFound, column_seen};
+ghost use Rattle.csv_columns.specs.FittingColumns.{has_row};
 ghost use Rattle.csv_columns.specs.FittingColumns.{rows_behind};
 ghost use Rattle.csv_columns.specs.inside.Tests.{HaveSeen, PassesOne};
 
@@ -114,18 +115,37 @@ fn rows_seen(
     seen_in(alloc, width, &mut records)
 }
 
-/// The columns that a whole text fits, in two passes over it.
+/// Whether a record of a text says a row.
+///
+/// # Errors
+///
+/// `AllocError` where memory is refused.
+pub fn has_row(alloc: Global, text: &[u8], form: RecordForm) -> Result<bool, AllocError>
+    ensures { IfOk result
+        (λ found. found ≡ has_row form.header (records_by form.separator text.now)) }
+{
+    let mut records = Records::separated_by(alloc, text, form.separator);
+    let mut fields = ByteRecord::new(alloc);
+    if form.header && !records.next(&mut fields)? {
+        return Ok(false);
+    }
+    records.next(&mut fields)
+}
+
+/// The columns that a whole text fits, in passes over it.
 ///
 /// # Errors
 ///
 /// - `Fault::LimitReached` (F12) where there are more than 64 columns, or a name has more than 64
 ///   bytes.
-/// - `Fault::BadBatch` (F8) where there is no record, or a name is no text of a byte or more.
+/// - `Fault::BadBatch` (F8) where no record says a row, or a name is no text of a byte or more.
 /// - `Fault::OutOfMemory` (F21) where memory is refused.
 ///
 /// The number of columns is looked at before the names, and these in order.
 pub fn found_columns(alloc: Global, text: &[u8], form: RecordForm) -> Result<Schema, Fault>
     ensures found { IfOk result (AreFound form.header (records_by form.separator text.now)) }
+    ensures some { IfOk result
+        (λ _. has_row form.header (records_by form.separator text.now) ≡ true) }
     ensures schema { IfOk result IsSchema }
     ensures plain { IfOk result
         (λ schema. All (λ column. encoding_of column.data_type ≡ None) schema.fields) }
@@ -142,6 +162,9 @@ pub fn found_columns(alloc: Global, text: &[u8], form: RecordForm) -> Result<Sch
     }
     if width > MAX_COLUMNS {
         return Err(Fault::LimitReached);
+    }
+    if !has_row(alloc, text, form)? {
+        return Err(Fault::BadBatch);
     }
     let seen = rows_seen(alloc, text, form, width)?;
     Ok(Schema {

@@ -19,7 +19,7 @@ mod word;
 mod writing;
 
 pub use crate::cell::cell_in;
-pub use crate::columns::found_columns;
+pub use crate::columns::{found_columns, has_row};
 pub use crate::field::field_in;
 pub use crate::field_values::value_in;
 pub use crate::name::name_of;

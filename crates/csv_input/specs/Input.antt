@@ -1,6 +1,6 @@
 -- An input as CSV: its columns, its rows, and what is printed of them or of a wrong record.
-use Rattle.std.specs.Prelude.{◌≡◌, ◌⊎◌, ◌<◌, ◌^◌, ℕ, ◌+◌, Bool, List, Option, Some, None, Result}
-use Rattle.std.specs.Prelude.{Ok, Err, codes, option_map}
+use Rattle.std.specs.Prelude.{◌≡◌, ◌⊎◌, ◌<◌, ◌^◌, ℕ, ◌+◌, Bool, List, [], ◌++◌, Option, Some}
+use Rattle.std.specs.Prelude.{None, Result, Ok, Err, codes, option_map}
 use Rattle.std.specs.Borrow.{Bor}
 use Rattle.std.specs.Io.KnownBytes.{Appends}
 use Rattle.scan_base.specs.declared.fault.Fault.{Fault}
@@ -16,7 +16,7 @@ use Rattle.command_ends.specs.declared.exit_status.ExitStatus.TheVariants.{Fault
 use Rattle.csv_columns.specs.TextRecords.{records_by, records_in}
 use Rattle.csv_columns.specs.Refusals.{WhyNoColumns}
 use Rattle.csv_columns.specs.SpelledColumns.{Spells}
-use Rattle.csv_input.specs.Lines.{columns_line, wrong_line}
+use Rattle.csv_input.specs.Lines.{columns_line, none_line, wrong_line}
 use Rattle.csv_columns.specs.FittingColumns.{AreFound, WhyNoneFound, rows_behind}
 use Rattle.csv_input.specs.Long.{WhyNoneTold}
 use Rattle.csv_input.specs.Rows.{AreRight, IsFirstWrong}
@@ -96,11 +96,18 @@ ChecksRows header schema records (Ok done) old new =
 ChecksRows header schema records (Err status) old new =
     (status ≡ FaultAtThisEnd) × Refuses header schema records old new
 
+-- why there are no columns is printed, and after it what there is to say of that, unless memory for
+-- it is refused
+abbrev pub TellsNone : Form → List (List (List ℕ)) → Fault → Said → Said → Type 0
+TellsNone form records fault old new =
+    (more : List ℕ) × ((more ≡ none_line form.columns form.header records) ⊎ (more ≡ []))
+    × Prints (fault_line fault ++ more) old new
+
 -- No columns: why is printed. Or they were not printed; or they were, as far as they are found, and
 -- then which record is wrong.
 abbrev pub RefusesText : Form → List (List (List ℕ)) → Said → Said → Type 0
 RefusesText form records old new =
-    ((fault : Fault) × WhyNoneOf form records fault × Prints (fault_line fault) old new)
+    ((fault : Fault) × WhyNoneOf form records fault × TellsNone form records fault old new)
     ⊎ ((schema : Schema) × AreColumnsOf form records schema × IsUntold form schema.fields old new)
     ⊎ ((schema : Schema) × AreColumnsOf form records schema × ((middle : Said)
     × IsTold form schema.fields old middle × Refuses form.header schema records middle new))
