@@ -39,16 +39,16 @@ is_used Column before kind after = is_name kind
 
 -- the names among these tokens that are used so, where a token of a kind stands before them
 abbrev pub names_used : NameUse → TokenKind → List Lexeme → List (List ℕ)
-names_used use before [] = []
-names_used use before (token ∷ tokens) =
-    if is_used use before token.kind (kind_at_front tokens) then
-    lexeme_value token ∷ names_used use token.kind tokens
-    else names_used use token.kind tokens
+names_used role before [] = []
+names_used role before (token ∷ tokens) =
+    if is_used role before token.kind (kind_at_front tokens) then
+    lexeme_value token ∷ names_used role token.kind tokens
+    else names_used role token.kind tokens
 
 -- the names in a query that are used so, by its tokens
 abbrev pub names_in : NameUse → Result (List Lexeme) Fault → List (List ℕ)
-names_in use (Ok tokens) = names_used use (kind.Symbol symbol.Semicolon) tokens
-names_in use (Err fault) = []
+names_in role (Ok tokens) = names_used role (kind.Symbol symbol.Semicolon) tokens
+names_in role (Err fault) = []
 
 -- whether a name is among some
 abbrev pub is_among : List (List ℕ) → List ℕ → Bool
