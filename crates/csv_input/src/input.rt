@@ -61,11 +61,7 @@ pub fn read_csv<I: Input, E: Output>(
 }
 
 // What is said where no columns are found.
-fn none_line(
-    alloc: Global,
-    text: &[u8],
-    form: CsvForm<'_>,
-) -> Result<&'static [u8], AllocError>
+fn none_line(alloc: Global, text: &[u8], form: CsvForm<'_>) -> Result<&'static [u8], AllocError>
     ensures { IfOk result (λ line. line.now ≡ none_line (form_of form.entry).columns
         form.entry.header (records_by form.entry.separator text.now)) }
 {
