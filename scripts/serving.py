@@ -24,6 +24,7 @@ sys.path += [str(ROOT / "vectors" / folder) for folder in ("arrow", "flight", "q
 import served.calls  # noqa: E402, F401  (its cases)
 import served.connections  # noqa: E402, F401
 import served.programs  # noqa: E402, F401
+import served.timestamps  # noqa: E402, F401
 import wire  # noqa: E402
 from built import program  # noqa: E402
 from random_calls.answers import Difference  # noqa: E402

@@ -28,7 +28,8 @@ ORDER BY of the order that docs/SQL.md states. Compared are each put's count, ea
 info and of its streams, and the rows of each endpoint, one by one, in order. Right before each batch of rows, of which there is
 one or more, has to stand a dictionary for each column that is one: of the texts of that batch, by first appearance.
 
-What both define alike, and no more: sqlite3 has its truth values as 1 and 0, and dates as their numbers of days. Names differ by more than their case,
+What both define alike, and no more: sqlite3 has its truth values as 1 and 0, and dates as their numbers of days, and
+timestamps of microseconds. Names differ by more than their case,
 numbers have 64 bits with a sign, and such columns alone are summed whose sums have no more.
 
 With --workers 1,2,4,16 a `pipe` is given the calls for each of these numbers. The answers of the first one are compared with
@@ -74,7 +75,7 @@ from reader import Fault, Reader  # noqa: E402
 
 SECONDS = 300  # that one program may take
 TABLES = ["t", "u", "a b", "select", "\u00e9"]
-COLUMNS = ["a", "b", "c", "k", "order", "a b", "\u00e9\"", "_1"]
+COLUMNS = ["a", "b", "c", "k", "order", "timestamp", "a b", "\u00e9\"", "_1"]
 COUNTS = [0, 1, 2, 4, 6, 8, 12]  # of a put's rows; of a large one as many times more
 MARK = "="  # the line behind each answer of sqlite3
 TOGETHER = 500  # rows of a statement of sqlite3

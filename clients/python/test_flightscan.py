@@ -30,6 +30,7 @@ import trials.clusters  # noqa: E402, F401
 import trials.cursors  # noqa: E402, F401
 import trials.frames  # noqa: E402, F401
 import trials.gateways  # noqa: E402, F401
+import trials.losses  # noqa: E402, F401
 import trials.names  # noqa: E402, F401
 import trials.pages  # noqa: E402, F401
 import trials.several  # noqa: E402, F401

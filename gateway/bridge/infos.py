@@ -53,9 +53,11 @@ TYPE_COLUMNS = [
     Field("auto_increment", Type(BOOL)), Field("local_type_name", TEXT), Field("minimum_scale", INT32),
     Field("maximum_scale", INT32), Field("sql_data_type", INT32, False), Field("datetime_subcode", INT32),
     Field("num_prec_radix", INT32), Field("interval_precision", INT32)]
-BIT, TINYINT, BIGINT, DECIMAL, INTEGER, SMALLINT, VARCHAR, DATE = -7, -6, -5, 3, 4, 5, 12, 91  # of XdbcDataType
+BIT, TINYINT, BIGINT, DECIMAL, INTEGER, SMALLINT, VARCHAR = -7, -6, -5, 3, 4, 5, 12  # of XdbcDataType
+DATE, TIMESTAMP = 91, 93
 NULLABLE, COMPARES = 1, 2  # NULLABILITY_NULLABLE; SEARCHABLE_BASIC: all but LIKE
-DATETIME, DAY_CODE = 9, 1  # the SQL data type of dates, and their subcode
+DATETIME, DAY_CODE, TIMESTAMP_CODE = 9, 1, 3  # the SQL data type of dates and timestamps, and their subcodes
+MICROSECONDS = 6  # the digits of a second's fraction
 DIGITS = {8: 3, 16: 5, 32: 10, 64: 19}  # of the widest value
 INTEGERS = {8: TINYINT, 16: SMALLINT, 32: INTEGER, 64: BIGINT}
 
@@ -79,6 +81,8 @@ ALL_TYPES = sorted([
     numeric("decimal", DECIMAL, 38, False),
     type_row("utf8", VARCHAR, 65_536, literal_prefix="'", literal_suffix="'", case_sensitive=True),
     type_row("date", DATE, 10, literal_prefix="DATE '", literal_suffix="'", sql_data_type=DATETIME, datetime_subcode=DAY_CODE),
+    type_row("timestamp", TIMESTAMP, 26, literal_prefix="TIMESTAMP '", literal_suffix="'", minimum_scale=MICROSECONDS,
+             maximum_scale=MICROSECONDS, sql_data_type=DATETIME, datetime_subcode=TIMESTAMP_CODE),
 ], key=lambda row: (row[1], row[0]))
 
 

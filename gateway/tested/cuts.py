@@ -12,7 +12,7 @@ from layout import written
 from random_calls.answers import Refusal, same
 from reader import Fault, Reader, Table
 from served.cases import MEGABYTE, fetch_of
-from trees import BOOL, DATE, DECIMAL, UTF8, batch, dictionary, encoding, field, integer, schema, texts
+from trees import BOOL, DATE, DECIMAL, TIMESTAMP, UTF8, batch, dictionary, encoding, field, integer, schema, texts
 
 from tested.cases import ask, case, look_at_status
 from tested.client import LONGEST_MESSAGE, Client, flight, ingest, query
@@ -112,28 +112,30 @@ def packed(flags: list[bool]) -> bytes:
 
 
 def long_columns() -> tuple[dict, list[tuple]]:
-    """A schema and the columns of one batch of 700,000 rows, 30 MB: numbers, decimals, days, truths, texts and words."""
-    tree = schema(field("n", integer(64, True), False), field("m", DECIMAL), field("d", DATE), field("b", BOOL),
-                  field("s", UTF8), field("w", UTF8, dictionary=encoding(7, integer(32, True))))
+    """A schema and the columns of one batch of 700,000 rows, 35 MB: numbers, decimals, dates, timestamps, truths and texts."""
+    tree = schema(field("n", integer(64, True), False), field("m", DECIMAL), field("d", DATE), field("t", TIMESTAMP),
+                  field("b", BOOL), field("s", UTF8), field("w", UTF8, dictionary=encoding(7, integer(32, True))))
     rows = range(LONG_ROWS)
     every_third = packed([row % 3 > 0 for row in rows])
     nulls = LONG_ROWS // 3 + 1
     return tree, [(0, b"", struct.pack(f"<{LONG_ROWS}q", *rows)),
                   (nulls, every_third, b"".join(row.to_bytes(16, "little") for row in rows)),
-                  (0, b"", struct.pack(f"<{LONG_ROWS}i", *rows)), (nulls, every_third, packed([row % 5 == 0 for row in rows])),
+                  (0, b"", struct.pack(f"<{LONG_ROWS}i", *rows)),
+                  (0, b"", struct.pack(f"<{LONG_ROWS}q", *(-row for row in rows))),
+                  (nulls, every_third, packed([row % 5 == 0 for row in rows])),
                   (0, b"", *texts([b"%d" % row for row in rows])),
                   (0, b"", struct.pack(f"<{LONG_ROWS}i", *(row % WORDS for row in rows)))]
 
 
 def long_put() -> Iterator[flight.FlightData]:
-    """A put of a dictionary of 21 MB and of one batch of 30 MB."""
+    """A put of a dictionary of 21 MB and of one batch of 35 MB."""
     tree, columns = long_columns()
     yield data_of(tree, b"", flight_descriptor=ingest("t"))
     yield data_of(*dictionary(7, batch(WORDS, (0, b"", *texts([b"%064d" % word for word in range(WORDS)])))))
     yield data_of(*batch(LONG_ROWS, *columns))
 
 
-@case("a put of a batch of 30 MB and a dictionary of 21 MB: all rows are there, in batches of 65,536 rows at most")
+@case("a put of a batch of 35 MB and a dictionary of 21 MB: all rows are there, in batches of 65,536 rows at most")
 def long_batches(run: Run) -> str:
     put = [*long_put()]
     longest = max(len(data.SerializeToString()) for data in put)
@@ -141,11 +143,11 @@ def long_batches(run: Run) -> str:
     with run.serving() as (_, gateway), Client(gateway.port) as client:
         same("the number of rows put", LONG_ROWS, client.put(put))
         found, rows = Reader(), 0
-        text = "SELECT n, m, d, b, s, w FROM t WHERE n < 1000 OR n >= 65000 AND n < 66000 OR n > 699000"
+        text = "SELECT n, m, d, t, b, s, w FROM t WHERE n < 1000 OR n >= 65000 AND n < 66000 OR n > 699000"
         for endpoint in client.info(query(text)).endpoint:
             for data in client.fetch(endpoint.ticket):
                 found.message(data.data_header, data.data_body)
-        wanted = [[row, row if row % 3 else None, row, row % 5 == 0 if row % 3 else None, str(row), f"{row % WORDS:064d}"]
+        wanted = [[row, row if row % 3 else None, row, -row, row % 5 == 0 if row % 3 else None, str(row), f"{row % WORDS:064d}"]
                   for row in range(LONG_ROWS) if row < 1000 or 65_000 <= row < 66_000 or row > 699_000]
         same("the rows", wanted, found.total)
         whole = b""

@@ -166,14 +166,15 @@ def types(run: Run) -> None:
     with run.serving() as (_, gateway), Client(gateway.port) as client:
         rows = asked(client, stock.CommandGetXdbcTypeInfo(), TYPES)
         codes = [("bool", -7), ("int8", -6), ("uint8", -6), ("int64", -5), ("uint64", -5), ("decimal", 3), ("int32", 4),
-                 ("uint32", 4), ("int16", 5), ("uint16", 5), ("utf8", 12), ("date", 91)]
+                 ("uint32", 4), ("int16", 5), ("uint16", 5), ("utf8", 12), ("date", 91), ("timestamp", 93)]
         same("names and codes", codes, [row[:2] for row in rows])
         sizes = {"bool": 1, "int8": 3, "uint8": 3, "int16": 5, "uint16": 5, "int32": 10, "uint32": 10, "int64": 19, "uint64": 20,
-                 "decimal": 38, "utf8": 65_536, "date": 10}
+                 "decimal": 38, "utf8": 65_536, "date": 10, "timestamp": 26}
         same("sizes", sizes, {row[0]: row[2] for row in rows})
         same("what has no sign", {name: name.startswith("u") for name in sizes if "int" in name} | {"decimal": False},
              {row[0]: row[9] for row in rows if row[9] is not None})
-        for code in (-5, 91, 1):
+        same("what a timestamp has", ("TIMESTAMP '", "'", 6, 6, 9, 3), tuple(rows[-1][one] for one in (3, 4, 13, 14, 15, 16)))
+        for code in (-5, 91, 93, 1):
             same(f"types of {code}", [row for row in rows if row[1] == code],
                  asked(client, stock.CommandGetXdbcTypeInfo(data_type=code), TYPES))
 

@@ -15,8 +15,9 @@ import itertools
 from dataclasses import dataclass
 from random import Random
 
-from random_calls.plain_model import (FIRST_DAY, LAST_DAY, SIGNS, And, Between, Column, Comparison, Database, Day, In, IsNull, Literal, Name, Not, Or,
-                                      Predicate, Put, Query, Row, Table, Value, class_of)
+from random_calls.plain_model import (DAY_MICROS, FIRST_DAY, FIRST_MOMENT, LAST_DAY, LAST_MOMENT, SIGNS, And, Between, Column, Comparison,
+                                      Database, Day, In, IsNull, Literal, Moment, Name, Not, Or, Predicate, Put, Query, Row, Table, Value,
+                                      class_of)
 from random_calls.puts import ABSENT, RANGES, TEXTS, TREES, MadePut, Stream, ingest, messages_of
 from random_calls.queries import GREATEST, Asker
 
@@ -38,6 +39,10 @@ def domain_of(random: Random, kind: str, bound: int) -> list[Value]:
         case "date":
             first = random.choice([FIRST_DAY, -STEPS // 2, 8766, LAST_DAY - STEPS])
             return [Day(first + number) for number in range(STEPS + 1)]
+        case "timestamp":
+            step = random.choice([1, 10**6, DAY_MICROS])
+            first = random.choice([FIRST_MOMENT, -STEPS * step // 2, 1_714_564_800_000_000, LAST_MOMENT - STEPS * step])
+            return [Moment(first + number * step) for number in range(STEPS + 1)]
     least, above = max(RANGES[kind][0], -bound), min(RANGES[kind][1], bound)
     step = random.choice([1, 1, 2, 5] + [2**15] * (above > 2**31))
     last = above - 1 - STEPS * step
@@ -137,7 +142,7 @@ def narrow(random: Random, name: Name, values: list[Value]) -> Predicate:
         return random.choice([IsNull, lambda one: Not(IsNull(one))])(name)
     place = random.choice([0, len(values) - 1, random.randrange(len(values))])
     low, high, least = values[place], values[min(place + random.choice([0, 0, 1, 3]), len(values) - 1)], values[0]
-    if isinstance(low, Day):
+    if isinstance(low, (Day, Moment)):
         low, high, least = (one.beside(random.choice([0, 0, 0, 1, -1])) for one in (low, high, least))
     elif isinstance(low, int) and not isinstance(low, bool):
         least = max(-GREATEST, min(GREATEST, least))

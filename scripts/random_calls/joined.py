@@ -10,10 +10,10 @@ from __future__ import annotations
 from dataclasses import dataclass
 from random import Random
 
-from random_calls.plain_model import (FIRST_DAY, LAST_DAY, And, Between, Column, Comparison, Database, Day, In, Is, IsNull, Literal,
-                                      Name, Not, Operand, Or, Predicate, Value, class_of)
-from random_calls.puts import RANGES, TEXTS
-from random_calls.queries import Asker, Speller
+from random_calls.plain_model import (FIRST_DAY, LAST_DAY, LAST_MOMENT, And, Between, Column, Comparison, Database, Day, In, Is, IsNull,
+                                      Literal, Moment, Name, Not, Operand, Or, Predicate, Value, class_of)
+from random_calls.puts import MOMENTS, RANGES, TEXTS
+from random_calls.queries import COUNTED, Asker, Speller
 
 LARGE = 2**55  # of 200 of these no sum has more than 64 bits, which sqlite3 would refuse
 NUMBERS = [1, 2, 3, 100, -1, -2, 127, 255, -128, LARGE, -LARGE]
@@ -79,10 +79,12 @@ class Values:
         self.numbers = [0, *random.sample(NUMBERS, random.randrange(1, 5))]
         self.texts = random.sample(TEXTS[:-1], random.randrange(1, 5))
         self.days = [Day(0), *map(Day, random.sample(DAYS, random.randrange(1, 5)))]
+        self.moments = [Moment(0), *map(Moment, random.sample(MOMENTS, random.randrange(1, 5)))]
         if large:
             self.numbers = [*random.sample(range(-100, 100), 80), *random.sample(range(2**40), 20)]
             self.texts += [f"text {number}" for number in random.sample(range(1000), 100)]
             self.days += map(Day, random.sample(range(8000, 12000), 100))
+            self.moments += [Moment(LAST_MOMENT - number * 1_000_000) for number in random.sample(range(1000), 100)]
 
     def value(self, kind: str) -> Value:
         match class_of(kind):
@@ -92,6 +94,8 @@ class Values:
                 return self.random.choice(self.texts)
             case "date":
                 return self.random.choice(self.days)
+            case "timestamp":
+                return self.random.choice(self.moments)
         least, above = RANGES[kind]
         few = [number for number in self.numbers if least <= number < above]
         ends = [max(least, -LARGE), min(above - 1, LARGE)]
@@ -132,8 +136,9 @@ class Joiner(Asker):
 
     def literal(self, kind: str) -> Literal:
         """A literal of a class: one of the few values, or a number beside it."""
-        value, moved = self.values.value({"number": "Int64", "text": "Utf8", "truth": "Bool", "date": "Date"}[kind]), self.random.choice([0, 0, 0, 1, -1])
-        if kind == "date":
+        kinds = {"number": "Int64", "text": "Utf8", "truth": "Bool", "date": "Date", "timestamp": "Timestamp"}
+        value, moved = self.values.value(kinds[kind]), self.random.choice([0, 0, 0, 1, -1])
+        if kind in COUNTED:
             return Literal(value.beside(moved))
         return Literal(value + moved if kind == "number" else value)
 

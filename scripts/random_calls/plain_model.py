@@ -1,7 +1,7 @@
 """What puts and queries mean, on plain lists.
 
 A database is a dict from names to tables, and a table is columns and a list of rows. A value is None, a bool, an int,
-a Day or a str. Written from the words of docs/PROTOCOL.md and docs/SQL.md alone: it shares nothing with the crates.
+a Day, a Moment or a str. Written from the words of docs/PROTOCOL.md and docs/SQL.md alone: it shares nothing with the crates.
 """
 
 from __future__ import annotations
@@ -11,6 +11,11 @@ from collections.abc import Callable
 from dataclasses import dataclass
 
 FIRST_DAY, LAST_DAY = -719_162, 2_932_896  # 0001-01-01 and 9999-12-31: the dates that a query can name
+DAY_MICROS = 86_400_000_000
+
+
+# 0001-01-01 00:00:00 and 9999-12-31 23:59:59.999999: the timestamps that a query can name.
+FIRST_MOMENT, LAST_MOMENT = FIRST_DAY * DAY_MICROS, (LAST_DAY + 1) * DAY_MICROS - 1
 
 
 class Day(int):
@@ -21,7 +26,15 @@ class Day(int):
         return Day(max(FIRST_DAY, min(LAST_DAY, self + days)))
 
 
-Value = None | bool | int | str | Day
+class Moment(int):
+    """A timestamp, by its number of microseconds since 1970-01-01 00:00:00. It is of a class of its own, too."""
+
+    def beside(self, micros: int) -> Moment:
+        """The timestamp so many microseconds behind, of those that a query can name."""
+        return Moment(max(FIRST_MOMENT, min(LAST_MOMENT, self + micros)))
+
+
+Value = None | bool | int | str | Day | Moment
 Row = tuple[Value, ...]
 Truth = bool | None  # None is unknown
 
@@ -184,7 +197,8 @@ class Query:
 
 
 def class_of(type_name: str) -> str:
-    return {"Utf8": "text", "dictionary": "text", "Bool": "truth", "Date": "date"}.get(type_name, "number")
+    classes = {"Utf8": "text", "dictionary": "text", "Bool": "truth", "Date": "date", "Timestamp": "timestamp"}
+    return classes.get(type_name, "number")
 
 
 class Scope:
@@ -206,7 +220,7 @@ class Scope:
     def class_of(self, operand: Operand) -> str:
         if isinstance(operand, Name):
             return class_of(self.columns[self.number(operand)].type)
-        return {bool: "truth", int: "number", str: "text", Day: "date"}[type(operand.value)]
+        return {bool: "truth", int: "number", str: "text", Day: "date", Moment: "timestamp"}[type(operand.value)]
 
     def check(self, predicate: Predicate) -> None:
         """The first fault of a predicate, from the left."""

@@ -12,18 +12,22 @@ from random import Random
 
 import trees
 from layout import written
-from random_calls.plain_model import FIRST_DAY, LAST_DAY, Column, Database, Day, Put, Row, Table, Value, class_of
+from random_calls.plain_model import (FIRST_DAY, FIRST_MOMENT, LAST_DAY, LAST_MOMENT, Column, Database, Day, Moment, Put, Row, Table,
+                                      Value, class_of)
 from reader import INTEGERS
 from wire import chunk, descriptor, packed, scalar
 
 TREES = {name: trees.integer(width, signed) for (width, signed), name in INTEGERS.items()}
 TREES |= {"Utf8": trees.UTF8, "Bool": trees.BOOL, "Decimal128": trees.DECIMAL, "Date": trees.DATE, "dictionary": trees.UTF8}
+TREES["Timestamp"] = trees.TIMESTAMP
 RANGES = {name: (-(2 ** (width - 1)), 2 ** (width - 1)) if signed else (0, 2**width)
           for (width, signed), name in [*INTEGERS.items(), ((128, True), "Decimal128")]}
 TABLES = ["t", "u", "T", "a b", "select", "\u00e9", "t2", "x" * 64]
-COLUMNS = ["a", "b", "c", "A", "k", "order", "a b", "\u00e9\"", "_1", "y" * 64]
+COLUMNS = ["a", "b", "c", "A", "k", "order", "timestamp", "a b", "\u00e9\"", "_1", "y" * 64]
 TEXTS = ["", "a", "b", "ab", "a ", "Z", "'", "\u00e9", "\u20ac", "\U00010000", "\n--\"", "x" * 300]
 DAYS = (FIRST_DAY, LAST_DAY, 0, 1, -1, 8766, FIRST_DAY - 1, LAST_DAY + 1, -(2**31), 2**31 - 1)  # of cells
+MOMENTS = (FIRST_MOMENT, LAST_MOMENT, 0, 1, -1, 1_714_564_800_250_000, 1_714_564_800_000_000, FIRST_MOMENT - 1, LAST_MOMENT + 1,
+           -(2**63), 2**63 - 1)
 ABSENT = {"unspecified": 0, "CREATE": 1, "FAIL": 2}
 THERE = {"unspecified": 0, "FAIL": 1, "APPEND": 2, "REPLACE": 3}
 MOST_WORDS = 100  # of a dictionary, whose indices may have 8 bits
@@ -48,6 +52,8 @@ def value_of(random: Random, kind: str) -> Value:
             return random.choice(TEXTS)
         case "date":
             return Day(random.choice(DAYS) if random.random() < 0.9 else random.randrange(-(2**31), 2**31))
+        case "timestamp":
+            return Moment(random.choice(MOMENTS) if random.random() < 0.9 else random.randrange(-(2**63), 2**63))
     least, above = RANGES[kind]
     few = [number for number in (least, above - 1, 0, 1, 2, 3, 100, -1) if least <= number < above]
     return random.choice(few) if random.random() < 0.9 else random.randrange(least, above)
@@ -100,7 +106,7 @@ def cells(random: Random, kind: str, values: list[Value]) -> list[bytes]:
         return trees.texts(parts) if parts or random.random() < 0.5 else [b"", b""]
     if kind == "Bool":
         return [bits(random, [random.random() < 0.5 if value is None else value for value in values])]
-    least, above = RANGES["Int32" if kind == "Date" else kind]
+    least, above = RANGES[{"Date": "Int32", "Timestamp": "Int64"}.get(kind, kind)]
     width = (above - least).bit_length() // 8
     numbers = [random.randbytes(width) if value is None else value.to_bytes(width, "little", signed=least < 0)
                for value in values]
@@ -250,6 +256,8 @@ STREAMS_AMISS = [
     ("F12", "a column without a name", of_field(name="")),
     ("F12", "a column name of 65 bytes", of_field(name="n" * 65)),
     ("F7", "a column of floats", of_field(type_type="FloatingPoint", type={"precision": 2})),
+    ("F7", "a column of timestamps in nanoseconds", of_field(type_type="Timestamp", type={"unit": 3})),
+    ("F7", "a column of timestamps with a zone", of_field(type_type="Timestamp", type={"unit": 2, "timezone": "UTC"})),
     ("F6", "a column without a type", of_field(type=None)),
     ("F8", "no schema", of_list(lambda messages: messages.pop(0))),
     ("F8", "a second schema", of_list(lambda messages: messages.append(messages[0]))),

@@ -12,14 +12,15 @@ from random import Random
 
 import recogniser
 from lexer import GRAMMAR, LEFT_OUT
-from random_calls.plain_model import (SIGNS, And, Between, Comparison, Database, Day, In, Is, IsNull, Literal, Name, Not,
+from random_calls.plain_model import (SIGNS, And, Between, Comparison, Database, Day, In, Is, IsNull, Literal, Moment, Name, Not,
                                       Operand, Or, Predicate, Query, class_of)
 from random_calls.puts import COLUMNS, TABLES, value_of
 
 PLAIN_NAME = re.compile("[A-Za-z_][A-Za-z0-9_]*")
 TRUTHS = {"TRUE": True, "FALSE": False, "UNKNOWN": None}
 TYPES = {"number": ["Int8", "Int64", "UInt64", "Decimal128"], "text": ["Utf8"], "truth": ["Bool"],
-         "date": ["Date"]}
+         "date": ["Date"], "timestamp": ["Timestamp"]}
+COUNTED = {"date": Day, "timestamp": Moment}  # classes of numbers from 1970 on
 EPOCH = datetime.date(1970, 1, 1).toordinal()
 GREATEST = 10**38 - 1  # of a number in a text
 PIECES = ["SELECT", "FROM", ",", "(", ")", "AND", "NOT", "=", "''", "'", "@", "ORDER", "+", "1", ";", ".", "IS NULL"]
@@ -57,9 +58,9 @@ class Asker:
         else:
             value = value_of(self.random, self.random.choice(TYPES[kind]))
         if value is None:
-            return Literal({"number": 0, "text": "", "truth": False, "date": Day(0)}[kind])
-        if kind == "date":
-            value = Day(value).beside(self.random.choice([0, 0, 0, 1, -1]))
+            return Literal({"number": 0, "text": "", "truth": False, "date": Day(0), "timestamp": Moment(0)}[kind])
+        if kind in COUNTED:
+            value = COUNTED[kind](value).beside(self.random.choice([0, 0, 0, 1, -1]))
         if kind == "number":
             value = max(-GREATEST, min(GREATEST, value + self.random.choice([0, 0, 0, 1, -1])))
         return Literal(value)
@@ -144,10 +145,21 @@ class Speller:
                 return self.words("TRUE" if value else "FALSE")
             case Literal(Day() as day):
                 return [self.word("DATE"), f"'{datetime.date.fromordinal(day + EPOCH).isoformat()}'"]
+            case Literal(Moment() as moment):
+                return [self.word("TIMESTAMP"), self.moment(moment)]
             case Literal(str(value)):
                 return ["'" + value.replace("'", "''") + "'"]
         digits = self.random.choice(["", "", "00"]) + str(abs(operand.value))
         return ["-", digits] if operand.value < 0 else [*["+"] * (self.random.random() < 0.1), digits]
+
+    def moment(self, moment: Moment) -> str:
+        """A timestamp as a string, whose fraction may lack zeros at its end, and may have up to nine digits."""
+        text = datetime.datetime(1970, 1, 1) + datetime.timedelta(microseconds=moment)
+        seconds, _, digits = text.isoformat(" ", "microseconds").partition(".")
+        least = digits.rstrip("0")
+        if not least and self.random.random() < 0.5:
+            return f"'{seconds}'"
+        return f"'{seconds}.{least.ljust(self.random.randint(max(len(least), 1), 9), '0')}'"
 
     def operands(self, operands: tuple[Operand, ...]) -> list[str]:
         return [token for operand in operands for token in [",", *self.operand(operand)]][1:]

@@ -14,9 +14,10 @@ from random import Random
 
 from random_calls.batched import few_of, narrow
 from random_calls.joined import Count, Item, Joiner, Place, Query, Sum
-from random_calls.plain_model import (FIRST_DAY, LAST_DAY, SIGNS, Between, Column, Comparison, Database, Day, In, IsNull, Literal, Name, Operand,
-                                      Predicate, Row, Value, class_of)
+from random_calls.plain_model import (FIRST_DAY, FIRST_MOMENT, LAST_DAY, LAST_MOMENT, SIGNS, Between, Column, Comparison, Database, Day, In,
+                                      IsNull, Literal, Moment, Name, Operand, Predicate, Row, Value, class_of)
 from random_calls.puts import RANGES, TREES
+from random_calls.queries import COUNTED
 
 ROWS = 70_000
 MOST_JOINED, MOST_PAIRS = 150_000, 1_500_000
@@ -65,6 +66,11 @@ def choices_of(random: Random, column: Column, rows: int) -> list[Value]:
             return texts_of(random, min(few, MOST_WORDS) if kind == "dictionary" else few)
         case "date":
             return [Day(day) for day in random.sample(range(FIRST_DAY, LAST_DAY + 1), few)]
+        case "timestamp":
+            first, step = random.choice([FIRST_MOMENT, 0, LAST_MOMENT - 10**12]), random.choice([1, 1000, 10**6])
+            if random.random() < 0.5:
+                return [Moment(first + number * step) for number in range(few)]
+            return [Moment(moment) for moment in random.sample(range(FIRST_MOMENT, LAST_MOMENT + 1), few)]
     return numbers_of(random, kind, few)
 
 
@@ -151,7 +157,8 @@ class WideJoiner(Joiner):
         """A literal of a class that may stand nowhere."""
         numbers = [0, 1, -1, 127, 255, 2**31, 2**53, TOP - 1, self.random.randrange(-TOP, TOP)]
         values = {"number": numbers, "text": [*WORDS, "abcdefgh5"], "truth": [False, True],
-                  "date": [Day(FIRST_DAY), Day(0), Day(8766), Day(LAST_DAY)]}
+                  "date": [Day(FIRST_DAY), Day(0), Day(8766), Day(LAST_DAY)],
+                  "timestamp": [Moment(FIRST_MOMENT), Moment(0), Moment(1), Moment(LAST_MOMENT)]}
         return Literal(self.random.choice(values[kind]))
 
     def beside(self, name: Name, kind: str, share: float) -> Literal:
@@ -159,7 +166,7 @@ class WideJoiner(Joiner):
         value = self.sorted.at(self.tables[name.place], name.column, share)
         if value is None:
             return self.other_than(kind)
-        if kind == "date":
+        if kind in COUNTED:
             return Literal(value.beside(self.random.choice([0, 0, 0, 1, -1])))
         moved = value + self.random.choice([0, 0, 0, 1, -1]) if kind == "number" else value
         return Literal(moved if kind != "number" or -TOP < moved < TOP else value)

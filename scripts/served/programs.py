@@ -403,6 +403,11 @@ def kept_versions(run: Run) -> None:
 # ---- streams
 
 CUT = "the input is no Arrow IPC stream, or is cut short"
+TEXT = "the input is text: CSV is put with --format csv"
+# A stream without its first mark begins with the length of a header, so with the length's lowest byte. By `begins_text` of
+# crates/fault_hints/specs/InputKinds.antt an input is text if its first byte is printable, white space, or the first of a
+# longer character. So 376, which begins with `x`, makes it text; 440 begins with byte 184, and makes it no stream.
+WITHOUT_A_MARK = {lowest: lowest + TRIPS[5:] for lowest in (b"x", b"\xb8")}
 OTHER_INPUTS = [  # what is no stream, and what is said of it
     (b"PAR1\x15", "the input is a Parquet file: write it as an Arrow IPC stream"),
     (b"ARROW1\0\0", "the input is an Arrow file, as Feather has it: write it as an Arrow IPC stream"),
@@ -411,7 +416,8 @@ OTHER_INPUTS = [  # what is no stream, and what is said of it
     (b"\x28\xb5\x2f\xfd", "the input is compressed by zstd: pipe it through unzstd"),
     (b"PK\x03\x04", "the input is a zip archive, as a spreadsheet is: write it as CSV"),
     (b"[{}]", "the input is JSON: write it as CSV or as an Arrow IPC stream"),
-    (b"id,town\n1,Delft\n", "the input is text: CSV is put with --format csv"),
+    (b"id,town\n1,Delft\n", TEXT),
+    (WITHOUT_A_MARK[b"x"], TEXT),
 ]
 
 
@@ -423,8 +429,9 @@ def ends_of_streams(run: Run) -> None:
             same("put", printed("7 rows"), put(run, server, "t", data, "replace"))
         for data in (b"", END, END + TRIPS):
             same("no schema", answered("F8 BadBatch", "the input is empty"), put(run, server, "t", data, "replace"))
-        for data in (cut[:-1], b"\0", TRIPS[4:], cut + b"\xff" * 4):
+        for data in (cut[:-1], b"\0", WITHOUT_A_MARK[b"\xb8"], cut + b"\xff" * 4):
             same("cut or no stream", found("F6 BadFlatbuffer", CUT), put(run, server, "t", data, "replace"))
+        same("the length of the first header", b"x\x01\0\0", TRIPS[4:8])
         for data, line in OTHER_INPUTS:
             same(line, found("F6 BadFlatbuffer", line), put(run, server, "t", data, "replace"))
         long = trees.batch(2_100_000, (0, b"", bytes(8 * 2_100_000)))
@@ -443,7 +450,7 @@ def ends_of_streams(run: Run) -> None:
 
 COLUMNS = "its columns: id:int64 town:utf8? rider:utf8? km:int64? paid:bool?"
 MISSING = "`flightscan tables` prints the names; their case counts"
-CLASSES = "compare numbers with numbers, 'texts' with texts, DATE '2026-11-28' with dates"
+CLASSES = "compare numbers with numbers, 'texts' with texts, else by a word: DATE '2026-11-28'"
 GROUPS = "with groups or aggregates, select only columns of GROUP BY, and no *"
 
 

@@ -2,7 +2,8 @@
 import json
 from dataclasses import dataclass
 
-from trees import BOOL, DATE, DECIMAL, UTF8, batch, dictionary, encoding, field, headed, hexed, integer, offsets, placed, schema
+from trees import (BOOL, DATE, DECIMAL, TIMESTAMP, UTF8, batch, dictionary, encoding, field, headed, hexed, integer, offsets, placed,
+                   schema)
 
 MESSAGES, INDEX = {}, []
 
@@ -122,6 +123,11 @@ add("schema_Date", schema(field("a", DATE)), says(("a", "Date", True)))
 add("schema_Date_full", schema(field("a", DATE, False)), says(("a", "Date", False)), layout="packed", compared=True)
 add("schema_Date_and_more", schema(field("a", integer(32, True)), field("d", DATE, False), field("s", UTF8)),
     says(("a", "Int32", True), ("d", "Date", False), ("s", "Utf8", True)), layout="spread", compared=True)
+# Microseconds, of which the unit has to be stored too: left out it is seconds.
+add("schema_Timestamp", schema(field("a", TIMESTAMP)), says(("a", "Timestamp", True)))
+add("schema_Timestamp_full", schema(field("a", TIMESTAMP, False)), says(("a", "Timestamp", False)), layout="packed", compared=True)
+add("schema_Timestamp_and_more", schema(field("a", I64), field("d", DATE, False), field("t", TIMESTAMP), field("s", UTF8)),
+    says(("a", "Int64", True), ("d", "Date", False), ("t", "Timestamp", True), ("s", "Utf8", True)), layout="spread", compared=True)
 add("schema_64_columns", schema(*(field(f"c{n}", I64) for n in range(64))),
     says(*((f"c{n}", "Int64", True) for n in range(64))))
 add("schema_name_of_64", schema(field("ä" * 32, I64)), says(("ä" * 32, "Int64", True)), note="32 letters of 2 bytes")
@@ -187,6 +193,25 @@ add("bad_type_Date_stored", schema(field("a", ("Date", {"unit": "MILLISECOND"}))
 add("bad_type_Date_unit_2", schema(field("a", ("Date", {"unit": 2}))), "F7", layout="spread")
 add("bad_type_absent_Date", schema({"name": "a", "type_type": "Date"}), "F6", layout="packed")
 add("bad_dictionary_Date", schema(field("a", DATE, dictionary=encoding(1))), "F7", layout="packed", compared=True)
+for unit in ("SECOND", "MILLISECOND", "NANOSECOND"):
+    add(f"bad_type_Timestamp_{unit.lower()}", schema(field("a", ("Timestamp", {"unit": unit}))), "F7",
+        note="its unit is absent" if unit == "SECOND" else "")
+add("bad_type_Timestamp_stored", schema(field("a", ("Timestamp", {"unit": "SECOND"}))), "F7", layout="packed", compared=True,
+    note="the same unit, stored")
+add("bad_type_Timestamp_unit_4", schema(field("a", ("Timestamp", {"unit": 4}))), "F7", layout="spread")
+add("bad_type_Timestamp_unit_258", schema(field("a", ("Timestamp", {"unit": 258}))), "F7", layout="packed", note="2 in 8 bits")
+for layout in ("packed", "spread"):
+    add(f"bad_type_Timestamp_zone_{layout}", schema(field("a", ("Timestamp", {"unit": "MICROSECOND", "timezone": "Europe/Paris"}))),
+        "F7", layout=layout, compared=True)
+ZONED = schema(field("a", ("Timestamp", {"unit": "MICROSECOND", "timezone": "UTC"})))  # packed, its offset to the zone lies at 51
+add("bad_type_Timestamp_zone_far", ZONED, "F7", layout="packed", patch=(51, bytes.fromhex("FF FF FF 7F")),
+    note="the zone lies outside, and is not read")
+add("schema_Timestamp_zone_0", ZONED, says(("a", "Timestamp", True)), layout="packed", patch=(51, bytes(4)),
+    note="an offset of 0 leads to no zone")
+add("bad_type_Timestamp_zone_empty", schema(field("a", ("Timestamp", {"unit": "MICROSECOND", "timezone": ""}))), "F7")
+add("bad_type_Timestamp_nanosecond_zone", schema(field("a", ("Timestamp", {"unit": "NANOSECOND", "timezone": "UTC"}))), "F7")
+add("bad_type_absent_Timestamp", schema({"name": "a", "type_type": "Timestamp"}), "F6", layout="packed")
+add("bad_dictionary_Timestamp", schema(field("a", TIMESTAMP, dictionary=encoding(1))), "F7", layout="packed", compared=True)
 add("bad_type_absent_kind", schema({"name": "a"}), "F6")
 add("bad_type_kind_0", schema({"name": "a", "type_type": 0}), "F7", layout="packed", note="stored as 0")
 add("bad_type_kind_27", schema({"name": "a", "type_type": 27}), "F7", layout="packed")
@@ -272,6 +297,15 @@ add("batch_Date", batch(5, (1, "FD", "3E 22 00 00 A5 A5 A5 A5 C5 06 F5 FF 00 00 
 add("batch_Date_full", batch(2, (0, "", "00 00 00 00 FF FF FF FF")), rows([0], [-1]), "schema_Date_full", layout="spread",
     compared=True)
 add("bad_data_short_Date", batch(2, (0, "", "00" * 7)), "F8", "schema_Date", layout="packed")
+add("batch_Timestamp", batch(8, (1, "FD", "90 00 DD 39 63 17 06 00" + "A5" * 8 + "FF" * 8 + "00 40 D4 00 01 40 23 FF"
+                                + "FF 3F D4 00 01 40 23 FF" + "FF 5F 73 CC 0C 44 84 03" + "00" * 7 + "80" + "FF" * 7 + "7F")),
+    rows([1714564800250000], [None], [-1], [-62135596800000000], [-62135596800000001], [253402300799999999],
+         [-9223372036854775808], [9223372036854775807]), "schema_Timestamp", layout="packed", compared=True,
+    note="2024-05-01 12:00:00.25, the last microsecond of 1969, the first of the year 1 and the one before, the last of 9999, "
+         "the least and the greatest")
+add("batch_Timestamp_full", batch(2, (0, "", "00" * 8 + "FF" * 8)), rows([0], [-1]), "schema_Timestamp_full", layout="spread",
+    compared=True)
+add("bad_data_short_Timestamp", batch(2, (0, "", "00" * 15)), "F8", "schema_Timestamp", layout="packed")
 add("batch_Bool", batch(4, (1, "0D", "09")), rows([True], [None], [False], [True]), "schema_Bool")
 add("batch_Bool_null_bit", batch(4, (1, "0D", "0B")), rows([True], [None], [False], [True]), "schema_Bool")
 add("batch_Bool_nine", batch(9, (2, "FB FE", "81 FF")),

@@ -20,7 +20,7 @@ TYPES = [
 HEADERS = ["NONE", "Schema", "DictionaryBatch", "RecordBatch", "Tensor"]
 WORDS = {
     "V1": 0, "V4": 3, "V5": 4, "Little": 0, "Big": 1, "DAY": 0,
-    "MILLISECOND": 1, "LZ4_FRAME": 0, "ZSTD": 1,
+    "SECOND": 0, "MILLISECOND": 1, "MICROSECOND": 2, "NANOSECOND": 3, "LZ4_FRAME": 0, "ZSTD": 1,
     "UNUSED": 0, "DICTIONARY_REPLACEMENT": 1, "COMPRESSED_BODY": 2,
 }
 # The slots in order: each a name and a scalar's width, a string, a table, a vector, or a union's words.
@@ -36,6 +36,7 @@ TABLES = {
     "FloatingPoint": [("precision", "i16")],
     "Decimal": [("precision", "i32"), ("scale", "i32"), ("bitWidth", "i32")],
     "Date": [("unit", "i16")],
+    "Timestamp": [("unit", "i16"), ("timezone", "string")],
     "DictionaryEncoding": [("id", "i64"), ("indexType", "Int"), ("isOrdered", "u8"), ("dictionaryKind", "i16")],
     "RecordBatch": [
         ("length", "i64"), ("nodes", ["FieldNode"]), ("buffers", ["Buffer"]), ("compression", "BodyCompression"),

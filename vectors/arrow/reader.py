@@ -4,7 +4,7 @@ import json
 import struct
 
 INTEGERS = {(bits, signed): f"{'' if signed else 'U'}Int{bits}" for bits in (8, 16, 32, 64) for signed in (True, False)}
-BYTES = {"Decimal128": 16, "Date": 4, **{name: bits // 8 for (bits, _), name in INTEGERS.items()}}
+BYTES = {"Decimal128": 16, "Date": 4, "Timestamp": 8, **{name: bits // 8 for (bits, _), name in INTEGERS.items()}}
 
 
 class Fault(Exception):
@@ -89,8 +89,12 @@ def integer(table):
 
 def read_type(field):
     kind = there(field.scalar(2, 1, None)) & 255
-    demand(kind in (2, 5, 6, 7, 8), "F7")
+    demand(kind in (2, 5, 6, 7, 8, 10), "F7")
     table = there(field.table(3))
+    if kind == 10:
+        demand(table.scalar(0, 2) == 2, "F7")
+        demand(table.scalar(1, 4) == 0, "F7")
+        return "Timestamp"
     if kind == 8:
         demand(table.scalar(0, 2, 1) == 0, "F7")
         return "Date"

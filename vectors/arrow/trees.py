@@ -24,7 +24,7 @@ def integer(bits, signed):
 
 
 UTF8, BOOL, DECIMAL = ("Utf8", {}), ("Bool", {}), ("Decimal", {"precision": 38, "scale": 0})
-DATE = "Date", {"unit": "DAY"}
+DATE, TIMESTAMP = ("Date", {"unit": "DAY"}), ("Timestamp", {"unit": "MICROSECOND"})
 
 
 def field(name, of, nullable=True, **more):

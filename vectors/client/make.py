@@ -96,7 +96,7 @@ for name in (*(f"{part}_of_{of}" for of in INDICES if of not in ("Int8", "Int16"
              "dictionary_of_Int8", "indices_of_Int8", "dictionary_x_null", "indices_0_1_null", "dictionary_x_x", "indices_0_1",
              "dictionary_empty", "indices_null", "schema_of", "dictionary_0", "dictionary_0_b_a", "dictionary_0_none", "indices_of_default",
              "indices_of_default_null", "schema_of_two", "dictionary_2", "indices_two", "schema_Date", "schema_Date_full", "batch_Date",
-             "schema_Int32", "batch_Int32"):
+             "schema_Int32", "batch_Int32", "schema_Timestamp", "batch_Timestamp"):
     message(name)
 payload("no_field", b"")
 payload("cut", bytes.fromhex("12 05 00"))
@@ -173,6 +173,11 @@ join(["schema_Date batch_Date" + DONE, "schema_Date" + DONE], D + "8766,;null,;-
 join(["schema_Date batch_Date" + DONE, "schema_Int32 batch_Int32" + DONE], "F11 SchemaMismatch")
 join(["schema_Int32 batch_Int32" + DONE, "schema_Date" + DONE], "F11 SchemaMismatch")
 join(["schema_Date batch_Date" + DONE, "schema_Date_full" + DONE], "F11 SchemaMismatch")
+join(["schema_Timestamp batch_Timestamp" + DONE, "schema_Timestamp" + DONE],
+     "a Timestamp or null; 1714564800250000,;null,;-1,;-62135596800000000,;-62135596800000001,;253402300799999999,;"
+     "-9223372036854775808,;9223372036854775807,;")
+join(["schema_Timestamp batch_Timestamp" + DONE, "schema_Int64 batch_Int64" + DONE], "F11 SchemaMismatch")
+join(["schema_Int64 batch_Int64" + DONE, "schema_Timestamp" + DONE], "F11 SchemaMismatch")
 
 note("a payload that is refused leaves its stream as it was")
 join(["schema_Int64 bad_data_short_Int64 batch_Int64_two" + DONE], "F8 BadBatch, " + INT64 + "1,;2,;")

@@ -68,7 +68,7 @@ GROUPS = {
     "NAMES": [
     "a", "_", "_9", "a1_B", "selects", "SELEC", "NULLS", "dates", "selec\u00e9", "\u00e9", "a\u00e9", "9a", "a9", "a.b", "a. b",
     '"a"', '"select"', '"a b"', '"a""b"', '"\u00e9"', '""""', '""', 'a ""', '"""', '"a', '"a""', '"a" "b"', '"a"b"', '"a""b""',
-    '"a\nb"', '"--"', '"\'"',
+    '"a\nb"', '"--"', '"\'"', "TIMESTAMP '' timestamp",
     ],
     "STRINGS": [
     "''", "'a'", "'a''b'", "''''", "'''", "'", "'x''", "'x' 'y'", "'x''y'", "'--'", "'\"'", "'\u00e9'", "'a\nb'", "SELECT a FROM t WHERE 'x",

@@ -1,7 +1,8 @@
 """Queries, and what the rules answer to each: `sentence`, or the fault's text.
 
-The grammar below is the printed one, but that a string which is a date is called `date`: it stands where any string may,
-and behind the word DATE. It is read as it stands and run by Earley's recogniser over the tokens of the
+The grammar below is the printed one, but that a string which is a date is called `date`, and one which is a timestamp
+`moment`: each stands where any string may, and the one behind the word DATE, the other behind TIMESTAMP. TIMESTAMP is a word
+right before a string, and a name elsewhere. The grammar is read as it stands and run by Earley's recogniser over the tokens of the
 lexer beside this file, so that the offending token is the first one with which no sentence of the grammar goes on. The
 limits are read off the recogniser's items. Nothing is shared with the crates.
 """
@@ -23,7 +24,7 @@ conj    = factor {AND factor}
 factor  = NOT factor | test
 test    = primary [IS [NOT] (TRUE | FALSE | UNKNOWN)]
 primary = "(" pred ")" | operand compare operand | operand [NOT] BETWEEN operand AND operand | operand [NOT] IN "(" operand {"," operand} ")" | operand IS [NOT] NULL
-operand = column | ["+" | "-"] digits | string | date | TRUE | FALSE | DATE date
+operand = column | ["+" | "-"] digits | string | date | moment | TRUE | FALSE | DATE date | TIMESTAMP moment
 column  = name ["." name]
 compare = "=" | "<>" | "!=" | "<" | "<=" | ">" | ">="
 """
@@ -74,7 +75,7 @@ class Grammar:
                     symbols.append(name)
             elif word.startswith('"'):
                 symbols.append(("t", word.strip('"')))
-            elif word.isupper() or word in ("name", "digits", "string", "date"):
+            elif word.isupper() or word in ("name", "digits", "string", "date", "moment"):
                 symbols.append(("t", word))
             else:
                 symbols.append(word)
@@ -91,6 +92,22 @@ def is_date(piece):
         return bool(datetime.date(*(int(part) for part in piece[1:-1].split("-"))))
     except ValueError:
         return False
+
+
+def is_moment(piece):
+    """Whether a string's token is the text of a timestamp: a date, a space, a clock, and then a point and digits or nothing."""
+    parts = re.fullmatch(r"'([0-9]{4})-([0-9]{2})-([0-9]{2}) ([0-9]{2}):([0-9]{2}):([0-9]{2})(?:[.][0-9]{1,6}0{0,3})?'", piece)
+    try:
+        return bool(parts and datetime.datetime(*map(int, parts.groups())))
+    except ValueError:
+        return False
+
+
+def worded(tokens):
+    """The tokens, in which a name TIMESTAMP is a word where a string follows."""
+    for token, behind in zip(tokens, [*tokens[1:], (None, 0, "", "")]):
+        is_word = token[3] == "Name" and token[2].upper() == "TIMESTAMP" and behind[3] == "String"
+        yield ("TIMESTAMP", *token[1:3], "Keyword(Timestamp)") if is_word else token
 
 
 def tokens_of(query):
@@ -111,8 +128,10 @@ def tokens_of(query):
             called = None
         elif kind == "String" and is_date(piece):
             called = "date"
+        elif kind == "String" and is_moment(piece):
+            called = "moment"
         tokens.append((called, int(start), piece, kind))
-    return tokens
+    return list(worded(tokens))
 
 
 def is_left_out(token):
@@ -369,6 +388,37 @@ DATES = [
     "SELECT a FROM t WHERE DATE '1994-01-01'", "SELECT a FROM t WHERE a = DATE '1994-01-01' '1994-01-01'", "SELECT a FROM t WHERE a = DATE '1994-01-01' + 1",
 ]
 
+AT = "SELECT a FROM t WHERE a = TIMESTAMP "
+TIMESTAMPS = [
+    # sentences
+    AT + "'2024-05-01 12:00:00'", AT + "'2024-05-01 12:00:00.25'", AT + "'1969-12-31 23:59:59.999999'", AT + "'0001-01-01 00:00:00'", AT + "'9999-12-31 23:59:59.999999'", AT + "'2024-02-29 00:00:00.0'",
+    AT + "'2024-05-01 12:00:00.123456000'", AT + "'2024-05-01 12:00:00.1234560'", AT + "'2024-05-01 12:00:00.000000000'", AT + "-- c\n '2024-05-01 12:00:00'", "select a from t where a<>timestamp'2024-05-01 12:00:00';",
+    "SELECT a FROM t WHERE TimeStamp '2024-05-01 12:00:00' < a", "SELECT a FROM t WHERE a BETWEEN TIMESTAMP '2024-05-01 00:00:00' AND TIMESTAMP '2024-05-01 23:59:59' AND b = '2024-05-01 12:00:00'",
+    "SELECT a FROM t WHERE a NOT IN (TIMESTAMP '2024-05-01 12:00:00', b, 1, DATE '2024-05-01', TIMESTAMP)", "SELECT a FROM t WHERE TIMESTAMP '2024-05-01 12:00:00' IS NOT NULL",
+    "SELECT a FROM t WHERE (TIMESTAMP '2024-05-01 12:00:00' = a) IS UNKNOWN", "SELECT a FROM t WHERE NOT TIMESTAMP '2024-05-01 12:00:00' = DATE '2024-05-01'",
+    # where no string follows it is a name
+    "SELECT timestamp FROM t", "SELECT TIMESTAMP, Timestamp.timestamp FROM timestamp AS TIMESTAMP", "SELECT a AS timestamp FROM t", "SELECT a TIMESTAMP FROM t", "SELECT a FROM t TIMESTAMP", "SELECT a FROM t GROUP BY timestamp",
+    "SELECT COUNT(timestamp), SUM(timestamp) FROM timestamp GROUP BY timestamp;", "SELECT a FROM t JOIN timestamp ON t.a = timestamp.a", "SELECT a FROM t WHERE timestamp = TIMESTAMP '2024-05-01 12:00:00'", "SELECT a FROM t WHERE TIMESTAMP = timestamp",
+    "SELECT a FROM t WHERE timestamp IS NULL AND timestamp IN (timestamp, '2024-05-01 12:00:00')", "SELECT a FROM t WHERE timestamp BETWEEN timestamp AND timestamp", "SELECT \"timestamp\" FROM t WHERE \"TIMESTAMP\" = TIMESTAMP '2024-05-01 12:00:00'",
+    "SELECT a FROM t WHERE TIMESTAMP = '2024-05-01 12:00:00'", AT[:-1], "SELECT TIMESTAMPS FROM t",
+    # the string offends: it is no date, no clock, or no fraction of a second
+    AT + "''", AT + "'x'", AT + "'2024-05-01'", AT + "'12:00:00'", AT + "'2024-05-01 12:00'", AT + "'2024-05-01T12:00:00'", AT + "'2024-05-01  12:00:00'", AT + "' 2024-05-01 12:00:00'", AT + "'2024-05-01 12:00:00 '",
+    AT + "'2024-02-30 12:00:00'", AT + "'2023-02-29 12:00:00'", AT + "'1900-02-29 12:00:00'", AT + "'0000-01-01 00:00:00'", AT + "'2024-13-01 12:00:00'", AT + "'2024-00-01 12:00:00'", AT + "'2024-05-00 12:00:00'", AT + "'10000-01-01 00:00:00'",
+    AT + "'2024-05-01 24:00:00'", AT + "'2024-05-01 12:60:00'", AT + "'2024-05-01 12:00:60'", AT + "'2016-12-31 23:59:60'", AT + "'2024-05-01 99:00:00'", AT + "'2024-05-01 1:00:00'", AT + "'2024-5-1 12:00:00'", AT + "'2024-05-01 12:00:0'", AT + "'2024-05-01 12-00-00'",
+    AT + "'2024-05-01 12:00:00.'", AT + "'2024-05-01 12:00:00.1234567'", AT + "'2024-05-01 12:00:00.000000001'", AT + "'2024-05-01 12:00:00.123456789'", AT + "'2024-05-01 12:00:00.0000000000'", AT + "'2024-05-01 12:00:00,25'",
+    AT + "'2024-05-01 12:00:00.2x'", AT + "'2024-05-01 12:00:00.-1'", AT + "'2024-05-01 12:00:00+00:00'", AT + "'2024-05-01 12:00:00Z'", AT + "'2024-05-01 12:00:00 UTC'", AT + "'2024-05-01 12:00:00.25+01'", AT + "'-024-05-01 12:00:00'", AT + "'2024-05-01 +2:00:00'",
+    AT + "'2024-05-01 12:00:0''0'", AT + "'\u0662024-05-01 12:00:00'", AT + "'2024-05-01 12:00:\u0660\u0660'", "SELECT a FROM t WHERE a BETWEEN TIMESTAMP '2024-05-01 12:00:00' AND TIMESTAMP '2024-05-01'",
+    "SELECT a FROM t WHERE a IN (TIMESTAMP '2024-05-01 12:00:00', TIMESTAMP '')", "SELECT a FROM t WHERE a = DATE '2024-05-01 12:00:00'",
+    # what stands in its place offends behind a name
+    AT + "5", AT + "\"2024-05-01 12:00:00\"", AT + "('2024-05-01 12:00:00')", AT + "TIMESTAMP '2024-05-01 12:00:00'", AT + "DATE '2024-05-01'", AT + "ORDER", AT + "NULL", "SELECT a FROM t WHERE a = TIMESTAMP(0)", AT + "+'2024-05-01 12:00:00'",
+    # as a word it offends where no operand may stand
+    "SELECT TIMESTAMP '2024-05-01 12:00:00' FROM t", "SELECT a TIMESTAMP '2024-05-01 12:00:00' FROM t", "SELECT a FROM t WHERE a TIMESTAMP '2024-05-01 12:00:00'", "SELECT a FROM t WHERE a = -TIMESTAMP '2024-05-01 12:00:00'",
+    "SELECT a FROM t GROUP BY TIMESTAMP '2024-05-01 12:00:00'", "SELECT a FROM t TIMESTAMP ''", "SELECT a FROM t AS TIMESTAMP 'x'", "SELECT a FROM t JOIN u ON a = TIMESTAMP '2024-05-01 12:00:00'", "SELECT a FROM t WHERE t.TIMESTAMP '2024-05-01 12:00:00' = a",
+    "SELECT COUNT(TIMESTAMP '2024-05-01 12:00:00') FROM t", "SELECT a FROM t WHERE a IS TIMESTAMP 'x'",
+    # what stands behind it
+    "SELECT a FROM t WHERE TIMESTAMP '2024-05-01 12:00:00'", AT + "'2024-05-01 12:00:00' '2024-05-01 12:00:00'", AT + "'2024-05-01 12:00:00' + 1", AT + "'2024-05-01 12:00:00' ORDER BY a", AT + "'2024-05-01 12:00:00' TIMESTAMP",
+]
+
 
 def place_list(count, tail=""):
     return "SELECT * FROM t0" + "".join(f" JOIN t{i} ON a = b" for i in range(1, count)) + tail
@@ -449,4 +499,4 @@ def changed(count):
 
 
 def queries():
-    return list(dict.fromkeys(SENTENCES + OTHERS + DATES + list(limits()) + list(changed(400))))
+    return list(dict.fromkeys(SENTENCES + OTHERS + DATES + TIMESTAMPS + list(limits()) + list(changed(400))))

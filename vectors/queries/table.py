@@ -19,11 +19,14 @@ lefts   a nullable column n of decimals, a column f of truth values and a number
 rights  the same with n of Int64, in three batches, of which the second has no row
 letters a nullable column s of texts, and a number i
 
-and of dates:
+and of dates and timestamps:
 
 days    a nullable column d of dates, and a number k
 history a column d of dates and a number i, in two batches of two rows
+moments a nullable column t of timestamps, a column d of dates, and a number k
+clocks  a column t of timestamps and a number i, in two batches of two rows
 """
+import datetime
 import json
 import pathlib
 import sys
@@ -34,7 +37,7 @@ sys.path.append(str(HERE.parent / "arrow"))
 import layout
 from cases import INTS
 from reader import Reader
-from trees import BOOL, DATE, DECIMAL, UTF8, batch, bits, dictionary, encoding, field, integer, schema, texts, validity
+from trees import BOOL, DATE, DECIMAL, TIMESTAMP, UTF8, batch, bits, dictionary, encoding, field, integer, schema, texts, validity
 
 MOST = 10**38 - 1  # of a decimal of 38 digits
 WHOLE = [(("i" if signed else "u") + str(bits), integer(bits, signed)) for _, bits, signed, *_ in INTS]
@@ -81,7 +84,7 @@ def column(of, values, slots, under="a"):
         return *nulls, *texts_of(values, under)
     if of is BOOL:
         return *nulls, bits([value in (True, None) for value in values])
-    return *nulls, numbers(4 if of is DATE else of[1].get("bitWidth", 128) // 8, values)
+    return *nulls, numbers({"Date": 4, "Timestamp": 8}.get(of[0]) or of[1].get("bitWidth", 128) // 8, values)
 
 
 def fields(columns):
@@ -184,6 +187,24 @@ def for_dates():
         yield few_rows("history", ("d", DATE, days), ("i", i64, rows))
 
 
+def micros(text):
+    """The microseconds from 1970-01-01 00:00:00 to a timestamp's text."""
+    return (datetime.datetime.fromisoformat(text) - datetime.datetime(1970, 1, 1)) // datetime.timedelta(microseconds=1)
+
+
+# What the rows of `moments` have. The second is before the year 1, so no text says it.
+MOMENTS = [micros("2024-05-01 12:00:00.250000"), micros("0001-01-01 00:00:00") - 1, None, micros("1969-12-31 23:59:59.999999"),
+           micros("2024-05-01 12:00:00"), micros("9999-12-31 23:59:59.999999")]
+
+
+def for_timestamps():
+    """Timestamps from before the year 1 to the last of 9999, and a table of two puts."""
+    i64 = integer(64, True)
+    yield few_rows("moments", ("t", TIMESTAMP, MOMENTS), ("d", DATE, [19844, 0, 1, 2, 3, 4]), ("k", i64, [1, 2, 3, 4, 5, 6]))
+    for texts, rows in [(["2024-05-01 08:00:00", "2024-05-01 09:30:00"], [1, 2]), (["2024-05-01 12:00:00.250000", "2024-05-02 08:00:00"], [3, 4])]:
+        yield few_rows("clocks", ("t", TIMESTAMP, [micros(text) for text in texts]), ("i", i64, rows))
+
+
 def for_skipping():
     """Tables whose batches are apart in their least and greatest values, or in their nulls."""
     i64 = integer(64, True)
@@ -236,4 +257,4 @@ def put(name, columns, messages, periods=()):
 
 
 def puts():
-    return [put(*one) for one in [*two_columns(), six_rows(), many_rows(), *for_joins_and_groups(), *for_skipping(), *for_dates()]]
+    return [put(*one) for one in [*two_columns(), six_rows(), many_rows(), *for_joins_and_groups(), *for_skipping(), *for_dates(), *for_timestamps()]]

@@ -14,7 +14,7 @@ k  i8 to i64, d  u8 to u64  s        f      g      c
 The column c is a dictionary: its 'a' stands there twice, and in row 6 an index leads to a null.
 """
 
-from table import ODD, ROWS
+from table import MOMENTS, ODD, ROWS, micros
 
 MISSING, LIMIT, NAME, CLASH, LEFT_OUT = "F9 TableMissing", "F12 LimitReached", "F14 UnknownName", "F15 TypeClash", "F16 NotInSubset"
 
@@ -414,6 +414,68 @@ CLASHES_OF_DATES = [
     "k NOT IN (1, DATE '1994-01-01')",
 ]
 
+# Over `moments`, of which the row k has these timestamps: 1 a quarter of a second after noon of 2024-05-01, 2 the microsecond
+# before 0001-01-01, 3 null, 4 the last microsecond of 1969, 5 noon of 2024-05-01, 6 the last microsecond of 9999.
+NOON, LATER = "TIMESTAMP '2024-05-01 12:00:00'", "TIMESTAMP '2024-05-01 12:00:00.25'"
+TIMESTAMPS = [
+    (f"t = {LATER}", [1]),
+    (f"{LATER} = t", [1]),
+    ("t = TIMESTAMP '2024-05-01 12:00:00.250000'", [1]),
+    ("t = timestamp '2024-05-01 12:00:00.250000000'", [1]),
+    ("t = TIMESTAMP '2024-05-01 12:00:00.249999'", []),
+    (f"t <> {LATER}", [2, 4, 5, 6]),
+    (f"t < {LATER}", [2, 4, 5]),
+    (f"t <= {NOON}", [2, 4, 5]),
+    (f"t > {NOON}", [1, 6]),
+    (f"t >= {NOON}", [1, 5, 6]),
+    (f"{NOON} > t", [2, 4]),
+    ("TIMESTAMP '0001-01-01 00:00:00' > t", [2]),
+    ("t >= TIMESTAMP '9999-12-31 23:59:59.999999'", [6]),
+    ("t > TIMESTAMP '9999-12-31 23:59:59.999999'", []),
+    ("t < TIMESTAMP '1970-01-01 00:00:00'", [2, 4]),
+    ("t = TIMESTAMP '1969-12-31 23:59:59.999999'", [4]),
+    (f"t BETWEEN TIMESTAMP '1969-12-31 23:59:59.9' AND {NOON}", [4, 5]),
+    (f"t NOT BETWEEN TIMESTAMP '1969-12-31 23:59:59.9' AND {NOON}", [1, 2, 6]),
+    (f"t BETWEEN t AND {NOON}", [2, 4, 5]),
+    (f"{NOON} BETWEEN TIMESTAMP '2024-05-01 00:00:00' AND t", [1, 5, 6]),
+    (f"t IN ({NOON}, TIMESTAMP '9999-12-31 23:59:59.999999')", [5, 6]),
+    (f"t NOT IN ({NOON})", [1, 2, 4, 6]),
+    ("t IN (TIMESTAMP '2024-05-02 12:00:00', t)", [1, 2, 4, 5, 6]),
+    ("t IS NULL", [3]),
+    (f"{NOON} IS NULL", []),
+    ("t = t", [1, 2, 4, 5, 6]),
+    (f"(t = {NOON}) IS UNKNOWN", [3]),
+    (f"(t = {NOON}) IS NOT TRUE", [1, 2, 3, 4, 6]),
+    (f"NOT t = {NOON} AND k < 5", [1, 2, 4]),
+    (f"{NOON} = {NOON}", [1, 2, 3, 4, 5, 6]),
+    (f"{NOON} > {LATER}", []),
+    (f"t > {NOON} AND d >= DATE '2024-05-01'", [1]),
+]
+
+# A timestamp is of a class of its own, too.
+CLASHES_OF_TIMESTAMPS = [
+    "t = '2024-05-01 12:00:00'",
+    "'2024-05-01 12:00:00' = t",
+    "t = 1714564800250000",
+    "t = d",
+    "d = t",
+    "t = DATE '2024-05-01'",
+    f"d = {NOON}",
+    f"k = {NOON}",
+    f"{NOON} = 1714564800000000",
+    f"{NOON} = DATE '2024-05-01'",
+    f"DATE '2024-05-01' < {NOON}",
+    f"{NOON} < '2024-05-01 12:00:00'",
+    f"{NOON} = TRUE",
+    "t = k",
+    f"t BETWEEN {NOON} AND DATE '2024-05-02'",
+    f"t BETWEEN '2024-05-01 12:00:00' AND {LATER}",
+    f"t BETWEEN {NOON} AND 0",
+    f"t IN ({NOON}, DATE '2024-05-01')",
+    f"t IN ({NOON}, d)",
+    f"k NOT IN (1, {NOON})",
+]
+
 # Two classes in one comparison, over `types`.
 CLASHES_OF_TYPES = [
     "i8 = 'x'",
@@ -520,6 +582,15 @@ JOINED_OR_GROUPED = [
     ("SELECT x.k, y.i FROM days x JOIN history y ON x.d = y.d", [(1, 3)]),
     ("SELECT x.i, y.i FROM history x JOIN history y ON x.d = y.d WHERE y.d > DATE '1994-01-01'", [(4, 4)]),
     ("SELECT d, COUNT(*), COUNT(d), SUM(k) FROM days WHERE k < 4 GROUP BY d", [(8766, 1, 1, 1), (-719163, 1, 1, 2), (None, 1, 0, 3)]),
+    # timestamps
+    ("SELECT t FROM moments", MOMENTS),
+    ("SELECT x.k, y.i FROM moments x JOIN clocks y ON x.t = y.t", [(1, 3)]),
+    ("SELECT x.i, y.i FROM clocks x JOIN clocks y ON y.t = x.t WHERE y.t > TIMESTAMP '2024-05-01 12:00:00.25'", [(4, 4)]),
+    ("SELECT x.k, y.k FROM moments x JOIN moments y ON x.t = y.t AND x.d = y.d", [(1, 1), (2, 2), (4, 4), (5, 5), (6, 6)]),
+    ("SELECT t, COUNT(*), COUNT(t), SUM(k) FROM moments WHERE k < 4 GROUP BY t",
+     [(MOMENTS[0], 1, 1, 1), (MOMENTS[1], 1, 1, 2), (None, 1, 0, 3)]),
+    ("SELECT COUNT(t), t, d FROM moments GROUP BY d, t, d",
+     [(0 if moment is None else 1, moment, day) for moment, day in zip(MOMENTS, [19844, 0, 1, 2, 3, 4])]),
 ]
 
 # The table comes first, then ON, WHERE, GROUP BY and the list.
@@ -535,6 +606,11 @@ OF_JOINS_AND_GROUPS = [
     (CLASH, "SELECT p.a FROM p JOIN words ON p.a = words.s"),
     (CLASH, "SELECT SUM(d) FROM days"),
     (CLASH, "SELECT x.k FROM days x JOIN days y ON x.d = y.k"),
+    (CLASH, "SELECT SUM(t) FROM moments"),
+    (CLASH, "SELECT x.k FROM moments x JOIN moments y ON x.t = y.k"),
+    (CLASH, "SELECT x.k FROM moments x JOIN moments y ON x.t = y.d"),
+    (CLASH, "SELECT x.k FROM days x JOIN clocks y ON x.d = y.t"),
+    (NAME, "SELECT k FROM moments WHERE TIMESTAMP = TIMESTAMP '2024-05-01 12:00:00'"),
     (LEFT_OUT, "SELECT p.a FROM p JOIN q ON p.a = p.a"),
     (LEFT_OUT, "SELECT s, COUNT(*) FROM words GROUP BY a"),
     (LEFT_OUT, "SELECT COUNT(*) FROM p JOIN q ON p.a = q.a"),
@@ -600,6 +676,12 @@ RANGES = [
     (0, 4, "SELECT d FROM history WHERE d IN (DATE '1994-01-01', DATE '1990-01-01')", [8766], 1, 1),
     (0, 4, "SELECT d FROM history WHERE d BETWEEN DATE '1993-10-29' AND DATE '1993-12-31'", [], 0, 0),
     (0, 4, "SELECT d FROM history WHERE DATE '1994-01-01' = DATE '1994-01-02'", [], 0, 0),
+    (0, 4, "SELECT i FROM clocks WHERE t >= TIMESTAMP '2024-05-01 09:30:00.000001'", [3, 4], 1, 1),
+    (0, 4, "SELECT t FROM clocks WHERE TIMESTAMP '2024-05-01 12:00:00' > t",
+     [micros("2024-05-01 08:00:00"), micros("2024-05-01 09:30:00")], 1, 1),
+    (0, 4, "SELECT i FROM clocks WHERE t IN (TIMESTAMP '2024-05-01 12:00:00.25', TIMESTAMP '2025-01-01 00:00:00')", [3], 1, 1),
+    (0, 4, "SELECT i FROM clocks WHERE t BETWEEN TIMESTAMP '2024-05-01 10:00:00' AND TIMESTAMP '2024-05-01 12:00:00'", [], 0, 0),
+    (0, 4, "SELECT i FROM clocks WHERE TIMESTAMP '2024-05-01 12:00:00' = TIMESTAMP '2024-05-01 12:00:01'", [], 0, 0),
     (0, 4, "SELECT COUNT(*) FROM steps", [4], 1, 2),
     (0, 4, "SELECT COUNT(*) FROM steps WHERE a > 20", [0], 1, 0),
     # of each place, by the conjuncts that name columns of no other one
@@ -626,6 +708,16 @@ OPENED_BY_DATES = [
     ("WHERE d BETWEEN DATE '1993-10-28' AND DATE '1993-12-31'", "0 of"),
 ]
 
+# The same by a column of timestamps: its batches end at half past nine of a day, and begin a quarter of a second after its noon.
+OF_CLOCKS = "SELECT t FROM clocks"
+OPENED_BY_TIMESTAMPS = [
+    ("WHERE t >= TIMESTAMP '2024-05-01 10:00:00'", "2 of 0.1"),
+    ("WHERE TIMESTAMP '2024-05-01 12:00:00.25' > t", "2 of 0.0"),
+    ("WHERE TIMESTAMP '2024-05-01 12:00:00.25' >= t", "3 of 0.0 0.1"),
+    ("WHERE t BETWEEN TIMESTAMP '2024-05-01 09:30:00' AND TIMESTAMP '2024-05-01 12:00:00.25'", "2 of 0.0 0.1"),
+    ("WHERE t BETWEEN TIMESTAMP '2024-05-01 09:30:00.000001' AND TIMESTAMP '2024-05-01 12:00:00.249999'", "0 of"),
+]
+
 # The columns of a result: names as they are written, the types of answers, and whether they may be null.
 COLUMNS = [
     ("SELECT b AS c FROM t WHERE a > 5", "c Integer(Int64) true;"),
@@ -637,6 +729,8 @@ COLUMNS = [
     ("SELECT * FROM p JOIN q ON p.a = q.a", "a Integer(Int64) true;a Integer(Int64) true;"),
     ('SELECT a AS "x""y", a "Ab", b Cd FROM t', 'x"y Integer(Int64) true;Ab Integer(Int64) true;Cd Integer(Int64) true;'),
     ("SELECT d, COUNT(d) FROM days GROUP BY d", "d Date true;col2 Integer(Int64) false;"),
+    ("SELECT t, COUNT(t) FROM moments GROUP BY t", "t Timestamp true;col2 Integer(Int64) false;"),
+    ("SELECT t AS timestamp, i timestamp FROM clocks Timestamp", "timestamp Timestamp false;timestamp Integer(Int64) false;"),
     (
         "SELECT c, k, c AS d FROM types",
         "c Dictionary(DictionaryEncoding { id: 0, index: Int32 }) true;k Integer(Int8) false;"
@@ -688,6 +782,7 @@ def refused():
     yield from ((f"rows {query}", fault) for fault, query in OF_JOINS_AND_GROUPS)
     yield from ((f"rows SELECT k FROM types WHERE {predicate}", CLASH) for predicate in CLASHES_OF_TYPES)
     yield from ((f"rows SELECT k FROM days WHERE {predicate}", CLASH) for predicate in CLASHES_OF_DATES)
+    yield from ((f"rows SELECT k FROM moments WHERE {predicate}", CLASH) for predicate in CLASHES_OF_TIMESTAMPS)
 
 
 def large():
@@ -714,7 +809,7 @@ def cases():
         yield rows(f"SELECT a FROM t WHERE {predicate}", wanted)
     for first, last, query, wanted, given, opened in RANGES:
         yield f"range {first} {last} {query}", "".join(map(shown, wanted)) + f" {given} of {opened}"
-    for query, found in [(JOINED_STEPS, OPENED), (OF_HISTORY, OPENED_BY_DATES)]:
+    for query, found in [(JOINED_STEPS, OPENED), (OF_HISTORY, OPENED_BY_DATES), (OF_CLOCKS, OPENED_BY_TIMESTAMPS)]:
         yield from ((f"opened 0 4 {query} {where}", wanted) for where, wanted in found)
     for names, predicates in [(SIGNED, OF_SIGNED), (UNSIGNED, OF_UNSIGNED)]:
         for one in names:
@@ -723,6 +818,8 @@ def cases():
         yield rows(f"SELECT k FROM types WHERE {predicate}", wanted)
     for predicate, wanted in DATES:
         yield rows(f"SELECT k FROM days WHERE {predicate}", wanted)
+    for predicate, wanted in TIMESTAMPS:
+        yield rows(f"SELECT k FROM moments WHERE {predicate}", wanted)
     yield from (rows(query, wanted) for query, wanted in JOINED_OR_GROUPED)
     yield from ((f"merged {first}/{second}", "".join(map(shown, wanted))) for first, second, wanted in MERGED)
     yield from ((f"whole {first}/{second}", "".join(map(shown, wanted))) for first, second, wanted in MERGED_WHOLE)

@@ -14,7 +14,7 @@ It needs numpy. pandas, pyarrow and grpcio are used where they are asked for. `f
 """
 
 from .client import Connection, Stream, connect
-from .columns import Categories, Column, Days, Decimals, Integers, Texts, Truths
+from .columns import Categories, Column, Days, Decimals, Integers, Texts, Timestamps, Truths
 from .dbapi import (BINARY, DATETIME, NUMBER_GROUP, ROWID, STRING, Binary, Cursor, Date, DateFromTicks, Time, TimeFromTicks,
                     Timestamp, TimestampFromTicks, apilevel, paramstyle, threadsafety)
 from .errors import (DatabaseError, DataError, Error, IntegrityError, InterfaceError, InternalError, NotSupportedError,
@@ -31,5 +31,5 @@ __all__ = [
     "DataError", "DataType", "DatabaseError", "Date", "DateFromTicks", "Days", "Decimals", "Endpoint", "Error", "Field", "Info",
     "Integers", "IntegrityError", "InterfaceError", "InternalError", "JoinedColumn", "MessageReader", "NotSupportedError",
     "OperationalError", "ProgrammingError", "Schema", "Stream", "Table", "Texts", "Time", "TimeFromTicks", "Timestamp",
-    "TimestampFromTicks", "Truths", "Warning", "apilevel", "connect", "paramstyle", "threadsafety",
+    "TimestampFromTicks", "Timestamps", "Truths", "Warning", "apilevel", "connect", "paramstyle", "threadsafety",
 ]

@@ -10,7 +10,7 @@ import pyarrow
 from .columns import Categories, Column
 from .errors import InterfaceError
 from .rows import ROWS_OF_A_BATCH, Values
-from .schema import DAY, DIGITS, INTEGERS, NUMBER, TEXT, TRUTH, DataType, Field, Schema, dictionary_of
+from .schema import DAY, DIGITS, INTEGERS, MOMENT, NUMBER, TEXT, TRUTH, DataType, Field, Schema, dictionary_of
 from .stream import Batch
 from .tables import Table
 from .values import of_array, refused, values_of, with_codes
@@ -21,7 +21,8 @@ def type_for(of: DataType) -> pyarrow.DataType:
         return pyarrow.dictionary(pyarrow.from_numpy_dtype(of.dtype), pyarrow.string())
     if of.is_integer:
         return pyarrow.from_numpy_dtype(of.dtype)
-    return {TEXT: pyarrow.string(), TRUTH: pyarrow.bool_(), DAY: pyarrow.date32(), NUMBER: pyarrow.decimal128(DIGITS, 0)}[of]
+    return {TEXT: pyarrow.string(), TRUTH: pyarrow.bool_(), DAY: pyarrow.date32(), MOMENT: pyarrow.timestamp("us"),
+            NUMBER: pyarrow.decimal128(DIGITS, 0)}[of]
 
 
 def schema_for(schema: Schema) -> pyarrow.Schema:
@@ -68,7 +69,7 @@ def field_for(found: pyarrow.Field) -> Field:
     if pyarrow.types.is_dictionary(of) and of.value_type == pyarrow.string():
         return Field(found.name, dictionary_of("<i4"), found.nullable)
     named = {str(pyarrow.from_numpy_dtype(one.dtype)): one for one in INTEGERS.values()}
-    named |= {str(type_for(one)): one for one in (TEXT, TRUTH, DAY, NUMBER)}
+    named |= {str(type_for(one)): one for one in (TEXT, TRUTH, DAY, MOMENT, NUMBER)}
     if str(of) not in named:
         raise refused(found.name, of)
     return Field(found.name, named[str(of)], found.nullable)
@@ -88,6 +89,8 @@ def values_of_arrow(array: pyarrow.Array, own: Field, field: Field) -> Values:
     if own.type in (TEXT, NUMBER, DAY):
         return values_of(own.name, array.to_pylist(), field)
     nulls = array.is_null().to_numpy(zero_copy_only=False) if array.null_count else None
+    if own.type == MOMENT:  # a null is NaT there
+        return of_array(own.name, array.to_numpy(zero_copy_only=False), nulls, field)
     if own.type.is_dictionary:
         codes = array.indices.fill_null(0).to_numpy(zero_copy_only=False)
         return with_codes(field, codes, nulls, tuple(array.dictionary.to_pylist()))

@@ -15,7 +15,7 @@ from .messages import DATA_BODY, DATA_HEADER, Endpoint, Info, all_tables, expiry
 from .protobuf import content
 from .records import Pieces, Records
 from .rows import ROWS_OF_A_BATCH
-from .schema import Schema, schema_in_ipc_form
+from .schema import Schema, look_at_columns, schema_in_ipc_form
 from .sources import Put
 from .stream import Batch, MessageReader
 from .tables import Table, joined_tables
@@ -141,7 +141,7 @@ class Connection:
     def tables(self) -> list[str]:
         """The names of all tables."""
         info = Info.read(self.answer("GetFlightInfo", iter([[all_tables()]])), self.server)
-        return self.read(info.endpoints[0])["table_name"].objects()
+        return self.read_all(info)["table_name"].objects()
 
     # ---- fetched
 
@@ -157,19 +157,24 @@ class Connection:
         return Table(stream.schema, tuple(stream))
 
     def read_all(self, info: Info | Sequence[Endpoint], streams: int = 1) -> Table:
-        """The rows of all endpoints, joined in their order, fetched over so many sockets at once."""
+        """The rows of all endpoints, joined in their order, fetched over so many sockets at once.
+
+        Each endpoint must have the columns of its info, or of the first endpoint where no info is given.
+        """
         endpoints = info.endpoints if isinstance(info, Info) else tuple(info)
+        if streams < 1:
+            raise InterfaceError(f"{streams} streams fetch nothing: give 1 or more")
+        if not endpoints:
+            raise InterfaceError("there is no endpoint")
         if streams == 1 or len(endpoints) < 2:
             tables = [self.read(endpoint) for endpoint in endpoints]
         else:
             with ThreadPoolExecutor(min(streams, len(endpoints))) as pool:
                 tables = list(pool.map(self.read, endpoints))
-        if not tables:
-            raise InterfaceError("there is no endpoint")
-        for table in tables[1:]:
-            if not table.schema.says_as(tables[0].schema):
-                raise fault(11, f"endpoints with the columns {tables[0].schema} and {table.schema}", self.server)
-        return joined_tables(tables[0].schema, tables)
+        schema = info.schema if isinstance(info, Info) else tables[0].schema
+        for table in tables:
+            look_at_columns(schema, table.schema, self.server)
+        return joined_tables(schema, tables)
 
     def query(self, query: str, streams: int = 1) -> Table:
         """The rows of a query: all of one version."""
@@ -211,6 +216,14 @@ class Connection:
         raise errors.NotSupportedError("there are no transactions")
 
 
+def place_of(address: str | int) -> tuple[str | None, str, int]:
+    """The scheme, the host and the port of an address."""
+    form = ADDRESS.fullmatch(str(address))
+    if form is None or int(form[3]) > 65_535:
+        raise InterfaceError(f"{address!r} is no address: write HOST:PORT, grpc://HOST:PORT or grpc+tls://HOST:PORT")
+    return form[1], form[2] or "127.0.0.1", int(form[3])
+
+
 def connect(address: str | int = "127.0.0.1:4711", timeout: float | None = SECONDS, token: str | None = None,
             certificates: str | None = None) -> Connection:
     """A connection to `HOST:PORT` or a port of this machine, by records; or by gRPC to `grpc://HOST:PORT`, a gateway, or
@@ -221,10 +234,9 @@ def connect(address: str | int = "127.0.0.1:4711", timeout: float | None = SECON
     system's. Both may be in the environment, as FLIGHTSCAN_TOKEN and FLIGHTSCAN_CERTIFICATES. Nothing is sent before the
     first call.
     """
-    form = ADDRESS.fullmatch(str(address))
-    if form is None or int(form[3]) > 65_535:
-        raise InterfaceError(f"{address!r} is no address: write HOST:PORT, grpc://HOST:PORT or grpc+tls://HOST:PORT")
-    scheme, host, port = form[1], form[2] or "127.0.0.1", int(form[3])
+    scheme, host, port = place_of(address)
+    if timeout is not None and not timeout > 0:
+        raise InterfaceError(f"a timeout of {timeout} seconds: give more than 0, or None for none")
     if scheme is None:
         return Connection(Records(host, port, timeout))
     token = token or os.environ.get("FLIGHTSCAN_TOKEN")

@@ -10,11 +10,12 @@ from typing import Any
 import numpy as np
 
 from .errors import DataError, fault
-from .schema import DAY, NUMBER, TEXT, TRUTH, Field
+from .schema import DAY, MOMENT, NUMBER, TEXT, TRUTH, Field
 
 Array = np.ndarray[Any, np.dtype[Any]]
 EPOCH = datetime.date(1970, 1, 1).toordinal()
 LAST_DAY = datetime.date.max.toordinal() - EPOCH
+LEAST = -(2**63)
 
 
 class Column:
@@ -88,6 +89,20 @@ class Days(Slots):
     def objects(self) -> list[Any]:
         """Dates; outside the years 1 to 9999 the number of the day."""
         found = [datetime.date.fromordinal(day + EPOCH) if -EPOCH < day <= LAST_DAY else day for day in self.slots.tolist()]
+        return found if self.mask is None else [None if null else one for one, null in zip(found, self.mask.tolist())]
+
+
+class Timestamps(Slots):
+    """A column of timestamps: `values` is a view of the body, of dtype datetime64[us]. `mask` alone says what is null: to numpy
+    the least number of 64 bits is NaT."""
+
+    @property
+    def values(self) -> Array:
+        return self.slots.view("<M8[us]")
+
+    def objects(self) -> list[Any]:
+        """Times without a zone; outside the years 1 to 9999 the number of microseconds since 1970-01-01."""
+        found = [LEAST if one is None else one for one in self.values.tolist()]
         return found if self.mask is None else [None if null else one for one, null in zip(found, self.mask.tolist())]
 
 
@@ -226,4 +241,5 @@ def as_objects(found: list[Any]) -> Array:
     return made
 
 
-KINDS: dict[str, type[Column]] = {TEXT.name: Texts, TRUTH.name: Truths, DAY.name: Days, NUMBER.name: Decimals}
+KINDS: dict[str, type[Column]] = {TEXT.name: Texts, TRUTH.name: Truths, DAY.name: Days, MOMENT.name: Timestamps,
+                                NUMBER.name: Decimals}

@@ -12,7 +12,7 @@ import uuid
 from collections import deque
 from collections.abc import Iterable, Iterator, Sequence
 from concurrent.futures import ThreadPoolExecutor
-from dataclasses import dataclass
+from dataclasses import dataclass, replace
 from decimal import Decimal
 from typing import Any
 
@@ -22,16 +22,16 @@ import numpy as np
 import pandas
 from dask.dataframe.utils import clear_known_categories
 
-from .client import SECONDS, connect
+from .client import SECONDS, connect, place_of
 from .columns import EPOCH, Array, Decimals
 from .errors import InterfaceError, OperationalError, fault
 from .frames import frame_of, values_of_frame
 from .literals import aggregate, column_named, group_columns, select_items
-from .messages import Endpoint, Info
+from .messages import Info
 from .schema import NUMBER, Schema
 from .sources import schema_of, wide
 from .tables import JoinedColumn, Table, joined_tables
-from .values import whole_number
+from .values import micros_since_1970, refused, whole_number
 
 Address = str | int
 By = str | tuple[str, Sequence[Any]]
@@ -63,9 +63,9 @@ class Infos:
 
         Its keys in Dask are of this call only: a ticket from a server's next life may be equal, and of other rows.
         """
-        runs = [run for info in self.infos for run in runs_of(info.endpoints, parts)]
+        runs = [run for info in self.infos for run in runs_of(info, parts)]
         meta = clear_known_categories(frame_of(Table(self.schema, ()), decimals, dates))
-        return dask.dataframe.from_map(read_endpoints, runs, meta=meta, enforce_metadata=False, label="flightscan",
+        return dask.dataframe.from_map(read_part, runs, meta=meta, enforce_metadata=False, label="flightscan",
                                        token=uuid.uuid4().hex, choices=(decimals, dates), timeout=self.timeout)
 
     def grouped(self, dates: str = "datetime64") -> pandas.DataFrame:
@@ -75,7 +75,7 @@ class Infos:
         """
         kinds = kinds_of_columns(self.query)
         with ThreadPoolExecutor(len(self.infos)) as pool:
-            tables = list(pool.map(lambda info: read_table(info.endpoints, self.timeout), self.infos))
+            tables = list(pool.map(lambda info: read_table(info, self.timeout), self.infos))
         frame = added(joined_tables(self.schema, tables), kinds, dates)
         frame.attrs["versions"] = self.versions
         return frame
@@ -83,14 +83,25 @@ class Infos:
 
 def ask(query: str, servers: Sequence[Address], timeout: float | None = SECONDS) -> Infos:
     """Asks each server for its info of a query. All must answer, and name the same columns."""
-    if not servers:
-        raise InterfaceError("there is no server")
+    look_at_servers(servers)
     with ThreadPoolExecutor(len(servers)) as pool:
         infos = tuple(pool.map(lambda server: info_of(query, server, timeout), servers))
     for info in infos[1:]:
         if not info.schema.says_as(infos[0].schema):
             raise fault(11, f"{infos[0].server} has the columns {infos[0].schema}, and this one {info.schema}", info.server)
     return Infos(query, infos, timeout)
+
+
+def look_at_servers(servers: Sequence[Address]) -> None:
+    """Whether these are servers, each named once: one that is named twice would give its rows twice."""
+    if isinstance(servers, (str, int)):
+        raise InterfaceError(f"{servers!r} is no list of servers")
+    if not servers:
+        raise InterfaceError("there is no server")
+    places = [place_of(server) for server in servers]
+    for server, place in zip(servers, places):
+        if places.count(place) > 1:
+            raise InterfaceError(f"the server {server} is named twice")
 
 
 def info_of(query: str, server: Address, timeout: float | None) -> Info:
@@ -114,21 +125,25 @@ def grouped(sql: str, servers: Sequence[Address], dates: str = "datetime64") -> 
 # ---- read
 
 
-def runs_of(endpoints: tuple[Endpoint, ...], parts: int | None) -> list[tuple[Endpoint, ...]]:
-    """The endpoints in so many runs of neighbours at most."""
-    count = len(endpoints)
-    runs = count if parts is None else max(1, min(parts, count))
-    return [endpoints[run * count // runs : (run + 1) * count // runs] for run in range(runs)]
+def runs_of(info: Info, parts: int | None) -> list[Info]:
+    """The info in so many runs of neighbouring endpoints at most."""
+    if parts is not None and parts < 1:
+        raise InterfaceError(f"{parts} parts hold no rows: give 1 or more")
+    count = len(info.endpoints)
+    runs = count if parts is None else min(parts, count)
+    return [replace(info, endpoints=info.endpoints[run * count // runs : (run + 1) * count // runs]) for run in range(runs)]
 
 
-def read_table(endpoints: Sequence[Endpoint], timeout: float | None) -> Table:
-    with connect(endpoints[0].server, timeout) as connection:
-        return connection.read_all(endpoints)
+def read_table(info: Info, timeout: float | None) -> Table:
+    with connect(info.server, timeout) as connection:
+        return connection.read_all(info)
 
 
-def read_endpoints(endpoints: Sequence[Endpoint], choices: tuple[str, str], timeout: float | None) -> pandas.DataFrame:
-    """A partition."""
-    return frame_of(read_table(endpoints, timeout), *choices)
+def read_part(run: Any, choices: tuple[str, str], timeout: float | None) -> pandas.DataFrame:
+    """A partition. With workers that are threads, `Client(processes=False)`, distributed 2022.12 hands its arguments over in a
+    wrapping that it forgets to take off."""
+    info: Info = getattr(run, "data", run)
+    return frame_of(read_table(info, timeout), *choices)
 
 
 # ---- groups
@@ -216,7 +231,7 @@ def added_sums(column: JoinedColumn, numbers: Array, groups: int) -> Array:
 class PartPut(OperationalError):
     """Some servers made the put, and some did not. `rows` has of each server its rows, or None, and `failures` why not.
 
-    A server whose connection was lost, as by F22, may have made it.
+    If a server's answer was lost, its failure says that it may have made the put.
     """
 
     def __init__(self, text: str, rows: Sequence[int | None] = (), failures: Sequence[Exception] = ()):
@@ -229,7 +244,8 @@ def put_table(frame: pandas.DataFrame | dask.dataframe.DataFrame, servers: Seque
     """Spreads rows over servers, and gives the number of rows of each. Each server takes all of its rows in one put.
 
     `by` names a column, by whose hash a row's server is chosen; or it is a column and bounds, one fewer than servers: the
-    first server takes what is below the first bound. Nulls go to the first server.
+    first server takes what is below the first bound. Nulls go to the first server. Bounds of dates may be strings, such as
+    "2026-12-01".
 
     Dask's workers compute the rows, and this process makes the puts, each of them once, whichever workers die. If the rows
     can't be had, no server makes its put. If a server fails, the others may have made theirs: see `PartPut`.
@@ -249,15 +265,24 @@ def put_table(frame: pandas.DataFrame | dask.dataframe.DataFrame, servers: Seque
 
 def look_at_spread(frame: Any, servers: Sequence[Address], by: By) -> None:
     """Whether rows can be spread so."""
-    name, bounds = (by, None) if isinstance(by, str) else by
-    if not servers:
-        raise InterfaceError("there is no server")
-    if name not in frame.columns:
-        raise InterfaceError(f"the frame has no column {name!r}")
+    look_at_servers(servers)
+    name, bounds = column_and_bounds(by)
+    if list(frame.columns).count(name) != 1:
+        lacking = "several columns" if name in frame.columns else "no column"
+        raise InterfaceError(f"the frame has {lacking} {name!r}")
     if bounds is not None and len(bounds) != len(servers) - 1:
         raise InterfaceError(f"{len(bounds)} bounds for {len(servers)} servers")
     if bounds is not None and not pandas.Index(bounds).is_monotonic_increasing:
-        raise InterfaceError(f"the bounds fall: {list(bounds)}")
+        raise InterfaceError(f"the bounds fall or can't be compared: {bounds}")
+
+
+def column_and_bounds(by: By) -> tuple[str, list[Any] | None]:
+    """The column by which rows are spread, and the bounds, if there are some."""
+    if isinstance(by, str):
+        return by, None
+    if isinstance(by, (tuple, list)) and len(by) == 2 and isinstance(by[1], Iterable) and not isinstance(by[1], str):
+        return by[0], list(by[1])
+    raise InterfaceError(f"rows can't be spread by {by!r}: name a column, or a column and its bounds")
 
 
 def schema_of_frame(frame: pandas.DataFrame) -> Schema:
@@ -348,21 +373,35 @@ def put_pieces(server: Address, table: str, pieces: Handover, mode: str, schema:
 
 def split(frame: pandas.DataFrame, by: By, count: int) -> list[pandas.DataFrame]:
     """The rows of each server, in their order."""
-    if isinstance(by, str):
-        places = (hashes(frame[by]) % np.uint64(count)).astype(np.int64)
-    else:
-        places = places_of(frame[by[0]], pandas.Index(by[1]))
+    name, bounds = column_and_bounds(by)
+    places = (hashes(frame[name]) % np.uint64(count)).astype(np.int64) if bounds is None else places_of(frame[name], bounds)
     return [frame[places == place] for place in range(count)]
 
 
-def places_of(series: pandas.Series[Any], bounds: pandas.Index[Any]) -> Array:
+def places_of(series: pandas.Series[Any], bounds: Sequence[Any]) -> Array:
     """Of each value how many bounds it has reached. Of a null it is 0."""
     if isinstance(series.dtype, pandas.CategoricalDtype):
-        return of_codes(places_of(pandas.Series(series.cat.categories), bounds), series)
+        return of_codes(places_of(pandas.Series(series.cat.categories, name=series.name), bounds), series)
     nulls = series.isna().to_numpy()
-    found = np.zeros(len(series), np.int64)
-    found[~nulls] = bounds.searchsorted(series[~nulls], side="right")
+    found, values = np.zeros(len(series), np.int64), series[~nulls]
+    try:
+        if series.dtype.kind == "M" or pandas.api.types.infer_dtype(values, skipna=False) == "date":
+            moments = np.array([moment(bound) for bound in bounds], "datetime64[us]")
+            found[~nulls] = moments.searchsorted(values.to_numpy().astype("datetime64[us]"), side="right")
+        else:
+            found[~nulls] = pandas.Index(bounds).searchsorted(values, side="right")
+    except (TypeError, ValueError):
+        raise InterfaceError(f"column {series.name} can't be compared with the bounds {list(bounds)}") from None
     return found
+
+
+def moment(bound: Any) -> np.datetime64:
+    """A bound of dates. A string is a date as ISO writes it: 2026-12-01."""
+    if isinstance(bound, str) and datetime.date.fromisoformat(bound).isoformat() == bound:
+        return np.datetime64(bound, "us")
+    if not isinstance(bound, (datetime.date, np.datetime64)) or getattr(bound, "tzinfo", None) is not None:
+        raise TypeError
+    return np.datetime64(bound, "us")
 
 
 def of_codes(of_categories: Array, series: pandas.Series[Any]) -> Array:
@@ -382,7 +421,8 @@ def hashes(series: pandas.Series[Any]) -> Array:
     elif kind == "M":
         values = series.to_numpy().astype("datetime64[ns]").view(np.int64)
     elif kind == "f":  # as pandas holds integers with nulls; a put refuses what is not whole
-        values = np.where(nulls, 0, series.to_numpy(dtype=np.float64, na_value=np.nan)).astype(np.int64)
+        with np.errstate(invalid="ignore"):
+            values = np.where(nulls, 0, series.to_numpy(dtype=np.float64, na_value=np.nan)).astype(np.int64)
     else:
         return hashes_of_objects(str(series.name), series.to_numpy(dtype=object), nulls)
     found: Array = pandas.util.hash_array(values)
@@ -399,15 +439,20 @@ def hashes_of_objects(name: str, values: Array, nulls: Array) -> Array:
         whole = [number % 2**64 for number in numbers if number is not None]
         found[counted] = pandas.util.hash_array(np.array(whole, np.uint64))
         others &= ~counted
-    found[others] = pandas.util.hash_array(values[others])
+    try:
+        found[others] = pandas.util.hash_array(values[others])
+    except TypeError:  # (a list, a dictionary)
+        raise refused(name, " with ".join(sorted({type(value).__name__ for value in values[others]}))) from None
     return found
 
 
 def number_of(name: str, value: object) -> int | None:
-    """The number of a number, and that of a date as pandas holds it."""
+    """The number of a number, and that of a date or a time as pandas holds it."""
     if isinstance(value, (int, np.integer, np.bool_, Decimal)):
         return whole_number(name, value)
-    if isinstance(value, datetime.date) and not isinstance(value, datetime.datetime):
+    if isinstance(value, datetime.datetime):
+        return micros_since_1970(name, value) * 1_000
+    if isinstance(value, datetime.date):
         return (value.toordinal() - EPOCH) * NANOSECONDS_OF_A_DAY
     return None
 

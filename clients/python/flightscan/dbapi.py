@@ -9,7 +9,7 @@ from typing import TYPE_CHECKING, Any
 from .errors import InterfaceError, NotSupportedError, ProgrammingError
 from .literals import bound
 from .messages import Info
-from .schema import DAY, INTEGERS, NUMBER, TEXT, TRUTH, Field
+from .schema import DAY, INTEGERS, MOMENT, NUMBER, TEXT, TRUTH, Field, look_at_columns
 from .tables import Table
 
 if TYPE_CHECKING:
@@ -26,12 +26,15 @@ class TypeGroup(frozenset[str]):
     def __eq__(self, other: object) -> bool:
         return other in self if isinstance(other, str) else super().__eq__(other)
 
+    def __ne__(self, other: object) -> bool:
+        return not self == other
+
     __hash__ = frozenset.__hash__
 
 
 STRING = TypeGroup({TEXT.name, "dictionary"})
 NUMBER_GROUP = TypeGroup({*INTEGERS, NUMBER.name, TRUTH.name})
-DATETIME = TypeGroup({DAY.name})
+DATETIME = TypeGroup({DAY.name, MOMENT.name})
 BINARY, ROWID = TypeGroup(), TypeGroup()
 Date, Time, Timestamp, Binary = datetime.date, datetime.time, datetime.datetime, bytes
 DateFromTicks, TimestampFromTicks = datetime.date.fromtimestamp, datetime.datetime.fromtimestamp
@@ -103,6 +106,7 @@ class Cursor:
         try:
             for endpoint in info.endpoints:
                 self.stream = self.connection.stream(endpoint)
+                look_at_columns(info.schema, self.stream.schema, info.server)
                 for batch in self.stream:
                     yield from batch.rows()
         except GeneratorExit:

@@ -33,8 +33,8 @@ class Error(Exception):
         return self.text if self.server is None else f"{self.text} [{self.server}]"
 
 
-class InterfaceError(Error):
-    """This package was used in a way that it does not allow."""
+class InterfaceError(Error, ValueError):
+    """This package was used in a way that it does not allow. It is a ValueError too."""
 
 
 class DatabaseError(Error):
@@ -102,3 +102,9 @@ def fault(number: int, reason: str, server: str | None = None) -> Error:
     """The exception for what this client finds by itself."""
     name, kind = FAULTS[number]
     return kind(f"F{number} {name} ({reason})", None, server)
+
+
+def in_doubt(failed: Error) -> Error:
+    """The same exception, which says too that the put may have been made."""
+    text = f"{failed.text.removesuffix(')')}; the put may have been made, or may yet be"
+    return type(failed)(text + ")" * failed.text.endswith(")"), failed.code, failed.server)

@@ -10,11 +10,12 @@ import pandas
 from .columns import Array
 from .errors import DataError, InterfaceError
 from .rows import Values
-from .schema import DAY, INTEGERS, NUMBER, TEXT, TRUTH, Field, Schema, dictionary_of
+from .schema import DAY, INTEGERS, MOMENT, NUMBER, TEXT, TRUTH, Field, Schema, dictionary_of
 from .tables import JoinedColumn, Table
 from .values import look_at_name, of_array, refused, values_of, with_codes
 
-FIRST_DAY, LAST_DAY = -106_751, 106_751  # what 64 bits of nanoseconds hold: 1677-09-22 to 2262-04-11
+# What 64 bits of nanoseconds hold: 1677-09-22 to 2262-04-11, as days and as microseconds from 1970 on.
+MOST = {DAY.name: 106_751, MOMENT.name: (2**63 - 1) // 1_000}
 CHOICES = {"decimals": ("objects", "integers"), "dates": ("datetime64", "objects")}
 
 
@@ -25,7 +26,7 @@ def frame_of(table: Table, decimals: str = "objects", dates: str = "datetime64")
     |---|---|
     | an integer or bool without nulls; with nulls | int64 and the like; pandas' own Int64 and the like |
     | utf8 | object: str, and None at nulls |
-    | date | datetime64[ns]; with dates="objects" object: datetime.date |
+    | date, timestamp | datetime64[ns]; with dates="objects" object: datetime.date, datetime.datetime |
     | decimal | object: Decimal; with decimals="integers" int64 or Int64 |
     | dictionary | category |
     """
@@ -40,13 +41,13 @@ def frame_of(table: Table, decimals: str = "objects", dates: str = "datetime64")
 
 def series_of(column: JoinedColumn, decimals: str, dates: str) -> Any:
     """The array of a frame's column."""
-    of, values = column.field.type, column.values if column.field.type not in (NUMBER, DAY) else None
+    of, values = column.field.type, column.values if column.field.type not in (NUMBER, DAY, MOMENT) else None
     if of.is_dictionary:
         codes, categories = column.coded()
         return pandas.Categorical.from_codes(codes, pandas.Index(categories, dtype=object))
     if of == TEXT:
         return values
-    if of == DAY:
+    if of in (DAY, MOMENT):
         return column_of_objects(column) if dates == "objects" else times_of(column)
     if of == NUMBER and decimals == "objects":
         return column.values
@@ -68,12 +69,14 @@ def column_of_objects(column: JoinedColumn) -> Array:
 
 
 def times_of(column: JoinedColumn) -> Array:
-    """Dates in nanoseconds, which is what pandas has."""
-    days = column.values
-    kept = days[~np.isnat(days)].astype(np.int64)
-    if len(kept) and not FIRST_DAY <= kept.min() <= kept.max() <= LAST_DAY:
-        raise DataError(f"column {column.field.name}: a date outside 1677-09-22 to 2262-04-11; ask with dates='objects'")
-    return days.astype("datetime64[ns]")
+    """Dates or timestamps in nanoseconds, which is what pandas has."""
+    name, nulls = column.field.type.name, np.zeros(len(column), np.bool_) if column.mask is None else column.mask
+    kept = column.values[~nulls].astype(np.int64)
+    if len(kept) and not -MOST[name] <= kept.min() <= kept.max() <= MOST[name]:
+        raise DataError(f"column {column.field.name}: a {name} outside 1677-09-22 to 2262-04-11; ask with dates='objects'")
+    found = column.values.astype("datetime64[ns]")
+    found[nulls] = np.datetime64("NaT")
+    return found
 
 
 def values_of_frame(frame: pandas.DataFrame, schema: Schema | None) -> list[Values]:

@@ -7,7 +7,7 @@ import pathlib
 import threading
 from collections.abc import Iterable, Iterator
 
-from .errors import InterfaceError, fault, refusal
+from .errors import Error, InterfaceError, fault, in_doubt, refusal
 from .messages import SERVICE
 from .records import Pieces
 
@@ -24,6 +24,7 @@ OPTIONS = [
     ("grpc.use_local_subchannel_pool", 1),
 ]
 LONG_CALLS = ("DoGet", "DoPut")  # which may take as long as they must
+OPEN_ENDS = ("CANCELLED", "UNKNOWN", "DEADLINE_EXCEEDED", "INTERNAL", "UNAVAILABLE")  # that tell no refusal
 
 
 def channel_to(address: str, certificates: str | None) -> grpc.Channel:
@@ -49,7 +50,7 @@ class GrpcCalls:
 
     def call(self, method: str, messages: Iterable[Pieces]) -> Iterator[memoryview]:
         """The messages that answer a call. What refuses it is raised, and a call that is left early is cancelled."""
-        begun, failures = threading.Event(), []
+        begun, sent, failures = threading.Event(), threading.Event(), []
 
         def joined() -> Iterator[bytes]:
             """The messages. If one can't be made the call is cancelled, so that the server takes no part of it as whole."""
@@ -57,6 +58,7 @@ class GrpcCalls:
             try:
                 for pieces in messages:
                     yield b"".join(pieces)
+                sent.set()
             except Exception as failed:  # noqa: BLE001 (it is raised below, in the thread of the caller)
                 failures.append(failed)
                 call.cancel()
@@ -74,8 +76,14 @@ class GrpcCalls:
         except grpc.RpcError as failed:
             if failures:
                 raise failures[0] from None
-            if self.is_closed:
-                raise fault(22, "the connection was closed", self.server) from None
-            raise refusal(failed.details() or failed.code().name, failed.code().value[0], self.server) from None
+            said = self.failure(failed)
+            is_open = method == "DoPut" and sent.is_set() and said.number in (None, 22) and failed.code().name in OPEN_ENDS
+            raise (in_doubt(said) if is_open else said) from None
         finally:
             call.cancel()
+
+    def failure(self, failed: grpc.RpcError) -> Error:
+        """The exception for a call that did not end well."""
+        if self.is_closed:
+            return fault(22, "the connection was closed", self.server)
+        return refusal(failed.details() or failed.code().name, failed.code().value[0], self.server)

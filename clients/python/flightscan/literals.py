@@ -57,11 +57,22 @@ def literal(value: object) -> str:
         if -ABOVE_DIGITS < value < ABOVE_DIGITS and value == int(value):
             return str(int(value))
         raise NotSupportedError("a number with a fraction or with more than 38 digits has no literal")
-    if isinstance(value, datetime.date) and not isinstance(value, datetime.datetime):
+    if isinstance(value, datetime.datetime):
+        return f"TIMESTAMP '{time_text(value)}'"
+    if isinstance(value, datetime.date):
         return f"DATE '{value.isoformat()}'"
     if value is None:
         raise NotSupportedError("NULL is no operand: write IS NULL")
     raise NotSupportedError(f"{value if isinstance(value, Decimal) else type(value).__name__} has no literal")
+
+
+def time_text(value: datetime.datetime) -> str:
+    """A time as the query language writes it, to the microsecond."""
+    if value.tzinfo is not None:
+        raise NotSupportedError("a time with a zone has no literal")
+    if getattr(value, "nanosecond", 0) != 0:  # of pandas
+        raise NotSupportedError("a time that is no whole number of microseconds has no literal")
+    return datetime.datetime.combine(value.date(), value.time()).isoformat(" ", "microseconds")
 
 
 def bound(query: str, values: Sequence[object]) -> str:

@@ -6,13 +6,14 @@ import select
 import socket
 import struct
 import threading
+from collections import deque
 from collections.abc import Iterable, Iterator, Sequence
-from contextlib import suppress
+from contextlib import contextmanager, suppress
 from typing import Any
 
 import numpy as np
 
-from .errors import Error, InterfaceError, OperationalError, fault, refusal
+from .errors import Error, InterfaceError, OperationalError, fault, in_doubt, refusal
 from .messages import SERVICE
 
 OPEN, MESSAGE, END, STATUS = 1, 2, 3, 4  # the kinds of records
@@ -155,6 +156,9 @@ class Records:
     The server promises that a call sees the puts that its own socket made before, and those made before the socket was
     accepted. So a call that asks about tables takes a socket that has seen all puts of this connection, or a new one.
     A fetch may take any, since its ticket names a version.
+
+    Python may end a call that was left at any moment, also in a thread that has the lock. So an end never waits for it:
+    `ended` holds the ends until whoever has the lock, or takes it next, has done them.
     """
 
     def __init__(self, host: str, port: int, timeout: float | None):
@@ -162,10 +166,11 @@ class Records:
         self.lock, self.puts, self.is_closed = threading.Lock(), 0, False
         self.idle: list[Link] = []
         self.used: set[Link] = set()
+        self.ended: deque[tuple[Link, str]] = deque()
 
     def close(self) -> None:
         """Closes the sockets that no call has, and breaks the calls off that go on."""
-        with self.lock:
+        with self.locked():
             self.is_closed, idle, self.idle = True, self.idle, []
             for link in self.used:
                 link.break_off()
@@ -173,17 +178,25 @@ class Records:
             link.close()
 
     def call(self, method: str, messages: Iterable[Pieces]) -> Iterator[memoryview]:
-        """The messages that answer a call. What refuses it is raised, and a call that is left early closes its socket."""
-        link = self.take(method)
+        """The messages that answer a call. What refuses it is raised, and a call that is left early closes its socket.
+
+        No call is sent again: a put whose answer is lost may have been made.
+        """
+        link, is_sent = self.take(method), False
         try:
             link.send_call(method, messages)
+            is_sent = True
             yield from link.answer()
+        except Error as failed:
+            if method == "DoPut" and is_sent and failed.code is None:
+                raise in_doubt(failed) from None
+            raise
         finally:
             self.end(link, method)
 
     def take(self, method: str) -> Link:
         """A socket for a call, which `end` takes back."""
-        with self.lock:
+        with self.locked():
             if self.is_closed:
                 raise InterfaceError("the connection is closed")
             puts, idle = self.puts, self.idle
@@ -198,22 +211,46 @@ class Records:
                 link.close()
         link = Link(self.host, self.port, self.timeout)
         link.seen = puts
-        with self.lock:
+        with self.locked():
             self.used.add(link)
             if self.is_closed:
                 link.break_off()
         return link
 
     def end(self, link: Link, method: str) -> None:
-        """Keeps a socket for the next call where its call went to its end, and else closes it."""
-        with self.lock:
+        """Gives a socket back whose call has ended."""
+        self.ended.append((link, method))
+        self.do_ends()
+
+    @contextmanager
+    def locked(self) -> Iterator[None]:
+        """Holds the lock, with all ends so far done."""
+        try:
+            with self.lock:
+                self.do_ends_inside()
+                yield
+        finally:
+            self.do_ends()
+
+    def do_ends(self) -> None:
+        """Does the ends. If another one has the lock, that one does them."""
+        while self.ended and self.lock.acquire(blocking=False):
+            try:
+                self.do_ends_inside()
+            finally:
+                self.lock.release()
+
+    def do_ends_inside(self) -> None:
+        """Keeps each socket for the next call where its call went to its end, and else closes it."""
+        while self.ended:
+            link, method = self.ended.popleft()
             self.used.discard(link)
             if method == "DoPut":
                 link.seen += link.seen == self.puts
                 self.puts += 1
             if not link.is_between or self.is_closed:
                 link.close()
-                return
+                continue
             self.idle.append(link)
             if len(self.idle) > MOST_IDLE:
                 oldest = min(self.idle, key=lambda one: one.seen)

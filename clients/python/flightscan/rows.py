@@ -100,8 +100,8 @@ def dictionary_messages(number: int, values: Sequence[str]) -> Iterator[tuple[by
 class Values:
     """A column of rows to put: an array of the type's kind, and where it is null.
 
-    The array has integers, booleans, days, objects (str, or int for decimals), or indices of `categories`. If `texts` is
-    there, it has the strings, and the array only their number.
+    The array has integers, booleans, days, microseconds, objects (str, or int for decimals), or indices of `categories`. If
+    `texts` is there, it has the strings, and the array only their number.
     """
 
     field: Field

@@ -14,8 +14,8 @@ from .errors import InterfaceError, fault
 from .flatbuffers import Block, Table
 
 V5, SCHEMA, DICTIONARY_BATCH, RECORD_BATCH = 4, 1, 2, 3  # the version of metadata, and the kinds of messages
-INT, UTF8, BOOL, DECIMAL, DATE = 2, 5, 6, 7, 8  # the kinds of types
-DAYS, DIGITS = 0, 38
+INT, UTF8, BOOL, DECIMAL, DATE, TIMESTAMP = 2, 5, 6, 7, 8, 10  # the kinds of types
+DAYS, MICROSECONDS, DIGITS = 0, 2, 38
 MOST_COLUMNS, LONGEST_NAME = 64, 64
 SLOT_OF_A_DECIMAL = np.dtype([("low", "<u8"), ("high", "<i8")])
 CONTINUATION = b"\xff\xff\xff\xff"
@@ -55,7 +55,8 @@ INTEGER_DTYPES = [np.dtype(f"<{kind}{size}") for kind in "iu" for size in (1, 2,
 INTEGERS = {dtype.name: DataType(dtype.name, dtype) for dtype in INTEGER_DTYPES}
 TEXT, TRUTH = DataType("utf8"), DataType("bool")
 DAY, NUMBER = DataType("date", np.dtype("<i4")), DataType("decimal", SLOT_OF_A_DECIMAL)
-NAMED = {**INTEGERS, **{one.name: one for one in (TEXT, TRUTH, DAY, NUMBER)}}
+MOMENT = DataType("timestamp", np.dtype("<i8"))
+NAMED = {**INTEGERS, **{one.name: one for one in (TEXT, TRUTH, DAY, MOMENT, NUMBER)}}
 
 
 def dictionary_of(index: np.dtype[Any] | str = "<i4") -> DataType:
@@ -133,6 +134,12 @@ class Schema:
         return Schema(tuple(given))
 
 
+def look_at_columns(wanted: Schema, found: Schema, server: str) -> None:
+    """Whether an endpoint has the columns that its info named. After a restart, an old ticket may lead to another table."""
+    if not found.says_as(wanted):
+        raise fault(11, f"an endpoint with the columns {found}, where {wanted} must be", server)
+
+
 # ---- read
 
 
@@ -152,7 +159,7 @@ def integer_of(table: Table) -> np.dtype[Any]:
 def type_of(field: Table, name: str) -> DataType:
     """The type of a Field's values."""
     kind = field.scalar(2, 1) & 255 if field.has(2) else there(None, f"type of column {name}")
-    if kind not in (INT, UTF8, BOOL, DECIMAL, DATE):
+    if kind not in (INT, UTF8, BOOL, DECIMAL, DATE, TIMESTAMP):
         raise fault(7, f"column {name}: type kind {kind}")
     table = there(field.table(3), f"type of column {name}")
     if kind == INT:
@@ -160,9 +167,11 @@ def type_of(field: Table, name: str) -> DataType:
         return INTEGERS[dtype.name]
     if kind == DATE and table.scalar(0, 2, 1) != DAYS:
         raise fault(7, f"column {name}: a date that is not in days")
+    if kind == TIMESTAMP and (table.scalar(0, 2) != MICROSECONDS or table.scalar(1, 4) != 0):
+        raise fault(7, f"column {name}: a timestamp that is not in microseconds, or that has a zone")
     if kind == DECIMAL and (table.scalar(0, 4), table.scalar(1, 4), table.scalar(2, 4, 128)) != (DIGITS, 0, 128):
         raise fault(7, f"column {name}: a decimal other than decimal128(38, 0)")
-    return {UTF8: TEXT, BOOL: TRUTH, DECIMAL: NUMBER, DATE: DAY}[kind]
+    return {UTF8: TEXT, BOOL: TRUTH, DECIMAL: NUMBER, DATE: DAY, TIMESTAMP: MOMENT}[kind]
 
 
 def field_of(table: Table) -> Field:
@@ -232,6 +241,7 @@ def type_table(of: DataType) -> tuple[int, Block]:
         TRUTH: (BOOL, flatbuffers.table()),
         NUMBER: (DECIMAL, flatbuffers.table((4, DIGITS), (4, 0), (4, 128))),
         DAY: (DATE, flatbuffers.table((2, DAYS))),
+        MOMENT: (TIMESTAMP, flatbuffers.table((2, MICROSECONDS))),
     }.get(of, (UTF8, flatbuffers.table()))
 
 

@@ -32,7 +32,7 @@ class Batch:
         return self.columns[self.schema.place(name)]
 
     def rows(self) -> list[tuple[Any, ...]]:
-        """The rows as tuples of what Python has: None, bool, int, str, Decimal and date."""
+        """The rows as tuples of what Python has: None, bool, int, str, Decimal, date and datetime."""
         return list(zip(*(column.objects() for column in self.columns)))
 
     def check(self) -> None:

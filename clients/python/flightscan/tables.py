@@ -54,7 +54,7 @@ class JoinedColumn:
     def empty_dtype(self) -> Any:
         """The dtype of the values where there are no batches."""
         of = self.field.type
-        return of.dtype if of.is_integer else {"bool": np.bool_, "date": "datetime64[D]"}.get(of.name, object)
+        return of.dtype if of.is_integer else {"bool": np.bool_, "date": "<M8[D]", "timestamp": "<M8[us]"}.get(of.name, object)
 
     @staticmethod
     def joined(found: Sequence[Array], dtype: Any) -> Array:
@@ -100,11 +100,13 @@ class Table:
         return (self[number] for number in range(len(self.schema)))
 
     def rows(self) -> list[tuple[Any, ...]]:
-        """The rows as tuples of what Python has: None, bool, int, str, Decimal and date."""
+        """The rows as tuples of what Python has: None, bool, int, str, Decimal, date and datetime."""
         return [row for batch in self.batches for row in batch.rows()]
 
     def to_numpy(self) -> dict[str, Array]:
-        """The columns by name, as arrays; those with nulls as masked arrays."""
+        """The columns by name, as arrays; those with nulls as masked arrays. No two may have one name."""
+        if len(set(self.schema.names)) < len(self.schema):
+            raise InterfaceError(f"two of the columns {self.schema} have one name: take them by their numbers")
         return {column.field.name: column.values if column.mask is None else column.masked() for column in self}
 
     def to_pandas(self, decimals: str = "objects", dates: str = "datetime64") -> pandas.DataFrame:

@@ -33,7 +33,8 @@ def module() -> types.ModuleType:
     made = types.ModuleType("pyarrow")
     made.__dict__.update(
         py_buffer=bytes,
-        string=lambda: "Utf8", bool_=lambda: "Bool", date32=lambda: "Date", decimal128=lambda digits, scale: "Decimal128",
+        string=lambda: "Utf8", bool_=lambda: "Bool", date32=lambda: "Date", timestamp=lambda unit: "Timestamp",
+        decimal128=lambda digits, scale: "Decimal128",
         from_numpy_dtype=lambda dtype: NAMES[np.dtype(dtype).name],
         dictionary=lambda index, values: f"dictionary of {values} by {index}",
         field=lambda name, of, nullable: (name, of, nullable),

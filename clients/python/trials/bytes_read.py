@@ -22,7 +22,7 @@ from trials.cases import Run, case
 
 ROOT = pathlib.Path(__file__).resolve().parent.parent.parent.parent
 ARROW, FLIGHT = ROOT / "vectors/arrow", ROOT / "vectors/flight"
-NAMES = {"utf8": "Utf8", "bool": "Bool", "decimal": "Decimal128", "date": "Date"}
+NAMES = {"utf8": "Utf8", "bool": "Bool", "decimal": "Decimal128", "date": "Date", "timestamp": "Timestamp"}
 
 
 def type_name(found: flightscan.DataType) -> str:
@@ -32,7 +32,9 @@ def type_name(found: flightscan.DataType) -> str:
 
 
 def plain(value: Any) -> Any:
-    """A value as the vectors have it: dates and decimals as whole numbers."""
+    """A value as the vectors have it: dates, timestamps and decimals as whole numbers."""
+    if isinstance(value, datetime.datetime):
+        return (value - datetime.datetime(1970, 1, 1)) // datetime.timedelta(microseconds=1)
     if isinstance(value, datetime.date):
         return (value - datetime.date(1970, 1, 1)).days
     return int(value) if isinstance(value, Decimal) else value

@@ -19,8 +19,8 @@ from reader import Reader
 from trials.bytes_read import schema_said
 from trials.cases import Run, case, refused, trips
 
-EPOCH = datetime.date(1970, 1, 1)
-SPELLED = "id:int64, town:utf8?, day:date?, large:decimal?, small:int8?, great:uint64, paid:bool?, km:int32?"
+EPOCH, NOON = datetime.date(1970, 1, 1), datetime.datetime(2024, 5, 1, 12, 0, 0, 250_000)
+SPELLED = "id:int64, town:utf8?, day:date?, at:timestamp?, large:decimal?, small:int8?, great:uint64, paid:bool?, km:int32?"
 
 
 def told(put: Put) -> tuple[Reader, list[int], list[bytes]]:
@@ -40,7 +40,7 @@ def plain_columns(columns: dict[str, Any]) -> list[list[Any]]:
     for column in columns.values():
         masked = np.ma.getmaskarray(column) if isinstance(column, np.ma.MaskedArray) else np.zeros(len(column), bool)
         if column.dtype.kind == "M":
-            masked, column = np.isnat(column), (column - np.datetime64("1970-01-01")).astype(np.int64)
+            masked, column = masked | np.isnat(column), np.asarray(column).astype(np.int64)
         values = np.asarray(column).tolist()
         found.append([None if null else value for value, null in zip(values, masked.tolist())])
     return [list(row) for row in zip(*found)]
@@ -62,7 +62,8 @@ def written_rows(run: Run) -> str:
 @case("a schema of every type, with dictionaries of every index, is read as it was meant")
 def written_schemas(run: Run) -> None:
     reader, _, whole = told(Put("t", "create", trips(300)))
-    types = [("id", "Int64", False), ("town", "Utf8", True), ("day", "Date", True), ("large", "Decimal128", True),
+    types = [("id", "Int64", False), ("town", "Utf8", True), ("day", "Date", True), ("at", "Timestamp", True),
+             ("large", "Decimal128", True),
              ("small", "Int8", True), ("great", "UInt64", False), ("paid", "Bool", True), ("km", "Int32", True)]
     same("the columns", types, [(name, of, nullable) for name, of, nullable, _ in reader.fields])
     same("the command", wire.chunk(1, messages.ingest("t", "create")), whole[0][: len(messages.ingest("t", "create")) + 2])
@@ -115,7 +116,6 @@ def refused_values(run: Run) -> None:
     lists: list[tuple[str, type[flightscan.Error], str, Any, str | None]] = [
         ("floats", flightscan.NotSupportedError, "column a: float64", {"a": np.array([1.5])}, None),
         ("floats that are no whole numbers", flightscan.DataError, "column a: a float", {"a": np.array([1.5])}, "a:int64"),
-        ("a timestamp", flightscan.NotSupportedError, "column a: a timestamp", {"a": np.array(["2026-01-01T01"], "M8[s]")}, None),
         ("mixed objects", flightscan.NotSupportedError, "column a: int with str", {"a": [1, "b"]}, None),
         ("a fraction", flightscan.NotSupportedError, "column a: a decimal with", {"a": [Decimal("1.5")]}, None),
         *((f"the decimal {said}", flightscan.NotSupportedError, f"column a: the decimal {said} is not taken",
@@ -130,6 +130,25 @@ def refused_values(run: Run) -> None:
         ("a null", flightscan.DataError, "column a: a null", {"a": [1, None]}, "a:int64"),
         ("strings for numbers", flightscan.DataError, "column a: utf8 where int64", {"a": ["1"]}, "a:int64"),
         ("numbers for dates", flightscan.DataError, "column a: int64 where date", {"a": [1]}, "a:date"),
+        ("numbers for timestamps", flightscan.DataError, "column a: int64 where timestamp", {"a": [1]}, "a:timestamp"),
+        ("dates for timestamps", flightscan.DataError, "column a: date where timestamp", {"a": [EPOCH]}, "a:timestamp"),
+        ("timestamps for dates", flightscan.DataError, "column a: timestamp where date", {"a": [NOON]}, "a:date"),
+        ("a noon for a date", flightscan.DataError, "column a: a timestamp where a date", {"a": np.array([NOON], "M8[us]")},
+         "a:date"),
+        ("dates with timestamps", flightscan.NotSupportedError, "column a: date with datetime", {"a": [EPOCH, NOON]}, None),
+        ("nanoseconds", flightscan.NotSupportedError, "column a: a time that is no whole number of microseconds is not taken",
+         {"a": np.array(["2024-05-01T12:00:00.000000001"], "M8[ns]")}, None),
+        ("nanoseconds, by a schema", flightscan.NotSupportedError, "column a: a time that is no whole number of microseconds",
+         {"a": np.array(["NaT", "1969-12-31T23:59:59.999999999"], "M8[ns]")}, "a:timestamp?"),
+        ("attoseconds", flightscan.NotSupportedError, "column a: a time that is no whole number of microseconds",
+         {"a": np.array([10**12 - 1], "M8[as]")}, None),
+        ("far seconds", flightscan.DataError, "column a: a time whose microseconds since 1970 do not fit into 64 bits",
+         {"a": np.array([2**63 // 10**6 + 1], "M8[s]")}, "a:timestamp"),
+        ("far days", flightscan.DataError, "column a: a time whose microseconds since 1970 do not fit into 64 bits",
+         {"a": np.array([-(2**40)], "M8[D]")}, "a:timestamp"),
+        ("a zone", flightscan.NotSupportedError, "column a: a time with a zone is not taken",
+         {"a": [NOON.replace(tzinfo=datetime.timezone.utc)]}, None),
+        ("a null time", flightscan.DataError, "column a: a null in a column", {"a": np.array(["NaT"], "M8[us]")}, "a:timestamp"),
         ("columns of two lengths", flightscan.DataError, "columns of [1, 2] rows", {"a": [1], "b": [1, 2]}, None),
         ("half of a pair", flightscan.DataError, "column a: a string that is not UTF-8", {"a": ["x", "\ud800"]}, None),
         ("two dimensions", flightscan.DataError, "column a: an array of 2", {"a": np.zeros((2, 2), int)}, None),
@@ -161,6 +180,21 @@ def found_types(run: Run) -> None:
         ({"a": [Decimal(7), None]}, "Decimal128", [[7], [None]], None),
         ({"a": [True, None]}, "Bool", [[True], [None]], None),
         ({"a": [datetime.date(2026, 1, 1)]}, "Date", [[(datetime.date(2026, 1, 1) - EPOCH).days]], None),
+        ({"a": [NOON, None, datetime.datetime.min, datetime.datetime.max]}, "Timestamp", [
+            [1_714_564_800_250_000], [None], [-62_135_596_800_000_000], [253_402_300_799_999_999]], None),
+        ({"a": np.array(["2024-05-01T12:00:00.25", "NaT", "1969-12-31T23:59:59.999999"], "M8[us]")}, "Timestamp",
+         [[1_714_564_800_250_000], [None], [-1]], None),
+        ({"a": np.array(["2024-05-01T00:00", "NaT"], "M8[us]")}, "Timestamp", [[1_714_521_600_000_000], [None]], None),
+        ({"a": np.array(["2024-05-01T00:00", "NaT"], "M8[ns]")}, "Date", [[19_844], [None]], None),
+        ({"a": np.array(["2024-05-01T00:00", "NaT"], "M8[ns]")}, "Timestamp", [[1_714_521_600_000_000], [None]], "a:timestamp?"),
+        ({"a": np.array(["2024-05-01T12:00:00.25", "NaT"], "M8[ns]")}, "Timestamp", [[1_714_564_800_250_000], [None]], None),
+        ({"a": np.array(["2024-05-01T12:00:01"], "M8[s]")}, "Timestamp", [[1_714_564_801_000_000]], None),
+        ({"a": np.array(["1969-12-31T23:59:59.999"], ">M8[ms]")}, "Timestamp", [[-1_000]], None),
+        ({"a": np.array(["2024-05-01"], "M8[D]")}, "Timestamp", [[1_714_521_600_000_000]], "a:timestamp"),
+        ({"a": np.array(["2024-05-01"], "M8[us]")}, "Date", [[19_844]], "a:date"),
+        ({"a": np.ma.MaskedArray(np.array([7, 2**63 - 1, 9], "M8[us]"), mask=[False, False, True])}, "Timestamp",
+         [[7], [2**63 - 1], [None]], None),
+        ({"a": np.ma.MaskedArray(np.array([1, 1_000], "M8[ns]"), mask=[True, False])}, "Timestamp", [[None], [1]], None),
         ({"a": ["x", float("nan"), None]}, "Utf8", [["x"], [None], [None]], None),
         ({"a": np.ma.MaskedArray(np.array([Decimal(7), Decimal("NaN")], object), mask=[False, True])}, "Decimal128",
          [[7], [None]], None),
@@ -186,6 +220,10 @@ def bound_parameters(run: Run) -> None:
     wanted = "SELECT \"?\", a -- ?\nFROM t WHERE s = '?''' AND b = 'o''clock' AND d = DATE '2026-12-01' AND c = TRUE"
     same("the query", wanted, literals.bound(query, values))
     same("numbers", "-5, 38, 7", literals.bound("?, ?, ?", (-5, np.int64(38).item(), Decimal(7))))
+    same("times", "TIMESTAMP '2024-05-01 12:00:00.250000', TIMESTAMP '0001-01-01 00:00:00.000000'", literals.bound(
+        "?, ?", (NOON, datetime.datetime.min)))
+    refused("a zone", flightscan.NotSupportedError, "a time with a zone has no literal", lambda: literals.bound(
+        "?", (NOON.replace(tzinfo=datetime.timezone.utc),)))
     same("numbers of numpy", "-9223372036854775808, 255, 18446744073709551615, TRUE, FALSE, 'o''clock'", literals.bound(
         "?, ?, ?, ?, ?, ?", (np.int64(-(2**63)), np.uint8(255), np.uint64(2**64 - 1), np.bool_(True), np.bool_(False),
                              np.str_("o'clock"))))
@@ -210,7 +248,9 @@ def module_of_dbapi(run: Run) -> None:
     same("its globals", ("2.0", 2, "qmark"), (flightscan.apilevel, flightscan.threadsafety, flightscan.paramstyle))
     same("its exceptions", True, all(issubclass(getattr(flightscan, name), flightscan.DatabaseError) for name in (
         "DataError", "OperationalError", "IntegrityError", "InternalError", "ProgrammingError", "NotSupportedError")))
-    same("types are equal", [True, False, True], [flightscan.STRING == "utf8", flightscan.NUMBER == "utf8",
-                                                   flightscan.DATETIME == "date"])
+    same("types are equal", [True, False, True, True], [flightscan.STRING == "utf8", flightscan.NUMBER == "utf8",
+                                                         flightscan.DATETIME == "date", flightscan.DATETIME == "timestamp"])
+    same("types differ", [False, True, True], [flightscan.STRING != "utf8", flightscan.NUMBER != "utf8",
+                                                "date" != flightscan.STRING])
     same("what is read back", schema_said(flightscan.Schema.spelled("a:int64, b:utf8?")), [["a", "Int64", False],
                                                                                            ["b", "Utf8", True]])

@@ -2,6 +2,7 @@
 
 from __future__ import annotations
 
+import datetime
 import errno
 import socket
 import threading
@@ -19,17 +20,16 @@ from loopback import Server
 from random_calls.answers import same
 
 from trials.bytes_written import SPELLED, plain_columns
-from trials.cases import Run, case, refused, same_array, trips
+from trials.cases import Run, case, meanwhile, refused, same_array, trips
 
 
 def plain_rows(table: flightscan.Table) -> list[list[Any]]:
-    """The rows of an answer with dates and decimals as whole numbers."""
+    """The rows of an answer with dates, timestamps and decimals as whole numbers."""
     found = []
     for column in table:
         of = column.field.type.name
-        if of == "date":
-            values = [None if null else day for day, null in zip(
-                column.values.astype("datetime64[D]").astype(np.int64).tolist(), nulls_of(column))]
+        if of in ("date", "timestamp"):
+            values = [None if null else one for one, null in zip(column.values.astype(np.int64).tolist(), nulls_of(column))]
         else:
             values = [int(value) if of == "decimal" and value is not None else value for value in column.objects()]
         found.append(values)
@@ -64,11 +64,11 @@ def columns_of_numpy(run: Run) -> str:
     columns = trips(200_000)
     with run.connected() as connection:
         connection.put("t", columns)
-        (endpoint,) = connection.endpoints("SELECT id, km, great, day, town, paid FROM t")
+        (endpoint,) = connection.endpoints("SELECT id, km, great, day, town, paid, at FROM t")
         with_memory = 0
         for batch in connection.stream(endpoint):
             for column, part in (("id", "values"), ("km", "values"), ("great", "slots"), ("day", "slots"), ("town", "offsets"),
-                                 ("town", "data"), ("paid", "bits")):
+                                 ("town", "data"), ("paid", "bits"), ("at", "values")):
                 array = getattr(batch[column], part)
                 body = np.frombuffer(batch[column].buffers[-1].obj, np.uint8)
                 same(f"{column}.{part} is a view of the message", True, np.shares_memory(array, body))
@@ -78,11 +78,16 @@ def columns_of_numpy(run: Run) -> str:
         same_array("id", columns["id"], table["id"].values)
         same_array("great", columns["great"], table["great"].values)
         same_array("day", columns["day"], table["day"].values)
+        same("the dtype of at", "datetime64[us]", str(table["at"].values.dtype))
+        same("at", columns["at"].tolist(), table["at"].masked().tolist())
         same("km", columns["km"].tolist(), table["km"].masked().tolist())
         same("the mask of km", np.ma.getmaskarray(columns["km"]).tolist(), nulls_of(table["km"]))
         kept = ~np.ma.getmaskarray(columns["km"]) & (columns["km"].data > 400)
         found = connection.query("SELECT id FROM t WHERE km > 400")
         same_array("a filter", columns["id"][kept], found["id"].values)
+        noon = datetime.datetime(2030, 5, 1, 12)
+        later = connection.cursor().execute("SELECT id FROM t WHERE at >= ?", (noon,)).fetch_table()
+        same_array("a filter of times", columns["id"][columns["at"] >= np.datetime64(noon)], later["id"].values)
         sums = connection.query("SELECT COUNT(*) AS n, COUNT(km) AS k, SUM(km) AS s FROM t WHERE km > 400").rows()
         same("a sum", [(int(kept.sum()), int(kept.sum()), int(columns["km"].data[kept].astype(np.int64).sum()))],
              [tuple(map(int, sums[0]))])
@@ -165,6 +170,7 @@ def refusals(run: Run) -> None:
 
 def twice(connection: flightscan.Connection) -> tuple[flightscan.Schema, tuple[flightscan.Batch, ...]]:
     table = connection.query("SELECT a, a FROM t")
+    refused("names of arrays", flightscan.InterfaceError, "two of the columns a:int64?, a:int64? have one name", table.to_numpy)
     return table.schema, table.batches
 
 
@@ -365,7 +371,7 @@ def look_at_waiting(port: int) -> None:
 
     thread = threading.Thread(target=wait)
     thread.start()
-    while not waiting.calls.used:
+    while thread.is_alive() and not waiting.calls.used:
         time.sleep(0.01)
     waiting.close()
     thread.join(20)
@@ -406,17 +412,14 @@ def puts_meanwhile(run: Run) -> str:
     with run.serving("--parts", "4", "--seats", "6") as server:
         with flightscan.connect(server.port) as writer, flightscan.connect(server.port) as reader:
             writer.put("t", {"put": np.zeros(10, np.int64)})
-            stop, seen = threading.Event(), []
-            thread = threading.Thread(target=keep_putting, args=(writer, stop))
-            thread.start()
-            for _ in range(40):
-                info = reader.info("SELECT put FROM t")
-                numbers = reader.read_all(info)["put"].values
-                wanted = np.repeat(np.arange(info.version), 10)
-                same_array(f"version {info.version}", wanted, numbers)
-                seen.append(info.version)
-            stop.set()
-            thread.join()
+            seen = []
+            with meanwhile(lambda stop: keep_putting(writer, stop)):
+                for _ in range(40):
+                    info = reader.info("SELECT put FROM t")
+                    numbers = reader.read_all(info)["put"].values
+                    wanted = np.repeat(np.arange(info.version), 10)
+                    same_array(f"version {info.version}", wanted, numbers)
+                    seen.append(info.version)
     return f"versions {seen[0]} to {seen[-1]}"
 
 

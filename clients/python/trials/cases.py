@@ -3,6 +3,7 @@
 from __future__ import annotations
 
 import importlib
+import threading
 from collections.abc import Callable, Iterator
 from contextlib import ExitStack, contextmanager
 from dataclasses import dataclass
@@ -91,6 +92,8 @@ def trips(count: int, seed: int = 1) -> dict[str, Any]:
     texts = np.array([None if null else TOWNS[place] for null, place in zip(nulls[0], places)], object)
     days = random.integers(-40_000, 60_000, count).astype("datetime64[D]")
     days[nulls[1]] = np.datetime64("NaT")
+    moments = np.random.default_rng(seed + 1).integers(-(10**15), 9 * 10**15, count).astype("datetime64[us]")
+    moments[nulls[5]] = np.datetime64("NaT")
     powers = random.integers(0, 19, count)
     whole = [int(one) * 10**int(power) for one, power in zip(random.integers(-(2**62), 2**62, count), powers)]
     decimals = np.array([None if null else one for null, one in zip(nulls[2], whole)], object)
@@ -98,9 +101,33 @@ def trips(count: int, seed: int = 1) -> dict[str, Any]:
         "id": np.arange(count, dtype=np.int64),
         "town": texts,
         "day": days,
+        "at": moments,
         "large": decimals,
         "small": np.ma.MaskedArray(random.integers(-128, 128, count).astype(np.int8), mask=nulls[3]),
         "great": random.integers(0, 2**64, count, dtype=np.uint64),
         "paid": np.ma.MaskedArray(random.random(count) < 0.5, mask=nulls[4]),
         "km": np.ma.MaskedArray(random.integers(0, 500, count).astype(np.int32), mask=nulls[5]),
     }
+
+
+@contextmanager
+def meanwhile(write: Callable[[threading.Event], None]) -> Iterator[None]:
+    """A thread that writes until the block ends, whether well or not. What it raises is raised after a block that ended well."""
+    stop, failures = threading.Event(), []
+
+    def run() -> None:
+        try:
+            write(stop)
+        except Exception as failed:  # noqa: BLE001 (it is raised below)
+            failures.append(failed)
+
+    thread = threading.Thread(target=run, daemon=True)
+    thread.start()
+    try:
+        yield
+    finally:
+        stop.set()
+        thread.join(60)
+    same("the writer has ended", False, thread.is_alive())
+    if failures:
+        raise failures[0]

@@ -97,6 +97,28 @@ def workers_that_die(run: Run) -> str:
     return f"{len(rows)} rows, {sum(times)} times a partition was computed"
 
 
+@case("what a worker has read and died with is read again, of the version named, although there are later puts")
+def partitions_read_again(run: Run) -> None:
+    pandas, several = modules()
+    distributed = wanted_package("distributed")
+    frame = pandas.DataFrame({"id": range(2_000)})
+    with (run.several(2, "--parts", "3", "--seats", "8") as servers,
+          distributed.LocalCluster(n_workers=2, threads_per_worker=1, processes=True, dashboard_address=None, memory_limit=0,
+                                   silence_logs=logging.CRITICAL) as cluster,
+          distributed.Client(cluster) as client):
+        client.run(sys.path.extend, [path for path in sys.path if path])
+        several.put_table(frame, servers, "id", "t")
+        read = several.read_query("SELECT id FROM t", servers).persist()
+        distributed.wait(read, 300)
+        for server in servers:
+            with flightscan.connect(server) as connection:
+                connection.put("t", {"id": [-1]}, mode="append", schema="id:int64")
+        kill_fullest(cluster, client)
+        same("the rows", frame["id"].tolist(), sorted(read["id"].compute().tolist()))
+        later = several.read_query("SELECT id FROM t", servers)["id"].compute()
+        same("the rows of a later info", [-1, -1, *frame["id"]], sorted(later.tolist()))
+
+
 def no_rows(number: int) -> Any:
     """A partition that can't be computed."""
     raise KeyError("a partition")
@@ -124,11 +146,38 @@ def rows_that_fail(run: Run) -> None:
                 with flightscan.connect(server) as connection:
                     same("nothing was put", [], connection.tables())
         for by, text in (("town", "the frame has no column 'town'"), (("town", [1]), "the frame has no column 'town'"),
-                         (("id", [1, 2]), "2 bounds for 2 servers")):
+                         (("id", [1, 2]), "2 bounds for 2 servers"), (5, "rows can't be spread by 5"),
+                         (("id",), "rows can't be spread by ('id',)"), (("id", "5"), "rows can't be spread by ('id', '5')"),
+                         (("id", 5), "rows can't be spread by ('id', 5)"),
+                         (("id", ["x"]), "column id can't be compared with the bounds ['x']")):
             refused(text, flightscan.InterfaceError, text, lambda by=by: several.put_table(frame, servers, by, "t"))
-        refused("bounds that fall", flightscan.InterfaceError, "the bounds fall: [5, 2]",
-                lambda: several.put_table(frame, [*servers, servers[0]], ("id", [5, 2]), "t"))
+        refused("bounds that fall", flightscan.InterfaceError, "the bounds fall or can't be compared: [5, 2]",
+                lambda: several.put_table(frame, [*servers, "127.0.0.1:1"], ("id", [5, 2]), "t"))
         refused("no server", flightscan.InterfaceError, "there is no server", lambda: several.put_table(frame, [], "id", "t"))
+
+
+@case("a cluster whose workers are threads of this process: rows, groups and puts are the same; sums where Dask has its own")
+def workers_that_are_threads(run: Run) -> str | None:
+    pandas, several = modules()
+    distributed = wanted_package("distributed")
+    frame = pandas.DataFrame({"id": range(2_000), "km": [number % 7 for number in range(2_000)]})
+    with run.several(2, "--parts", "3", "--seats", "16") as servers, distributed.Client(
+            processes=False, n_workers=1, threads_per_worker=2, dashboard_address=None, silence_logs=logging.CRITICAL):
+        source = several.dask.dataframe.from_pandas(frame, npartitions=4)
+        same("all rows", len(frame), sum(several.put_table(source, servers, "id", "t")))
+        read = several.read_query("SELECT id, km FROM t", servers)
+        same("the rows", frame["id"].tolist(), sorted(read["id"].compute().tolist()))
+        same("two partitions of each server", frame["id"].tolist(), sorted(
+            several.read_query("SELECT id FROM t", servers, 2).compute()["id"].tolist()))
+        same("what is made of partitions", len(frame), int(sum(read.map_partitions(len).compute())))
+        groups = several.grouped("SELECT km, SUM(id) AS s FROM t GROUP BY km", servers)
+        same("groups", frame.groupby("km")["id"].sum().to_dict(), dict(zip(groups["km"].tolist(), map(int, groups["s"]))))
+        try:
+            source["km"].sum().compute()
+        except TypeError:
+            return "sums of Dask's own frames fail there"
+        same("sums by Dask", frame.groupby("km")["id"].sum().to_dict(), read.groupby("km")["id"].sum().compute().to_dict())
+    return None
 
 
 @case("the drive of many servers fails where 4 workers on 4 processors read less than 2.5 times as fast as one")

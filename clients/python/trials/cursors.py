@@ -25,14 +25,17 @@ LONGEST_QUERY = 16_384
 def cursors(run: Run) -> None:
     with run.connected("--parts", "3") as connection:
         days = [datetime.date(2026, 1, 1) + datetime.timedelta(day) for day in range(100)]
-        connection.put("t", {"id": np.arange(100), "s": [f"o'{number}" for number in range(100)], "d": days,
+        noons = [datetime.datetime(2026, 1, 1, 12, 0, 0, number) for number in range(100)]
+        connection.put("t", {"id": np.arange(100), "s": [f"o'{number}" for number in range(100)], "d": days, "at": noons,
                              "large": [10**30 + number for number in range(99)] + [None]})
         cursor = connection.cursor()
-        cursor.execute("SELECT id, s, d, large FROM t")
+        cursor.execute("SELECT id, s, d, at, large FROM t")
         same("the description", [("id", "int64", None, None, None, None, False), ("s", "utf8", None, None, None, None, True),
-                                 ("d", "date", None, None, None, None, True), ("large", "decimal", None, None, 38, 0, True)],
+                                 ("d", "date", None, None, None, None, True), ("at", "timestamp", *[None] * 4, True),
+                                 ("large", "decimal", None, None, 38, 0, True)],
              cursor.description)
-        rows = [(number, f"o'{number}", days[number], Decimal(10**30 + number) if number < 99 else None) for number in range(100)]
+        rows = [(number, f"o'{number}", days[number], noons[number], Decimal(10**30 + number) if number < 99 else None)
+                for number in range(100)]
         same("one", rows[0], cursor.fetchone())
         same("many", rows[1:2], cursor.fetchmany())
         same("ten", rows[2:12], cursor.fetchmany(10))
@@ -43,7 +46,8 @@ def cursors(run: Run) -> None:
         same("as columns", rows, cursor.fetch_table().rows())
         same("in turn", rows[:40], list(cursor.execute("SELECT * FROM t WHERE id < ?", (40,))))
         same("parameters", rows[7:8], connection.cursor().execute(
-            "SELECT * FROM t WHERE s = ? AND d = ? AND large = ?", ("o'7", days[7], Decimal(10**30 + 7))).fetchall())
+            "SELECT * FROM t WHERE s = ? AND d = ? AND at = ? AND large = ?",
+            ("o'7", days[7], noons[7], Decimal(10**30 + 7))).fetchall())
         cursor.execute("SELECT id FROM t")
         cursor.fetchone()
         connection.put("t", {"a": [1]}, mode="replace")

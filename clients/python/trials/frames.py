@@ -27,6 +27,7 @@ def frame_of_trips(pandas: Any, count: int) -> Any:
         "town": pandas.Categorical(columns["town"]),
         "rider": columns["town"],
         "day": columns["day"].astype("datetime64[ns]"),
+        "at": columns["at"].astype("datetime64[ns]"),
         "large": [None if value is None else Decimal(value) for value in columns["large"]],
         "great": columns["great"],
     })
@@ -88,6 +89,7 @@ def frames_at_limits(run: Run) -> None:
         refused("early days", flightscan.DataError, "column d: a date outside", lambda: days.to_pandas())
         same("as objects", [datetime.date(1, 1, 1), datetime.date(1700, 1, 1), datetime.date(9999, 12, 31), None],
              days.to_pandas(dates="objects")["d"].tolist())
+        look_at_far_times(connection)
         connection.put("large", {"d": [2**63, None]})
         refused("too large", flightscan.DataError, "column d: a decimal", lambda: connection.query(
             "SELECT d FROM large").to_pandas(decimals="integers"))
@@ -97,12 +99,26 @@ def frames_at_limits(run: Run) -> None:
         same("one name twice", (["a", "a"], 499_500 * 2), (list(twice.columns), int(twice.to_numpy().sum())))
 
 
-@case("frames that can't be put: floats, times, time zones, names that are no strings; floats that are whole can, by a schema")
+def look_at_far_times(connection: flightscan.Connection) -> None:
+    """Timestamps outside pandas' years, and those at their ends."""
+    texts = ["0001-01-01T00:00", "2262-04-11T23:47:16.854775", "9999-12-31T23:59:59.999999", "NaT", "1677-09-22T00:00"]
+    connection.put("times", {"t": np.array(texts, "M8[us]")})
+    times = connection.query("SELECT t FROM times")
+    refused("early times", flightscan.DataError, "column t: a timestamp outside", times.to_pandas)
+    same("as objects", [datetime.datetime.min, datetime.datetime(2262, 4, 11, 23, 47, 16, 854_775), datetime.datetime.max, None,
+                        datetime.datetime(1677, 9, 22)], times.to_pandas(dates="objects")["t"].tolist())
+    near = "SELECT t FROM times WHERE t BETWEEN TIMESTAMP '1677-09-22 00:00:00' AND TIMESTAMP '2262-04-11 23:47:16.854775'"
+    same("near ones", [texts[1], texts[4] + ":00.000000"],
+         [one.isoformat(timespec="microseconds") for one in connection.query(near).to_pandas()["t"]])
+
+
+@case("frames that can't be put: floats, nanoseconds, zones, names that are no strings; floats that are whole can, by a schema")
 def frames_refused(run: Run) -> None:
     pandas = wanted_package("pandas")
     with run.connected() as connection:
         times = pandas.Series(pandas.to_datetime(["2026-01-01 10:00"]))
-        for what, column in (("float64", pandas.Series([0.5])), ("a timestamp", times),
+        fine = pandas.Series(pandas.to_datetime(["2026-01-01 10:00:00.000000001"]))
+        for what, column in (("float64", pandas.Series([0.5])), ("a time that is no whole number of microseconds", fine),
                              ("datetime64[ns, UTC]", times.dt.tz_localize("UTC")), ("float64", pandas.Series([1.0, None]))):
             refused(what, flightscan.NotSupportedError, f"column a: {what}", lambda column=column: connection.put(
                 "t", pandas.DataFrame({"a": column})))
@@ -115,6 +131,10 @@ def frames_refused(run: Run) -> None:
         same("categories that are no strings, with nulls", ("a:int64?, b:bool?, d:date?", [
             (7, True, datetime.date(2026, 1, 1)), (None, False, None), (8, None, None)]), (
             str(connection.schema("SELECT * FROM nulls")), connection.query("SELECT * FROM nulls").rows()))
+        connection.put("times", pandas.DataFrame({"a": times, "b": times.dt.normalize()}))
+        same("times, and midnights as dates", ("a:timestamp?, b:date?", [
+            (datetime.datetime(2026, 1, 1, 10), datetime.date(2026, 1, 1))]), (
+            str(connection.schema("SELECT * FROM times")), connection.query("SELECT * FROM times").rows()))
         whole = pandas.DataFrame({"a": [1.0, None, -3.0], "c": pandas.Categorical([7, 8, 7])})
         connection.put("t", whole, schema="a:int16?, c:uint8")
         same("the rows", [(1, 7), (None, 8), (-3, 7)], connection.query("SELECT * FROM t").rows())

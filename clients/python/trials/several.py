@@ -8,6 +8,8 @@ import pathlib
 import subprocess
 import sys
 import threading
+import time
+from contextlib import ExitStack
 from decimal import Decimal
 from typing import Any
 
@@ -15,7 +17,7 @@ import flightscan
 import numpy as np
 from random_calls.answers import same
 
-from trials.cases import Run, case, refused, wanted_package
+from trials.cases import Run, case, meanwhile, refused, wanted_package
 from trials.frames import frame_of_trips, same_frame
 
 GROUPS = "SELECT town, COUNT(*) AS n, COUNT(km) AS k, SUM(km) AS s FROM t GROUP BY town"
@@ -104,12 +106,49 @@ def look_at_objects(pandas: Any, several: Any, wanted: list[int]) -> None:
     same("truths", hashes([True, None], "boolean"), hashes([True, None], object))
     days = [datetime.date(1700, 1, 1), None, datetime.date(2026, 12, 1)]
     same("dates", hashes(pandas.to_datetime(days)), hashes(days, object))
+    times = [datetime.datetime(1700, 1, 1, 12, 0, 0, 1), None, datetime.datetime(2026, 12, 1)]
+    same("times", hashes(pandas.to_datetime(times)), hashes(times, object))
     same("an early date has a hash", True, hashes([datetime.date(1, 1, 1)])[0] != 0)
     for value, text in ((Decimal("Infinity"), "the decimal Infinity"), (Decimal("0.5"), "a decimal with a fraction")):
         refused(text, flightscan.NotSupportedError, f"column None: {text}", lambda value=value: hashes([value], object))
+    refused("lists", flightscan.NotSupportedError, "column None: dict with list", lambda: hashes([[1], {}, None], object))
     for values in (pandas.Categorical([5, None, 50, 10]), pandas.array([5, None, 50, 10], "Int8"), [Decimal(5), None, 50, 10]):
-        places = several.places_of(pandas.Series(values), pandas.Index([10, 20]))
+        places = several.places_of(pandas.Series(values), [10, 20])
         same(f"the ranges of {values}", [0, 0, 2, 1], places.tolist())
+
+
+@case("bounds of dates: strings as ISO writes them, dates and times, whatever holds the dates; what can't be compared is refused")
+def bounds_of_dates(run: Run) -> None:
+    pandas, several = modules()
+    days = [datetime.date(2025, 12, 31), datetime.date(2026, 1, 1), None, datetime.date(2026, 6, 30), datetime.date(2026, 7, 1)]
+    spelled = ["2026-01-01", "2026-07-01"]
+    held = {"objects": pandas.Series(days, dtype=object), "times": pandas.Series(pandas.to_datetime(days)),
+            "a category": pandas.Series(pandas.Categorical(pandas.to_datetime(days))),
+            "a category of objects": pandas.Series(pandas.Categorical(days))}
+    written = {"strings": spelled, "dates": [days[1], days[4]], "times": [pandas.Timestamp(day) for day in spelled],
+               "numpy's": [np.datetime64(day) for day in spelled], "both": ["2026-01-01", days[4]]}
+    for what, series in held.items():
+        for how, bounds in written.items():
+            same(f"the ranges of {what} by {how}", [0, 1, 0, 1, 2], several.places_of(series, bounds).tolist())
+        same("far bounds", [1, 1, 0, 1, 1], several.places_of(series, ["0001-01-01", "9999-12-31"]).tolist())
+        noon = pandas.Timestamp("2026-01-01 12:00")
+        same("a bound at noon", [0, 0, 0, 1, 1], several.places_of(series, [noon]).tolist())
+        for bound in ("yesterday", "2026-1-1", "20260101", "2026-W01-1", "2026-13-01", "NaT", 5, noon.tz_localize("UTC")):
+            refused(f"{bound!r} for {what}", flightscan.InterfaceError, f"column day can't be compared with the bounds [{bound!r}]",
+                    lambda bound=bound, series=series: several.places_of(series.rename("day"), [bound]))
+    early = pandas.Series([datetime.date(1, 1, 1), datetime.date(1600, 1, 1)])
+    same("early dates", [0, 1], several.places_of(early, ["1600-01-01"]).tolist())
+    for values, bound in (([1, 2], "a"), (["a"], 5), (pandas.array([1, None], "Int8"), "1"), (pandas.Categorical(["a"]), 5)):
+        refused(f"{values}", flightscan.InterfaceError, "column None can't be compared with the bounds",
+                lambda values=values, bound=bound: several.places_of(pandas.Series(values), [bound]))
+    frame = pandas.DataFrame({"id": range(5), "day": days})
+    with run.several(3) as servers:
+        for source in (frame, several.dask.dataframe.from_pandas(frame, npartitions=2)):
+            same("the rows of each server", [2, 2, 1], several.put_table(source, servers, ("day", spelled), "t", mode="replace"))
+            days_there = [flightscan.connect(server).query("SELECT day FROM t")["day"].objects() for server in servers]
+            same("the dates of each server", [[days[0], None], [days[1], days[3]], [days[4]]], days_there)
+        refused("a column twice", flightscan.InterfaceError, "the frame has several columns 'id'",
+                lambda: several.put_table(pandas.DataFrame([[1, 2]], columns=["id", "id"]), servers, "id", "t"))
 
 
 @case("each frame has keys of its own: what Dask holds of an earlier server's life does not pass for new rows")
@@ -188,38 +227,43 @@ def look_at_many_keys(pandas: Any, several: Any, frame: Any, servers: list[str])
 
 @case("each server's rows are of the version that its info named, whoever puts meanwhile; a snapshot by named puts")
 def versions_meanwhile(run: Run) -> str:
-    pandas, several = modules()
-    with run.several(3, "--parts", "2", "--seats", "8") as servers:
-        writers = [flightscan.connect(server) for server in servers]
+    _, several = modules()
+    done = [0]
+    with run.several(3, "--parts", "2", "--seats", "8") as servers, ExitStack() as stack:
+        writers = [stack.enter_context(flightscan.connect(server)) for server in servers]
         for writer in writers:
             writer.put("t", {"put": np.zeros(5, np.int64)})
-        stop, done = threading.Event(), [0]
-        thread = threading.Thread(target=put_by_name, args=(writers, stop, done))
-        thread.start()
-        for _ in range(25):
-            named = done[0]
-            infos = several.ask("SELECT put FROM t", servers)
-            rows = infos.frame().compute()["put"].tolist()
-            wanted = [number for _, version in infos.versions for number in range(version) for _ in range(5)]
-            same("the rows of the versions", wanted, rows)
-            snapshot = several.grouped(f"SELECT put, COUNT(*) AS n FROM t WHERE put <= {named} GROUP BY put", servers)
-            found = dict(zip(snapshot["put"].tolist(), snapshot["n"].tolist()))
-            same("a snapshot", dict.fromkeys(range(named + 1), 15), found)
-        stop.set()
-        thread.join()
-        for writer in writers:
-            writer.close()
+        with meanwhile(lambda stop: put_by_name(writers, stop, done)):
+            for _ in range(25):
+                look_at_one_moment(several, servers, done)
     return f"{done[0]} puts to each server"
+
+
+def look_at_one_moment(several: Any, servers: list[str], done: list[int]) -> None:
+    """The rows of the versions named, once later puts are made; and a snapshot."""
+    named = done[0]
+    infos = several.ask("SELECT put FROM t", servers)
+    later, deadline = min(done[0] + 3, LAST_PUT), time.monotonic() + 60
+    while done[0] < later and time.monotonic() < deadline:
+        time.sleep(0.001)
+    same("puts are made meanwhile", True, done[0] >= later)
+    rows = infos.frame().compute()["put"].tolist()
+    wanted = [number for _, version in infos.versions for number in range(version) for _ in range(5)]
+    same("the rows of the versions", wanted, rows)
+    snapshot = several.grouped(f"SELECT put, COUNT(*) AS n FROM t WHERE put <= {named} GROUP BY put", servers)
+    found = dict(zip(snapshot["put"].tolist(), snapshot["n"].tolist()))
+    same("a snapshot", dict.fromkeys(range(named + 1), 15), found)
+
+
+LAST_PUT = 2_000
 
 
 def put_by_name(writers: list[flightscan.Connection], stop: threading.Event, done: list[int]) -> None:
     """Puts rows to each server, and says which put all servers have."""
-    number = 1
-    while not stop.is_set() and number < 2_000:
+    while not stop.wait(0.002) and done[0] < LAST_PUT:
         for writer in writers:
-            writer.put("t", {"put": np.full(5, number, np.int64)}, mode="append")
-        done[0] = number
-        number += 1
+            writer.put("t", {"put": np.full(5, done[0] + 1, np.int64)}, mode="append")
+        done[0] += 1
 
 
 @case("a server that is gone, refuses, or has other columns: no answer rather than a part of one, and puts say who has what")
@@ -245,6 +289,11 @@ def servers_that_fail(run: Run) -> None:
         flightscan.connect(servers[1]).put("t", {"id": ["x"]}, mode="replace")
         refused("other columns", flightscan.IntegrityError, "F11 SchemaMismatch",
                 lambda: several.ask("SELECT id FROM t", servers))
-        refused("no server", flightscan.InterfaceError, "there is no server", lambda: several.ask("SELECT id FROM t", []))
+        for named, text in (([], "there is no server"), (servers[0], f"{servers[0]!r} is no list"), (4711, "4711 is no list"),
+                            ([*servers, servers[0]], f"the server {servers[0]} is named twice"),
+                            ([servers[0], int(servers[0][10:])], "the server"), (["here"], "'here' is no address")):
+            for call in (lambda named=named: several.ask("SELECT id FROM t", named),
+                         lambda named=named: several.put_table(frame, named, "id", "u")):
+                refused(f"{named} as servers", flightscan.InterfaceError, text, call)
         refused("too few bounds", flightscan.InterfaceError, "0 bounds for 2 servers", lambda: several.put_table(
             frame, servers, ("id", []), "u"))

@@ -43,7 +43,7 @@ abbrev pub query_line : Fault → List ℕ
 query_line TableMissing = codes "`flightscan tables` prints the names; their case counts\n"
 query_line UnknownName = codes "a name stands for no column, or for several; its case counts\n"
 query_line TypeClash =
-    codes "compare numbers with numbers, 'texts' with texts, DATE '2026-11-28' with dates\n"
+    codes "compare numbers with numbers, 'texts' with texts, else by a word: DATE '2026-11-28'\n"
 query_line BadTicket = codes "the tables are no longer those of the query: ask again\n"
 query_line VersionExpired = codes "the tables of the query have expired: ask again\n"
 query_line ResultTooLarge =

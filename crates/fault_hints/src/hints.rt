@@ -49,7 +49,7 @@ fn query_line(fault: Fault) -> &'static [u8]
         Fault::TableMissing => b"`flightscan tables` prints the names; their case counts\n",
         Fault::UnknownName => { b"a name stands for no column, or for several; its case counts\n" }
         Fault::TypeClash => {
-            b"compare numbers with numbers, 'texts' with texts, DATE '2026-11-28' with dates\n"
+            b"compare numbers with numbers, 'texts' with texts, else by a word: DATE '2026-11-28'\n"
         }
         Fault::BadTicket => b"the tables are no longer those of the query: ask again\n",
         Fault::VersionExpired => b"the tables of the query have expired: ask again\n",

@@ -39,7 +39,7 @@ fn kind_name(kind: u64) -> &'static str
         4 => "binary",
         8 => "date64",
         9 => "time",
-        10 => "timestamp",
+        10 => "timestamp of another unit or zone",
         11 => "interval",
         12 => "list",
         13 => "struct",
