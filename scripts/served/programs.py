@@ -746,4 +746,4 @@ def other_servers(run: Run) -> None:
         status, out, said = told(run, answer)
         same(f"the end behind {answer.hex()}", (3, b"", True), (status, out, said.startswith(TRANSPORT)))
     same("a fault", answered("F14 UnknownName", NAMES), told(run, status_of("F14 UnknownName", 5)))
-    same("no fault of ours", found("F1 BadFrame", STRANGE)[2], told(run, status_of("F99 Other", 3))[2])
+    same("no fault of ours", b"fault: F1 BadFrame\n", told(run, status_of("F99 Other", 3))[2])
