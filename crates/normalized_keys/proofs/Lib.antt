@@ -1,0 +1,12 @@
+pub mod Bytes
+pub mod Chains
+pub mod Fields
+pub mod Numbers
+pub mod Order
+pub mod OwnPacks
+pub mod Packs
+pub mod Rows
+pub mod SameGroups
+pub mod ShortLists
+pub mod Staying
+pub mod Texts

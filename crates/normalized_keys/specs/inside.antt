@@ -1,0 +1,2 @@
+-- Inside: chains of keys.
+pub mod Chaining
