@@ -1,0 +1,4 @@
+pub mod Blocks
+pub mod EntryWords
+pub mod KeyLayouts
+pub mod Parts
