@@ -17,3 +17,4 @@ pub mod Padded
 pub mod Merging
 pub mod Knowing
 pub mod OneColumn
+pub mod Wording

@@ -7,3 +7,4 @@ pub mod Knowing
 pub mod Merging
 pub mod Placing
 pub mod Seeing
+pub mod Wording

@@ -1,6 +1,6 @@
 //! What is kept of the rows that were fed.
 
-ghost use Rattle.std.specs.Prelude.{◌≡◌, ◌≤◌, ◌<◌, ◌+◌, All, IfOk, IsTrue, ℕ, [], List, OnOk};
+ghost use Rattle.std.specs.Prelude.{◌≡◌, ◌≤◌, ◌<◌, ◌+◌, All, IfOk, IsTrue, ℕ, [], List, None, OnOk};
 ghost use Rattle.std.specs.Prelude.{length, map, nat_lt};
 ghost use Rattle.std.specs.List.{list_all};
 ghost use Rattle.scan_base.specs.Limits.{most_rows};
@@ -16,6 +16,7 @@ ghost use Rattle.grouping.specs.inside.Knowing.{AreKnown};
 ghost use Rattle.grouping.specs.inside.Merging.{FirstsJoin, IsMerged};
 ghost use Rattle.grouping.specs.inside.Placing.{found_by, ArePlaced, FirstsStay, IsFirst};
 ghost use Rattle.grouping.specs.inside.Seeing.{AreSeenOf};
+ghost use Rattle.grouping.specs.inside.Wording.{AreWordsOf};
 
 use crate::coded_groups::place_by_codes;
 use crate::groups::Grouping;
@@ -23,6 +24,7 @@ use crate::known_keys::{KnownKey, know_nothing, known_count};
 use crate::other_groups::{OtherGroups, join_all};
 use crate::seen_batch::SeenBatch;
 use crate::table::{ChosenRows, groups_of};
+use crate::word_keys::WordKeys;
 use first_rows::FirstRows;
 use group_slots::{ItemTallies, RowGroups, add_all};
 use std::alloc::{AllocError, Global};
@@ -35,8 +37,12 @@ const LEAST_ROWS: usize = 16;
 // Of fewer groups keys are known even where each row opens one.
 const LEAST_GROUPS: usize = 256;
 
+// Of more groups keys are found by their words.
+const MOST_KNOWN: usize = 4_096;
+
 /// The first row of each group, for each item the tally of each group, how many rows were fed,
-/// which keys are known by a number, and which long texts of keys were seen in the last batch.
+/// which keys are known by a number, which long texts of keys were seen in the last batch, and the
+/// words of keys.
 #[derive(Drop)]
 pub(crate) struct GroupState<'t> {
     pub(crate) firsts: FirstRows<'t>,
@@ -44,6 +50,7 @@ pub(crate) struct GroupState<'t> {
     pub(crate) count: usize,
     pub(crate) known: Vec<KnownKey>,
     pub(crate) seen: SeenBatch,
+    pub(crate) words: WordKeys,
 }
 
 /// Feeds the chosen rows.
@@ -67,6 +74,7 @@ pub(crate) fn add<'t>(
     requires known { AreKnown value_tagged (map key_of kept.old.firsts.keys) kept.old.known.items }
     requires seen { AreSeenOf kept.old.firsts.texts chosen.now.batch.now chosen.now.columns.now
         kept.old.seen.numbers }
+    requires words { AreWordsOf (map key_of kept.old.firsts.keys) kept.old.words.table }
     ensures grown { OnOk result
         (IsGrown items.now chosen.now.batch.now.columns chosen.now.columns.now chosen.now.rows.now
         (found_by chosen.now.columns.now kept.old.firsts.keys)
@@ -82,6 +90,8 @@ pub(crate) fn add<'t>(
     ensures seen { OnOk result (AreSeenOf kept.new.firsts.texts chosen.now.batch.now
         chosen.now.columns.now kept.new.seen.numbers) }
     ensures batch { OnOk result (kept.new.seen.number ≡ kept.old.seen.number) }
+    ensures words { OnOk result
+        (AreWordsOf (map key_of kept.new.firsts.keys) kept.new.words.table) }
 {
     let groups = place_kept(alloc, kept, chosen)?;
     let found = found_count(chosen.columns, &kept.firsts);
@@ -96,9 +106,8 @@ pub(crate) fn add<'t>(
     Ok(())
 }
 
-// The group of each of these rows, by what is known of keys. Where the key is not one column, or
-// most rows opened a group, that is left aside. Then a long text that was seen in the batch is not
-// looked at.
+// The group of each of these rows, by what is known of keys. Where the key is not one column, most
+// rows opened a group, or there are many groups, they are found by their words.
 fn place_kept<'t>(
     alloc: Global,
     kept: &mut GroupState<'t>,
@@ -110,6 +119,7 @@ fn place_kept<'t>(
     requires known { AreKnown value_tagged (map key_of kept.old.firsts.keys) kept.old.known.items }
     requires seen { AreSeenOf kept.old.firsts.texts chosen.now.batch.now chosen.now.columns.now
         kept.old.seen.numbers }
+    requires words { AreWordsOf (map key_of kept.old.firsts.keys) kept.old.words.table }
     ensures found { OnOk result (found_by chosen.now.columns.now kept.new.firsts.keys
         ≡ found_then chosen.now.columns.now (found_by chosen.now.columns.now kept.old.firsts.keys)
         (map (row_of chosen.now.batch.now.columns) chosen.now.rows.now)) }
@@ -124,15 +134,57 @@ fn place_kept<'t>(
     ensures batch { OnOk result (kept.new.seen.number ≡ kept.old.seen.number) }
     ensures tallies { OnOk result (kept.new.tallies ≡ kept.old.tallies) }
     ensures count { OnOk result (kept.new.count ≡ kept.old.count) }
+    ensures words { OnOk result
+        (AreWordsOf (map key_of kept.new.firsts.keys) kept.new.words.table) }
 {
     let found = kept.firsts.len();
     let is_new_mostly = found > LEAST_GROUPS && kept.count / 2 < found;
-    if chosen.columns.len() != 1 || is_new_mostly {
-        return place_by_codes(alloc, &mut kept.firsts, &mut kept.seen.numbers, chosen);
+    let has_many = found > MOST_KNOWN || kept.words.are_made();
+    if chosen.columns.len() != 1 || is_new_mostly || has_many {
+        return place_by_words(alloc, kept, chosen);
     }
+    kept.words.forget();
     kept.seen.numbers.forget();
     make_known(&mut kept.known, found, chosen.rows.len())?;
     groups_of(alloc, &mut kept.firsts, kept.known.as_mut_slice(), chosen)
+}
+
+// The group of each of these rows, by the words of their keys, or else by the first rows. Then a
+// long text that was seen in the batch is not looked at.
+fn place_by_words<'t>(
+    alloc: Global,
+    kept: &mut GroupState<'t>,
+    chosen: &ChosenRows<'t, '_>,
+) -> Result<Vec<u32>, AllocError>
+    requires keys { IsTrue (list_all (λ column. nat_lt column (length chosen.now.batch.now.columns))
+        chosen.now.columns.now) }
+    requires within { All (λ row. row < chosen.now.batch.now.rows) chosen.now.rows.now }
+    requires known { AreKnown value_tagged (map key_of kept.old.firsts.keys) kept.old.known.items }
+    requires seen { AreSeenOf kept.old.firsts.texts chosen.now.batch.now chosen.now.columns.now
+        kept.old.seen.numbers }
+    requires words { AreWordsOf (map key_of kept.old.firsts.keys) kept.old.words.table }
+    ensures found { OnOk result (found_by chosen.now.columns.now kept.new.firsts.keys
+        ≡ found_then chosen.now.columns.now (found_by chosen.now.columns.now kept.old.firsts.keys)
+        (map (row_of chosen.now.batch.now.columns) chosen.now.rows.now)) }
+    ensures placed { IfOk result (λ groups. ArePlaced chosen.now.columns.now
+        chosen.now.batch.now.columns (found_by chosen.now.columns.now kept.new.firsts.keys)
+        chosen.now.rows.now groups.items (length chosen.now.rows.now)) }
+    ensures firsts { OnOk result (FirstsStay chosen.now kept.old.firsts.keys kept.new.firsts.keys) }
+    ensures known { OnOk result
+        (AreKnown value_tagged (map key_of kept.new.firsts.keys) kept.new.known.items) }
+    ensures seen { OnOk result (AreSeenOf kept.new.firsts.texts chosen.now.batch.now
+        chosen.now.columns.now kept.new.seen.numbers) }
+    ensures batch { OnOk result (kept.new.seen.number ≡ kept.old.seen.number) }
+    ensures tallies { OnOk result (kept.new.tallies ≡ kept.old.tallies) }
+    ensures count { OnOk result (kept.new.count ≡ kept.old.count) }
+    ensures words { OnOk result
+        (AreWordsOf (map key_of kept.new.firsts.keys) kept.new.words.table) }
+{
+    let numbers = &mut kept.seen.numbers;
+    if let Some(groups) = kept.words.place(&mut kept.firsts, numbers, chosen)? {
+        return Ok(groups);
+    }
+    place_by_codes(alloc, &mut kept.firsts, &mut kept.seen.numbers, chosen)
 }
 
 // Makes room for what will be known of the keys of more rows, where so many groups were found: the
@@ -186,9 +238,11 @@ impl<'t> GroupState<'t> {
         ensures known { OnOk result
             (AreKnown value_tagged (map key_of self.new.firsts.keys) self.new.known.items) }
         ensures seen { OnOk result (self.new.seen.numbers.places.items ≡ []) }
+        ensures words { OnOk result (self.new.words.table ≡ None) }
         ensures ready { OnOk result (W.ready watch.new) }
         ensures watched { W.watched watch.old watch.new }
     {
+        self.words.forget();
         self.seen.numbers.forget();
         know_nothing(&mut self.known, 0)?;
         let groups = shape.join_firsts(alloc, &mut self.firsts, &other.firsts, watch)?;

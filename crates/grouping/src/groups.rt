@@ -14,6 +14,7 @@ use crate::group_state::{GroupState, add, blank, found_count};
 use crate::known_keys::SPREAD;
 use crate::seen_batch::SeenBatch;
 use crate::table::ChosenRows;
+use crate::word_keys::WordKeys;
 use array_select::Selection;
 use arrays::Batch;
 use arrow_types::DataType;
@@ -114,6 +115,7 @@ impl<'t> Groups<'t> {
                 count: 0,
                 known: Vec::new(alloc),
                 seen: SeenBatch::new(alloc, seed, shape.keys.len()),
+                words: WordKeys::new(alloc),
             },
             refused: None,
         })
@@ -205,6 +207,7 @@ impl<'t> Groups<'t> {
     {
         self.kept.seen.numbers.forget();
         self.kept.known = Vec::new(*self.kept.known.allocator());
+        self.kept.words.forget();
     }
 
     /// Takes the groups of other rows of the same batches after the own: each joins that of its

@@ -13,6 +13,8 @@ pub mod laws;
 mod other_groups;
 mod seen_batch;
 mod table;
+mod word_keys;
+mod word_table;
 
 pub use crate::group_answers::Answers;
 pub use crate::groups::{Grouping, Groups};

@@ -11,6 +11,7 @@ use Rattle.first_rows.specs.RowKeys.{key_of}
 use Rattle.grouping.specs.inside.Knowing.{AreKnown}
 use Rattle.grouping.specs.inside.Placing.{found_by, IsFirst}
 use Rattle.grouping.specs.inside.Seeing.{AreSeenIn}
+use Rattle.grouping.specs.inside.Wording.{AreWordsOf}
 
 -- the batches are of the types, and keys and items name columns that are there
 pub record IsShape (shape : Grouping) : Type 0 where
@@ -30,3 +31,4 @@ pub record IsGroups (shape : Grouping) (groups : GroupState) (refused : Option F
       AreKnown value_tagged (map key_of groups.firsts.keys) groups.known.items
   pub seen_are : refused ≡ None →
       AreSeenIn groups.firsts.texts shape.batches.now shape.keys.now groups.seen
+  pub words_are : refused ≡ None → AreWordsOf (map key_of groups.firsts.keys) groups.words.table

@@ -42,6 +42,7 @@ invariant_of-self c =
       seen_are = λ none. subst (λ (batch : BatchAt). AreSeenOf c.add.new.kept.firsts.texts batch c.self.inside.shape.keys.now c.add.new.kept.seen.numbers)
           ((at (goal.at.invariant_of-self c).After-index-self-number).stands.same ∙ ap (batch_at c.self.inside.shape.batches.now) (sym (c.in-Ok.ensures.batch ∙ c.turn_to.ensures.number)))
           c.in-Ok.ensures.seen;
+      words_are = λ none. c.in-Ok.ensures.words;
       first = λ none. c.in-Ok.ensures.firsts c.self.inside.shape.batches.now (at (goal.at.invariant_of-self c).After-index-self-number).stands (c.self.invariant.first none);
     }
 
@@ -53,6 +54,9 @@ returns-in-Ok c =
 
 pub add-requires-clause-known : goal.add-requires-clause-known
 add-requires-clause-known c = c.self.invariant.known_are c.in_default.is
+
+pub add-requires-clause-words : goal.add-requires-clause-words
+add-requires-clause-words c = c.self.invariant.words_are c.in_default.is
 
 pub add-requires-clause-seen : goal.add-requires-clause-seen
 add-requires-clause-seen c =

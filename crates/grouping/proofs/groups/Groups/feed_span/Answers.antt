@@ -65,6 +65,7 @@ invariant_of-self c =
       first = c.self.invariant.first;
       known_are = c.self.invariant.known_are;
       seen_are = c.self.invariant.seen_are;
+      words_are = c.self.invariant.words_are;
     }
 
 pub returns-in-Ok : goal.returns-in-Ok

@@ -4,6 +4,7 @@ use Rattle.group_slots.specs.Adding.{IsKept, lists_of}
 use Rattle.first_rows.specs.declared.key.RowKey.{RowKey}
 use Rattle.grouping.specs.inside.Placing.{found_by, IsFirst}
 use Rattle.grouping.proofs.Blank.{kept_blank, found_first, holds_none}
+use Rattle.grouping.proofs.Wording.{no_words}
 use Rattle.grouping.proofs.groups.Groups.new.Goals as goal
 
 pub invariant_of-result : goal.invariant_of-result
@@ -18,6 +19,7 @@ invariant_of-result c =
       few = λ _. omega arith;
       known_are = λ _ k d low. absurd (omega (arith, low, ap length c.new.ensures.items));
       seen_are = λ _ k d low. absurd (omega (arith, low, ap length c.new-2.ensures));
+      words_are = λ _. no_words _ _ c.new-3.ensures;
       first = λ _. subst (λ (firsts : List RowKey). All (IsFirst shape.batches.now shape.keys.now) firsts) (sym none) (All-nil (IsFirst shape.batches.now shape.keys.now));
     }
 
