@@ -11,7 +11,9 @@ use Rattle.arrow_types.specs.declared.data_type.IntegerType.{IntegerType}
 use Rattle.arrays.specs.Dictionary.{entry_at}
 use Rattle.arrays.specs.Indices.{AreIndices, IndicesAt, entry_of}
 use Rattle.arrays.specs.Integers.{AreIntegers, IntegersAt}
-use Rattle.arrays.specs.Layout.{layout_slot}
+use Rattle.arrays.specs.Column.{ColumnAt, IsColumn, slot_of}
+use Rattle.arrays.specs.Layout.{layout_count, layout_slot}
+use Rattle.arrays.specs.declared.layout.Layout.{Layout}
 use Rattle.arrays.specs.Number.{byte_width, element_at, integer_at, number_from}
 use Rattle.arrays.specs.Texts.{TextsAt, texts_slot}
 use Rattle.arrays.specs.Validity.{HasBits, IsLong, is_valid}
@@ -34,7 +36,15 @@ number_room width len place values room low =
     let under : place + 1 ≤ len = omega (arith, low) in
     omega (arith, room, mul-le-mul_left width under)
 
+-- the slots of a column are in its layout
+pub room_there : (column : ColumnAt) (slots : Layout) (first len : ℕ) → IsColumn column → column.layout ≡ slots → first ≡ column.first → len ≡ column.len → first + len ≤ layout_count slots
+room_there column slots first len stands is at long = omega (arith, stands.within, ap layout_count is, at, long)
+
 -- ---- values
+
+-- and have its values
+pub cells_there : (column : ColumnAt) (slots : Layout) (first : ℕ) → column.layout ≡ slots → first ≡ column.first → (row : ℕ) → layout_slot slots (first + row) ≡ slot_of column row
+cells_there column slots first is at row = ap (λ (l : Layout). layout_slot l (first + row)) (sym is) ∙ ap (λ (n : ℕ). layout_slot column.layout (n + row)) at
 
 -- the integer of a slot
 pub number_there : (cells : IntegersAt) (kind : IntegerType) (place : ℕ) (valid : Bool) (number : ℤ) (values : List ℕ) → cells.integer ≡ kind → values ≡ cells.values →

@@ -118,6 +118,7 @@ impl<'a> ColumnRows<'a> {
     }
 
     // The same, where they have up to 32 bits.
+    #[tactic(auto, using(crate::proofs::Slots::room_there, crate::proofs::Slots::cells_there))]
     fn put_small<N: SmallInteger>(
         &self,
         cells: Integers<'a>,
@@ -132,16 +133,18 @@ impl<'a> ColumnRows<'a> {
         ensures long { length words.new ≡ length words.old }
         ensures written { result ≡ true → AddsColumn self.now place.now words.old words.new }
     {
+        let rows = self.column.len();
         let cells: SmallCells<'_, N> = SmallCells {
             cells,
             first: self.column.first(),
-            rows: self.column.len(),
+            rows,
             of: PhantomData,
         };
         self.put_cells(&cells, place, words)
     }
 
     // The same, where they have 64 bits with a sign.
+    #[tactic(auto, using(crate::proofs::Slots::room_there, crate::proofs::Slots::cells_there))]
     fn put_long(&self, cells: Integers<'a>, place: &WordsPlace, words: &mut [u64]) -> bool
         requires is { self.now.column.now.layout ≡ layout.Integers cells }
         requires kind { cells.integer ≡ Int64 }
@@ -160,6 +163,7 @@ impl<'a> ColumnRows<'a> {
     }
 
     // The same, where these are the column's texts.
+    #[tactic(auto, using(crate::proofs::Slots::room_there, crate::proofs::Slots::cells_there))]
     fn put_texts(&self, texts: TextsRef<'a>, place: &WordsPlace, words: &mut [u64]) -> bool
         requires is { self.now.column.now.layout ≡ layout.Texts texts }
         requires rows { AreColumnRows self.now }
@@ -238,6 +242,7 @@ impl<'a> ColumnRows<'a> {
     }
 
     // The same, where the indices have a width.
+    #[tactic(auto, using(crate::proofs::Slots::room_there, crate::proofs::Slots::cells_there))]
     fn put_codes<C: Code>(
         &self,
         cells: Indices<'a>,
@@ -293,8 +298,9 @@ impl<'a> ColumnRows<'a> {
         let mut held = true;
         for k in 0..self.rows.len() {
             let from = k * place.width + place.begin;
+            let end = from + place.count;
             let row = self.rows[k] as usize;
-            held = held & cells.put(row, &mut words[from..from + place.count]);
+            held = held & cells.put(row, &mut words[from..end]);
         }
         held
     }

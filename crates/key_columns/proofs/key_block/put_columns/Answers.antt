@@ -82,7 +82,7 @@ loop-place-preserved c =
           let key = key_value r.batch.now.columns r.rows.now r.columns.now k place column within (omega (arith, low, c.requires.fields)) (there at) in
           (key.0, key.1 ∙ ap (λ (column : ColumnAt). slot_of column (get_or r.rows.now k 0)) (sym (is at))))
           (λ put texts k below.
-          let done = c.in_ok-fits.ensures put texts k (omega (arith, below, many at)) in
+          let done = c.in_ok-fits.ensures.written put texts k (omega (arith, below, many at)) in
           subst (λ (width : ℕ). (words_before (c.loop-place.begin + c.field_count.result) width k c.put.new.words
           ≡ words_before c.loop-place.begin width k c.loop-place.words ++ field_words texts field (value k)) × FitsField texts field (value k)) c.width.ensures done);
     }

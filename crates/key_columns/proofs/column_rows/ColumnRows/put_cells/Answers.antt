@@ -16,6 +16,21 @@ loop-k-init g c = record {
   left = λ k high. refl;
 }
 
+pub overflow_mul-from : goal.overflow_mul-from
+overflow_mul-from g c =
+    let p = c.args.place.now in
+    record { fits = omega (arith, c.requires.room.within, c.requires.room.long, c.loop-k.invariant.long, suc-mul c.loop-k.k p.width, mul-le-mul_right p.width c.loop-k-test.true) }
+
+pub overflow_add-from : goal.overflow_add-from
+overflow_add-from g c =
+    let p = c.args.place.now in
+    record { fits = omega (arith, c.requires.room.within, c.requires.room.long, c.loop-k.invariant.long, suc-mul c.loop-k.k p.width, mul-le-mul_right p.width c.loop-k-test.true) }
+
+pub overflow_add-end : goal.overflow_add-end
+overflow_add-end g c =
+    let p = c.args.place.now in
+    record { fits = omega (arith, c.requires.room.within, c.requires.room.long, c.loop-k.invariant.long, suc-mul c.loop-k.k p.width, mul-le-mul_right p.width c.loop-k-test.true) }
+
 pub loop-k-preserved : goal.loop-k-preserved
 loop-k-preserved g c =
     let p = c.args.place.now in
