@@ -8,6 +8,7 @@ ghost use Rattle.arrays.specs.Batch.{row_of};
 ghost use Rattle.key_columns.specs.Blocks.{key_rows};
 ghost use Rattle.first_rows.specs.RowKeys.{key_of};
 ghost use Rattle.grouping.specs.FoundKeys.{found_then};
+ghost use Rattle.grouping.specs.inside.Knowing.{StayKnown};
 ghost use Rattle.grouping.specs.inside.Placing.{ArePlaced, FirstsStay, IsFinding, found_by};
 ghost use Rattle.grouping.specs.inside.Seeing.{AreSeenOf};
 ghost use Rattle.grouping.specs.inside.Wording.{AreKeyPlaces, AreWordsOf, chosen_keys, found_with};
@@ -74,8 +75,9 @@ impl WordKeys {
         requires seen { AreSeenOf firsts.old.texts chosen.now.batch.now chosen.now.columns.now
             numbers.old }
         ensures none { IfOk result (λ groups. groups ≡ None → self.new.table ≡ None) }
-        ensures firsts { IfOk result (λ groups. groups ≡ None → firsts.new ≡ firsts.old) }
-        ensures numbers { IfOk result (λ groups. groups ≡ None → numbers.new ≡ numbers.old) }
+        ensures same_firsts { IfOk result (λ groups. groups ≡ None → firsts.new ≡ firsts.old) }
+        ensures same_numbers { IfOk result
+            (λ groups. groups ≡ None → numbers.new ≡ numbers.old) }
         ensures found { IfOk result (λ groups. IfSome groups (λ groups.
             found_by chosen.now.columns.now firsts.new.keys
             ≡ found_then chosen.now.columns.now (found_by chosen.now.columns.now firsts.old.keys)
@@ -84,8 +86,10 @@ impl WordKeys {
             ArePlaced chosen.now.columns.now chosen.now.batch.now.columns
             (found_by chosen.now.columns.now firsts.new.keys) chosen.now.rows.now groups.items
             (length chosen.now.rows.now))) }
-        ensures stay { IfOk result (λ groups. IfSome groups (λ groups.
+        ensures firsts { IfOk result (λ groups. IfSome groups (λ groups.
             FirstsStay chosen.now firsts.old.keys firsts.new.keys)) }
+        ensures stay { IfOk result (λ groups. IfSome groups (λ groups.
+            StayKnown (map key_of firsts.old.keys) (map key_of firsts.new.keys))) }
         ensures words { IfOk result (λ groups. IfSome groups (λ groups.
             AreWordsOf (map key_of firsts.new.keys) self.new.table)) }
         ensures seen { IfOk result (λ groups. IfSome groups (λ groups.
@@ -101,7 +105,8 @@ impl WordKeys {
             rows: chosen.rows,
         };
         self.make(firsts, &rows)?;
-        let Some(places) = self.places(&rows)? else {
+        let placed = self.places(&rows)?;
+        let Some(places) = placed else {
             return Ok(None);
         };
         open_groups(firsts, numbers, chosen, places.as_slice())?;

@@ -55,7 +55,8 @@ impl WordTable {
                 columns: first.columns,
                 rows: &row,
             };
-            let Some(_places) = words.place(alloc, block, &one)? else {
+            let placed = words.place(alloc, block, &one)?;
+            let Some(_places) = placed else {
                 return Ok(None);
             };
             let many = words.table.len();

@@ -10,7 +10,7 @@ loop-place-preserved c =
     let place = c.loop-place.place in
     let first = c.get-first.result in
     let low : place < length keys = omega (arith, c.loop-place-test.true, c.len.ensures) in
-    let words = rw c.in-Some.is at c.in_ok-place.ensures.words in
+    let words = rw c.in-Some.is at c.in_ok-placed.ensures.words in
     group_more (map key_of keys) place (key_of first) c.place.new.self (omega (arith, low, length-map keys key_of))
     (ap key_of c.get-first.ensures ∙ sym (get_or-map key_of keys place first [] low))
     (words (take place (map key_of keys)) c.loop-place.invariant) (omega (arith, c.len-many.ensures, c.if-many-place.false))
