@@ -1,9 +1,16 @@
 -- Words of entries, one entry after another.
-use Rattle.std.proofs.Common.{◌≡◌, ◌≢◌, ◌<◌, ◌+◌, ◌*◌, ℕ, List, [], ◌∷◌, ◌++◌, length, get_or, below_more, sym, ap, ◌∙◌, subst, arith}
+use Rattle.std.proofs.Common.{◌≡◌, ◌≢◌, ◌<◌, ◌+◌, ◌*◌, ℕ, List, [], ◌∷◌, ◌++◌, length, get_or, below_more, refl, sym, ap, ◌∙◌, subst, arith}
 use Rattle.std.proofs.lemmas.List.{get_or_append_left, get_or_push, length-append}
 use Rattle.scan_base.specs.declared.value.Value.{Value}
 use Rattle.scan_base.specs.declared.value.Value.TheVariants.{Null}
 use Rattle.key_columns.specs.EntryWords.{AreEntryWords, AreWordsOf}
+
+-- two words
+pub two_words : (words : List ℕ) → length words ≡ 2 → words ≡ get_or words 0 0 ∷ get_or words 1 0 ∷ []
+two_words [] two = absurd (omega (arith, two))
+two_words (a ∷ []) two = absurd (omega (arith, two))
+two_words (a ∷ b ∷ []) two = refl
+two_words (a ∷ b ∷ c ∷ words) two = absurd (omega (arith, two))
 
 -- one entry more
 pub entries_more : (dictionary : List Value) (words : List ℕ) (index first last : ℕ) → AreEntryWords dictionary words index →

@@ -7,7 +7,7 @@ use Rattle.normalized_keys.specs.declared.key_field.KeyField.{KeyField}
 use Rattle.normalized_keys.specs.KeyTables.{cut_keys}
 use Rattle.normalized_keys.specs.KeyWords.{FitPack, fields_words, key_words, own_packs}
 use Rattle.normalized_keys.specs.Laws.{FitLayout}
-use Rattle.key_columns.specs.declared.key_block.BlockRows.{BlockRows}
+use Rattle.key_columns.specs.declared.block_rows.BlockRows.{BlockRows}
 use Rattle.key_columns.specs.declared.key_block.KeyBlock.{KeyBlock}
 use Rattle.key_columns.specs.KeyLayouts.{fields_width, words_before}
 

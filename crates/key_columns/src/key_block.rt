@@ -1,26 +1,14 @@
 //! Blocks of keys.
 
-ghost use Rattle.std.specs.Prelude.{◌≡◌, ◌<◌, ◌*◌, All, IfOk, IsTrue, length, nat_lt, true};
-ghost use Rattle.std.specs.List.{list_all};
+ghost use Rattle.std.specs.Prelude.{◌≡◌, ◌*◌, IfOk, length, true};
 ghost use Rattle.key_columns.specs.Blocks.{HaveWords, IsEncoded, key_rows};
 ghost use Rattle.key_columns.specs.KeyLayouts.{fields_width};
 
+use crate::block_rows::BlockRows;
 use crate::column_rows::{ColumnRows, WordsPlace};
 use crate::key_layout::KeyLayout;
-use arrays::Batch;
 use normalized_keys::field_count;
 use std::alloc::{AllocError, Global};
-
-/// Rows of a batch, and the columns whose values in them are their keys.
-#[derive(Clone, Copy, Drop)]
-pub struct BlockRows<'a> {
-    pub batch: &'a Batch,
-    pub columns: &'a [usize],
-    pub rows: &'a [u32],
-    ghost there: { IsTrue
-        (list_all (λ column. nat_lt column (length batch.now.columns)) columns.now) },
-    ghost within: { All (λ row. row < batch.now.rows) rows.now },
-}
 
 /// The words of keys, one key after another.
 #[derive(Drop)]

@@ -21,5 +21,5 @@ returns-clause-written c =
     let valid : is_valid s.texts.validity place ≡ true =
     ap (λ (validity : Option (List Bool)). is_valid validity place) (sym c.validity.ensures) ∙ sym c.is_valid.ensures ∙ c.if-not-is_valid.false in
     subst (λ (value : Value). IsWritten Text value c.put_text.result c.put_text.new.words)
-    (text_there s.texts place c.bounds.result.0 c.bounds.result.1 c.bytes.result.now valid c.bytes.ensures c.bounds.ensures.begin c.bounds.ensures.end)
+    (text_there s.texts place c.bounds-begin.result.0 c.bounds-begin.result.1 c.bytes.result.now valid c.bytes.ensures c.bounds-begin.ensures.begin c.bounds-begin.ensures.end)
     c.put_text.ensures.written

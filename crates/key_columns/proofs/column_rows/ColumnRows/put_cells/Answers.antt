@@ -40,11 +40,11 @@ loop-k-preserved g c =
     let row = get_or rows k 0 in
     let end : k * p.width + (p.begin + p.count) ≤ length c.loop-k.words =
     omega (arith, c.requires.room.within, c.requires.room.long, c.loop-k.invariant.long, c.loop-k-test.true, suc-mul k p.width, mul-le-mul_right p.width c.loop-k-test.true) in
-    let written : IsWritten p.field (slot_of column row) c.put.result c.put.new.words =
-    subst (λ (field : KeyField). IsWritten field (slot_of column row) c.put.result c.put.new.words) c.requires.field
-    (subst (λ (value : Value). IsWritten _ value c.put.result c.put.new.words) (c.requires.cells row) c.put.ensures.written) in
-    written_more p.field p.begin p.count p.width (λ j. slot_of column (get_or rows j 0)) c.loop-k.held c.put.result c.args.words.now c.loop-k.words c.put.new.words k
-    c.requires.room.within end (omega (arith, c.put.ensures.long)) c.loop-k.invariant written
+    let written : IsWritten p.field (slot_of column row) c.put-held.result c.put-held.new.words =
+    subst (λ (field : KeyField). IsWritten field (slot_of column row) c.put-held.result c.put-held.new.words) c.requires.field
+    (subst (λ (value : Value). IsWritten _ value c.put-held.result c.put-held.new.words) (c.requires.cells row) c.put-held.ensures.written) in
+    written_more p.field p.begin p.count p.width (λ j. slot_of column (get_or rows j 0)) c.loop-k.held c.put-held.result c.args.words.now c.loop-k.words c.put-held.new.words k
+    c.requires.room.within end (omega (arith, c.put-held.ensures.long)) c.loop-k.invariant written
 
 pub returns-clause-written : goal.returns-clause-written
 returns-clause-written g c =

@@ -21,8 +21,8 @@ returns-then-not-is_valid-clause-written g c =
     ap (λ (validity : Option (List Bool)). is_valid validity place) (sym c.validity.ensures) ∙ sym c.is_valid.ensures ∙ c.if-not-is_valid.true in
     subst (λ (value : Value). IsWritten Text value c.put_null.result c.put_null.new.words) (no_entry s.cells place valid) c.put_null.ensures.written
 
-pub code-requires : goal.code-requires
-code-requires g c =
+pub code-index-requires : goal.code-index-requires
+code-index-requires g c =
     let s = c.args.self.now in
     subst (λ (width : ℕ). width * (s.first + c.args.row + 1) ≤ length c.values.result.now) s.same
     (subst (λ (values : List ℕ). byte_width s.cells.index * (s.first + c.args.row + 1) ≤ length values) (sym c.values.ensures)
@@ -34,7 +34,7 @@ copy_words-requires-clause-there g c =
     let place = s.first + c.args.row in
     let valid : is_valid s.cells.validity place ≡ true =
     ap (λ (validity : Option (List Bool)). is_valid validity place) (sym c.validity.ensures) ∙ sym c.is_valid.ensures ∙ c.if-not-is_valid.false in
-    let led = led_to s.cells place c.code.result _ c.values.result.now c.len-count.ensures.stands (omega (arith, s.there, c.requires.row)) valid s.same c.values.ensures c.code.ensures in
+    let led = led_to s.cells place c.code-index.result _ c.values.result.now c.len-count.ensures.stands (omega (arith, s.there, c.requires.row)) valid s.same c.values.ensures c.code-index.ensures in
     omega (arith, led.0, c.requires.ready.long)
 
 pub returns-clause-written : goal.returns-clause-written
@@ -43,5 +43,5 @@ returns-clause-written g c =
     let place = s.first + c.args.row in
     let valid : is_valid s.cells.validity place ≡ true =
     ap (λ (validity : Option (List Bool)). is_valid validity place) (sym c.validity.ensures) ∙ sym c.is_valid.ensures ∙ c.if-not-is_valid.false in
-    let led = led_to s.cells place c.code.result _ c.values.result.now c.len-count.ensures.stands (omega (arith, s.there, c.requires.row)) valid s.same c.values.ensures c.code.ensures in
-    entry_written s.cells s.words.now place c.code.result c.copy_words.new.words c.copy_words.result c.requires.ready led.0 led.1 c.copy_words.ensures.words c.copy_words.ensures.held
+    let led = led_to s.cells place c.code-index.result _ c.values.result.now c.len-count.ensures.stands (omega (arith, s.there, c.requires.row)) valid s.same c.values.ensures c.code-index.ensures in
+    entry_written s.cells s.words.now place c.code-index.result c.copy_words.new.words c.copy_words.result c.requires.ready led.0 led.1 c.copy_words.ensures.words c.copy_words.ensures.held
