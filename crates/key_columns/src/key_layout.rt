@@ -131,6 +131,7 @@ fn joint_field(left: KeyField, right: KeyField) -> KeyField
 }
 
 // How many words keys of these fields have.
+#[tactic(auto, using(crate::proofs::Fields::width_more))]
 fn fields_width(fields: &[KeyField]) -> Result<usize, AllocError>
     ensures { IfOk result (λ width. width ≡ fields_width fields.now) }
 {
