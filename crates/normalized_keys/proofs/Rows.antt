@@ -1,6 +1,8 @@
 -- Keys that stand one behind another.
-use Rattle.std.proofs.Common.{◌≡◌, ℕ, zero, suc, ◌+◌, ◌*◌, ◌<◌, ◌≤◌, List, [], ◌∷◌, ◌++◌, length, take, drop, get_or, refl, ap, ◌∙◌, arith, suc-mul}
-use Rattle.std.proofs.lemmas.List.{take-append-le, drop-append-le, take_all, length-drop, drop-drop}
+use Rattle.std.proofs.Common.{◌≡◌, ℕ, zero, suc, ◌+◌, ◌*◌, ◌<◌, ◌≤◌, List, [], ◌∷◌, ◌++◌, ◌&&◌, Bool, true, false, length, take, drop, get_or, refl, sym, ap, ◌∙◌, arith, suc-mul}
+use Rattle.std.specs.Prelude.{nat_eq}
+use Rattle.std.specs.Str.{bytes_eq}
+use Rattle.std.proofs.lemmas.List.{take-append-le, drop-append-le, take_all, take_more, length-drop, length-take-le, drop-drop}
 use Rattle.normalized_keys.specs.KeyTables.{cut_keys}
 
 pub length-cut_keys : (n width : ℕ) (words : List ℕ) → length (cut_keys n width words) ≡ n
@@ -27,3 +29,35 @@ rows_more (suc n) width words key h w =
     let left : length (drop width words) ≡ n * width = omega (arith, length-drop width words, h, suc-mul n width) in
     (λ i. take-append-le width words key room i ∷ cut_keys (suc n) width (drop-append-le width words key room i))
     ∙ ap (λ (ys : List (List ℕ)). take width words ∷ ys) (rows_more n width (drop width words) key left w)
+
+-- ---- keys that are the same
+
+and_true : (p : Bool) → (p && true) ≡ p
+and_true true = refl
+and_true false = refl
+
+and_joined : (p q r : Bool) → (p && (q && r)) ≡ ((p && q) && r)
+and_joined true q r = refl
+and_joined false q r = refl
+
+eq_append : (a b : List ℕ) (x y : ℕ) → length a ≡ length b → bytes_eq (a ++ x ∷ []) (b ++ y ∷ []) ≡ (bytes_eq a b && nat_eq x y)
+eq_append [] [] x y long = and_true (nat_eq x y)
+eq_append [] (q ∷ b) x y long = absurd (omega (arith, long))
+eq_append (p ∷ a) [] x y long = absurd (omega (arith, long))
+eq_append (p ∷ a) (q ∷ b) x y long =
+    ap (λ (t : Bool). nat_eq p q && t) (eq_append a b x y (omega (arith, long))) ∙ and_joined (nat_eq p q) (bytes_eq a b) (nat_eq x y)
+
+-- with one word more
+pub eq_more : (k : ℕ) (a b : List ℕ) → length a ≡ length b → k < length a →
+    bytes_eq (take (k + 1) a) (take (k + 1) b) ≡ (bytes_eq (take k a) (take k b) && nat_eq (get_or a k 0) (get_or b k 0))
+eq_more k a b long low =
+    ap (λ (xs : List ℕ). bytes_eq xs (take (k + 1) b)) (take_more a k 0 low)
+    ∙ ap (bytes_eq (take k a ++ get_or a k 0 ∷ [])) (take_more b k 0 (omega (arith, long, low)))
+    ∙ eq_append (take k a) (take k b) (get_or a k 0) (get_or b k 0)
+      (omega (arith, length-take-le k a (omega (arith, low)), length-take-le k b (omega (arith, long, low))))
+
+-- and with all
+pub eq_all : (k : ℕ) (a b : List ℕ) → length a ≡ length b → k ≡ length a → bytes_eq (take k a) (take k b) ≡ bytes_eq a b
+eq_all k a b long all =
+    ap (λ (xs : List ℕ). bytes_eq xs (take k b)) (take_all k a (omega (arith, all)))
+    ∙ ap (bytes_eq a) (take_all k b (omega (arith, all, long)))

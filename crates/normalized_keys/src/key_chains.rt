@@ -89,7 +89,7 @@ impl KeyChains {
         ensures { result ≡ bytes_eq (get_or (chain_keys self.now) number []) key.now }
     {
         let begin = number * self.width;
-        &self.words[begin..begin + self.width] == key
+        are_same(&self.words[begin..begin + self.width], key)
     }
 
     // The number of a key, where it is there.
@@ -280,7 +280,7 @@ impl KeyChains {
         Ok(number)
     }
 
-    // Makes four times as many buckets.
+    // Makes twice as many buckets.
     fn grow(&mut self, alloc: Global) -> Result<(), AllocError>
         requires { AreChains self.old }
         ensures chains { AreChains self.new }
@@ -291,7 +291,7 @@ impl KeyChains {
         if self.mask >= MOST_BUCKETS {
             return Ok(());
         }
-        let mask = 4 * self.mask + 3;
+        let mask = 2 * self.mask + 1;
         self.heads = no_heads(alloc, mask + 1)?;
         self.mask = mask;
         for number in 0..self.links.len() {
@@ -312,6 +312,21 @@ impl KeyChains {
         self.links[number] = self.heads[bucket];
         self.heads[bucket] = number as u32 + 1;
     }
+}
+
+// Whether two keys of one width are the same. Each word is looked at: the loop has no way out, and
+// a call that compares memory would cost more than the few words that a key has.
+#[inline]
+#[tactic(auto, using(crate::proofs::Rows::eq_more, crate::proofs::Rows::eq_all))]
+fn are_same(left: &[u64], right: &[u64]) -> bool
+    requires { length left.now ≡ length right.now }
+    ensures { result ≡ bytes_eq left.now right.now }
+{
+    let mut same = true;
+    for place in 0..left.len() {
+        same = same & (left[place] == right[place]);
+    }
+    same
 }
 
 // So many buckets without a key.

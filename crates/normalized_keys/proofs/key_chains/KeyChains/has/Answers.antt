@@ -11,4 +11,4 @@ returns c =
     let wide : begin + table.width - begin ≡ table.width = omega arith in
     let at : get_or (chain_keys table) c.args.number [] ≡ take table.width (drop begin table.words.items) = row_at (length table.links.items) table.width c.args.number table.words.items c.requires.number in
     let e = ap (λ (n : ℕ). take n (drop begin c.deref.result.now)) wide ∙ ap (λ (ys : List ℕ). take table.width (drop begin ys)) c.deref.ensures.value ∙ sym at in
-    c.eq.ensures ∙ ap (λ (ys : List ℕ). bytes_eq ys c.args.key.now) e
+    c.are_same.ensures ∙ ap (λ (ys : List ℕ). bytes_eq ys c.args.key.now) e
