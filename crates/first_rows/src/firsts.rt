@@ -1,73 +1,37 @@
 //! First rows by their keys.
 
-ghost use Rattle.std.specs.Prelude.{◌≡◌, ◌<◌, [], IfOk, OnOk, get_or, length};
+ghost use Rattle.std.specs.Prelude.{◌≡◌, ◌<◌, ◌++◌, [], IfOk, OnOk, get_or, length};
 ghost use Rattle.std.specs.List.{position_or_len};
 ghost use Rattle.indexmap.specs.IndexSet.{insert_key};
-ghost use Rattle.first_rows.specs.Firsts.{HasNumber, FitSeen};
-ghost use Rattle.first_rows.specs.NumberedKeys.{Puts};
-ghost use Rattle.first_rows.specs.Numbers.{AreSeen, Stay};
+ghost use Rattle.first_rows.specs.Firsts.{AreLater, FitSeen};
 ghost use Rattle.first_rows.specs.RowKeys.{same_first};
 
 use crate::key::RowKey;
-use crate::numbered_keys::NumberedKey;
-use crate::texts::TextNumbers;
+use crate::row_set::RowSet;
 use coded_keys::SeenNumbers;
-use indexmap::IndexSet;
 use scan_base::HashSeed;
 use std::alloc::{AllocError, Global};
 use std::marker::Model;
+use std::mem;
 
-/// The first row of each key, in the order in which keys came. Where the long texts of keys have
-/// numbers, two keys are compared by these and by their other values, and no long text is looked at
-/// for a row whose long texts were seen.
+/// The first row of each key, in the order in which keys came: those that a set has, and after
+/// them those that the caller found to be new. A set takes these when a key is looked for.
 #[derive(Drop)]
 pub struct FirstRows<'t> {
-    rows: IndexSet<NumberedKey<'t>, HashSeed>,
-    numbers: TextNumbers<'t>,
-    are_numbered: bool,
-}
-
-// The number of the long texts of a row's key, where these have numbers; else 0.
-fn number<'t>(
-    are_numbered: bool,
-    numbers: &mut TextNumbers<'t>,
-    seen: &mut SeenNumbers,
-    first: &RowKey<'t>,
-) -> Result<u32, AllocError>
-    requires { AreSeen numbers.old first.now.batch.now first.now.columns.now seen.old }
-    ensures stay { Stay numbers.old numbers.new }
-    ensures seen { AreSeen numbers.new first.now.batch.now first.now.columns.now seen.new }
-    ensures is { IfOk result (HasNumber are_numbered numbers.new first.now) }
-{
-    if !are_numbered {
-        return Ok(0);
-    }
-    numbers.key(seen, first)
-}
-
-// The place of a key among these, which stands after all others where it is new.
-fn put<'t>(
-    rows: &mut IndexSet<NumberedKey<'t>, HashSeed>,
-    key: NumberedKey<'t>,
-) -> Result<usize, AllocError>
-    ensures { Puts rows.old.keys key.entry result rows.new.keys }
-{
-    match rows.insert_full(key) {
-        Ok((place, _)) => Ok(place),
-        Err(_) => Err(AllocError),
-    }
+    set: RowSet<'t>,
+    later: Vec<RowKey<'t>>,
+    count: usize,
 }
 
 impl<'t> Model for FirstRows<'t> {
-    ghost use Rattle.std.specs.Prelude.{map};
-    ghost use Rattle.first_rows.specs.Firsts.{AreNumbered, FirstRowsAt};
-    ghost use Rattle.first_rows.specs.NumberedKeys.{first_of};
+    ghost use Rattle.std.specs.Prelude.{◌++◌};
+    ghost use Rattle.first_rows.specs.Firsts.{FirstRowsAt, HasLater};
 
     ghost Value = { FirstRowsAt };
 
-    ghost view = { λ f. record { keys = map first_of f.rows.keys; texts = f.numbers.texts.keys } };
+    ghost view = { λ f. record { keys = f.set.keys ++ f.later.items; texts = f.set.texts } };
 
-    ghost invariant = { λ f. AreNumbered f.are_numbered f.numbers f.rows.keys };
+    ghost invariant = { λ f. HasLater f.set.keys f.later.items f.count };
 }
 
 impl<'t> FirstRows<'t> {
@@ -77,22 +41,22 @@ impl<'t> FirstRows<'t> {
         ensures { result.keys ≡ [] }
     {
         FirstRows {
-            rows: IndexSet::with_hasher(alloc, seed),
-            numbers: TextNumbers::new(alloc, seed),
-            are_numbered,
+            set: RowSet::new(alloc, seed, are_numbered),
+            later: Vec::new(alloc),
+            count: 0,
         }
     }
 
     /// The seed of the hashes.
     pub fn seed(&self) -> HashSeed {
-        *self.rows.hasher()
+        self.set.seed()
     }
 
     /// How many keys there are.
     pub fn len(&self) -> usize
         ensures { result ≡ length self.now.keys }
     {
-        self.rows.len()
+        self.count
     }
 
     /// The first row of the key at a place.
@@ -100,7 +64,29 @@ impl<'t> FirstRows<'t> {
         requires { place < length self.now.keys }
         ensures { result ≡ get_or self.now.keys place result }
     {
-        self.rows.as_slice()[place].first()
+        let many = self.set.len();
+        if place < many {
+            return self.set.get(place);
+        }
+        self.later[place - many]
+    }
+
+    /// Puts the row of a key that no row has after all others. Nothing is hashed.
+    ///
+    /// # Errors
+    ///
+    /// `AllocError` where memory is refused. Then the rows are as they were.
+    pub fn push(&mut self, first: RowKey<'t>) -> Result<(), AllocError>
+        requires { position_or_len (same_first first) self.old.keys ≡ length self.old.keys }
+        ensures { OnOk result (self.new.keys ≡ insert_key same_first self.old.keys first.entry) }
+        ensures texts { self.new.texts ≡ self.old.texts }
+    {
+        let Some(count) = self.count.checked_add(1) else {
+            return Err(AllocError);
+        };
+        self.later.push(first)?;
+        self.count = count;
+        Ok(())
     }
 
     /// The place of a row's key, which stands after all others where it is new.
@@ -114,15 +100,16 @@ impl<'t> FirstRows<'t> {
         ensures place { IfOk result
             (λ place. place ≡ position_or_len (same_first first.entry) self.old.keys) }
     {
-        if self.are_numbered {
-            let mut seen = SeenNumbers::new(*self.rows.allocator(), self.seed(), 0);
-            return self.insert_seen(&mut seen, first);
-        }
-        let key = NumberedKey::new(first, 0);
-        put(&mut self.rows, key)
+        let settled = settle(&mut self.set, &mut self.later);
+        self.count = self.set.len();
+        settled?;
+        let place = self.set.insert(first);
+        self.count = self.set.len();
+        place
     }
 
-    /// The same. A long text whose code in the row's batch was seen is not looked at.
+    /// The same. A long text whose code in the row's batch was seen is not looked at. Where later
+    /// rows are put into the set first, what was seen is forgotten.
     ///
     /// # Errors
     ///
@@ -139,8 +126,35 @@ impl<'t> FirstRows<'t> {
             (λ place. place ≡ position_or_len (same_first first.entry) self.old.keys) }
         ensures seen { FitSeen self.new.texts first.entry seen.new }
     {
-        let texts = number(self.are_numbered, &mut self.numbers, seen, &first)?;
-        let key = NumberedKey::new(first, texts);
-        put(&mut self.rows, key)
+        if self.later.is_empty() {
+            let place = self.set.insert_seen(seen, first);
+            self.count = self.set.len();
+            return place;
+        }
+        seen.forget();
+        self.insert(first)
     }
+}
+
+// Puts the later rows into the set. Where memory is refused, some of them are lost.
+fn settle<'t>(set: &mut RowSet<'t>, later: &mut Vec<RowKey<'t>>) -> Result<(), AllocError>
+    requires { AreLater set.old.keys later.old.items }
+    ensures keys { OnOk result (set.new.keys ≡ set.old.keys ++ later.old.items) }
+    ensures later { later.new.items ≡ [] }
+{
+    let alloc = *later.allocator();
+    let rows = mem::replace(later, Vec::new(alloc));
+    put_rows(set, rows.as_slice())
+}
+
+// Puts rows of new keys into the set.
+fn put_rows<'t>(set: &mut RowSet<'t>, rows: &[RowKey<'t>]) -> Result<(), AllocError>
+    requires { AreLater set.old.keys rows.now }
+    ensures { OnOk result (set.new.keys ≡ set.old.keys ++ rows.now) }
+{
+    for place in 0..rows.len() {
+        let first = rows[place];
+        set.insert(first)?;
+    }
+    Ok(())
 }

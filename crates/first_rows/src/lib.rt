@@ -6,6 +6,7 @@ mod cell;
 pub mod firsts;
 pub mod key;
 mod numbered_keys;
+mod row_set;
 mod texts;
 
 pub use crate::firsts::FirstRows;
