@@ -1,8 +1,8 @@
 -- Keys of groups, found by their words.
-use Rattle.std.proofs.Common.{◌≡◌, ◌<◌, ℕ, zero, suc, ◌+◌, Bool, true, false, List, [], ◌∷◌, ◌++◌, length, map, get_or, take, None, Option, refl, sym, ap, ◌∙◌, subst, arith}
+use Rattle.std.proofs.Common.{◌≡◌, ◌≢◌, ◌<◌, ℕ, zero, suc, ◌+◌, Bool, true, false, List, [], ◌∷◌, ◌++◌, length, map, get_or, take, None, Option, refl, sym, ap, ◌∙◌, subst, arith}
 use Rattle.std.specs.Prelude.{nat_eq}
 use Rattle.std.specs.Bool.{Decides}
-use Rattle.std.specs.List.{list_any}
+use Rattle.std.specs.List.{list_any, position_or_len}
 use Rattle.std.proofs.Math.Seq.{take-length}
 use Rattle.std.proofs.lemmas.List.{get_or-map, length-append, length-map, length-take-le, take-map, take_all, take_more}
 use Rattle.std.proofs.lemmas.Simd.{map-map}
@@ -27,7 +27,7 @@ use Rattle.grouping.specs.declared.table.ChosenRows.{ChosenRows}
 use Rattle.grouping.specs.declared.word_table.WordTable.{WordTable}
 use Rattle.grouping.specs.inside.Placing.{ArePlaced, IsFinding, found_by}
 use Rattle.grouping.specs.inside.Wording.{AreKeyPlaces, AreWordsOf, IsWordTable, chosen_keys, found_with}
-use Rattle.grouping.proofs.Finding.{step}
+use Rattle.grouping.proofs.Finding.{any_map, place_new, position_map, step}
 
 -- ---- keys and their words
 
@@ -142,6 +142,10 @@ pub found_chosen : (chosen : ChosenRows) (found : List (List Value)) →
     found_then chosen.columns.now found (map (row_of chosen.batch.now.columns) chosen.rows.now) ≡ found_with found (chosen_keys chosen)
 found_chosen chosen found = ap (found_with found) (map-map (key_in chosen.columns.now) (row_of chosen.batch.now.columns) chosen.rows.now)
 
+-- there are as many as rows
+pub keys_long : (chosen : ChosenRows) → length (chosen_keys chosen) ≡ length chosen.rows.now
+keys_long chosen = length-map chosen.rows.now (λ row. key_in chosen.columns.now (row_of chosen.batch.now.columns row))
+
 -- the number of a row's key is its place among those found before
 pub place_now : (chosen : ChosenRows) (before firsts : List RowKey) (places groups : List ℕ) (k : ℕ) → AreKeyPlaces (map key_of before) (chosen_keys chosen) places →
     IsFinding chosen before k firsts groups → k < length chosen.rows.now →
@@ -203,3 +207,21 @@ words_all chosen before firsts groups finding =
     sym (finding.found
     ∙ ap (λ (rows : List ℕ). found_then chosen.columns.now (map key_of before) (map (row_of chosen.batch.now.columns) rows)) (take-length chosen.rows.now)
     ∙ found_chosen chosen (map key_of before))
+
+-- ---- one group
+
+-- a row whose key has a place below that after all groups has a group
+pub kept_there : (firsts : List RowKey) (first : RowKey) (place : ℕ) → place ≡ place_in (map key_of firsts) (key_of first) → place ≢ length firsts →
+    firsts ≡ insert_key same_first firsts first
+kept_there firsts first place is other = by (list_any (same_first first) firsts) refl
+  where
+    by : (t : Bool) → list_any (same_first first) firsts ≡ t → firsts ≡ insert_key same_first firsts first
+    by true e = rw e refl
+    by false e =
+        absurd (let new = place_new (map key_of firsts) (key_of first) (any_map key_of (same_key (key_of first)) firsts ∙ e) in
+        other (is ∙ new ∙ length-map firsts key_of))
+
+-- and one whose key has that place is new
+pub new_there : (firsts : List RowKey) (first : RowKey) (place : ℕ) → place ≡ place_in (map key_of firsts) (key_of first) → place ≡ length firsts →
+    position_or_len (same_first first) firsts ≡ length firsts
+new_there firsts first place is last = sym (position_map key_of (same_key (key_of first)) firsts) ∙ sym is ∙ last

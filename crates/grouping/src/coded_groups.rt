@@ -140,8 +140,8 @@ fn told(groups: &[u32], earlier: usize) -> Option<u32>
     }
 }
 
-/// The group of a row: that of an earlier one, which has its key, or else by the first rows.
-pub(crate) fn coded_group<'t>(
+// The group of a row: that of an earlier one, which has its key, or else by the first rows.
+fn coded_group<'t>(
     firsts: &mut FirstRows<'t>,
     seen: &mut SeenNumbers,
     told: Option<u32>,

@@ -93,7 +93,7 @@ pub(crate) fn add<'t>(
     ensures words { OnOk result
         (AreWordsOf (map key_of kept.new.firsts.keys) kept.new.words.table) }
 {
-    let groups = place_kept(alloc, kept, chosen)?;
+    let groups = place_rows(alloc, kept, chosen)?;
     let found = found_count(chosen.columns, &kept.firsts);
     let part = RowGroups {
         batch: chosen.batch,
@@ -106,8 +106,56 @@ pub(crate) fn add<'t>(
     Ok(())
 }
 
-// The group of each of these rows, by what is known of keys. Where the key is not one column, most
-// rows opened a group, or there are many groups, they are found by their words.
+// The group of each of these rows: by the words of their keys, where these are wanted and a layout
+// holds each key, and else by what is known of keys and the first rows.
+fn place_rows<'t>(
+    alloc: Global,
+    kept: &mut GroupState<'t>,
+    chosen: &ChosenRows<'t, '_>,
+) -> Result<Vec<u32>, AllocError>
+    requires keys { IsTrue (list_all (λ column. nat_lt column (length chosen.now.batch.now.columns))
+        chosen.now.columns.now) }
+    requires within { All (λ row. row < chosen.now.batch.now.rows) chosen.now.rows.now }
+    requires known { AreKnown value_tagged (map key_of kept.old.firsts.keys) kept.old.known.items }
+    requires seen { AreSeenOf kept.old.firsts.texts chosen.now.batch.now chosen.now.columns.now
+        kept.old.seen.numbers }
+    requires words { AreWordsOf (map key_of kept.old.firsts.keys) kept.old.words.table }
+    ensures found { OnOk result (found_by chosen.now.columns.now kept.new.firsts.keys
+        ≡ found_then chosen.now.columns.now (found_by chosen.now.columns.now kept.old.firsts.keys)
+        (map (row_of chosen.now.batch.now.columns) chosen.now.rows.now)) }
+    ensures placed { IfOk result (λ groups. ArePlaced chosen.now.columns.now
+        chosen.now.batch.now.columns (found_by chosen.now.columns.now kept.new.firsts.keys)
+        chosen.now.rows.now groups.items (length chosen.now.rows.now)) }
+    ensures firsts { OnOk result (FirstsStay chosen.now kept.old.firsts.keys kept.new.firsts.keys) }
+    ensures known { OnOk result
+        (AreKnown value_tagged (map key_of kept.new.firsts.keys) kept.new.known.items) }
+    ensures seen { OnOk result (AreSeenOf kept.new.firsts.texts chosen.now.batch.now
+        chosen.now.columns.now kept.new.seen.numbers) }
+    ensures batch { OnOk result (kept.new.seen.number ≡ kept.old.seen.number) }
+    ensures tallies { OnOk result (kept.new.tallies ≡ kept.old.tallies) }
+    ensures count { OnOk result (kept.new.count ≡ kept.old.count) }
+    ensures words { OnOk result
+        (AreWordsOf (map key_of kept.new.firsts.keys) kept.new.words.table) }
+{
+    let wanted = wants_words(kept, chosen.columns.len());
+    let placed = kept.words.place(&mut kept.firsts, chosen, wanted)?;
+    if let Some(groups) = placed {
+        return Ok(groups);
+    }
+    place_kept(alloc, kept, chosen)
+}
+
+// Whether keys are to be found by their words: where a key is not one column, most rows opened a
+// group, or there are many groups. Once they are made they are used for all rows.
+fn wants_words(kept: &GroupState<'_>, columns: usize) -> bool {
+    let found = kept.firsts.len();
+    let is_new_mostly = found > LEAST_GROUPS && kept.count / 2 < found;
+    columns != 1 || is_new_mostly || found > MOST_KNOWN || kept.words.are_made()
+}
+
+// The group of each of these rows, by what is known of keys. Where the key is not one column, or
+// most rows opened a group, that is left aside. Then a long text that was seen in the batch is not
+// looked at.
 fn place_kept<'t>(
     alloc: Global,
     kept: &mut GroupState<'t>,
@@ -119,7 +167,6 @@ fn place_kept<'t>(
     requires known { AreKnown value_tagged (map key_of kept.old.firsts.keys) kept.old.known.items }
     requires seen { AreSeenOf kept.old.firsts.texts chosen.now.batch.now chosen.now.columns.now
         kept.old.seen.numbers }
-    requires words { AreWordsOf (map key_of kept.old.firsts.keys) kept.old.words.table }
     ensures found { OnOk result (found_by chosen.now.columns.now kept.new.firsts.keys
         ≡ found_then chosen.now.columns.now (found_by chosen.now.columns.now kept.old.firsts.keys)
         (map (row_of chosen.now.batch.now.columns) chosen.now.rows.now)) }
@@ -134,57 +181,16 @@ fn place_kept<'t>(
     ensures batch { OnOk result (kept.new.seen.number ≡ kept.old.seen.number) }
     ensures tallies { OnOk result (kept.new.tallies ≡ kept.old.tallies) }
     ensures count { OnOk result (kept.new.count ≡ kept.old.count) }
-    ensures words { OnOk result
-        (AreWordsOf (map key_of kept.new.firsts.keys) kept.new.words.table) }
+    ensures words { OnOk result (kept.new.words ≡ kept.old.words) }
 {
     let found = kept.firsts.len();
     let is_new_mostly = found > LEAST_GROUPS && kept.count / 2 < found;
-    let has_many = found > MOST_KNOWN || kept.words.are_made();
-    if chosen.columns.len() != 1 || is_new_mostly || has_many {
-        return place_by_words(alloc, kept, chosen);
+    if chosen.columns.len() != 1 || is_new_mostly {
+        return place_by_codes(alloc, &mut kept.firsts, &mut kept.seen.numbers, chosen);
     }
-    kept.words.forget();
     kept.seen.numbers.forget();
     make_known(&mut kept.known, found, chosen.rows.len())?;
     groups_of(alloc, &mut kept.firsts, kept.known.as_mut_slice(), chosen)
-}
-
-// The group of each of these rows, by the words of their keys, or else by the first rows. Then a
-// long text that was seen in the batch is not looked at.
-fn place_by_words<'t>(
-    alloc: Global,
-    kept: &mut GroupState<'t>,
-    chosen: &ChosenRows<'t, '_>,
-) -> Result<Vec<u32>, AllocError>
-    requires keys { IsTrue (list_all (λ column. nat_lt column (length chosen.now.batch.now.columns))
-        chosen.now.columns.now) }
-    requires within { All (λ row. row < chosen.now.batch.now.rows) chosen.now.rows.now }
-    requires known { AreKnown value_tagged (map key_of kept.old.firsts.keys) kept.old.known.items }
-    requires seen { AreSeenOf kept.old.firsts.texts chosen.now.batch.now chosen.now.columns.now
-        kept.old.seen.numbers }
-    requires words { AreWordsOf (map key_of kept.old.firsts.keys) kept.old.words.table }
-    ensures found { OnOk result (found_by chosen.now.columns.now kept.new.firsts.keys
-        ≡ found_then chosen.now.columns.now (found_by chosen.now.columns.now kept.old.firsts.keys)
-        (map (row_of chosen.now.batch.now.columns) chosen.now.rows.now)) }
-    ensures placed { IfOk result (λ groups. ArePlaced chosen.now.columns.now
-        chosen.now.batch.now.columns (found_by chosen.now.columns.now kept.new.firsts.keys)
-        chosen.now.rows.now groups.items (length chosen.now.rows.now)) }
-    ensures firsts { OnOk result (FirstsStay chosen.now kept.old.firsts.keys kept.new.firsts.keys) }
-    ensures known { OnOk result
-        (AreKnown value_tagged (map key_of kept.new.firsts.keys) kept.new.known.items) }
-    ensures seen { OnOk result (AreSeenOf kept.new.firsts.texts chosen.now.batch.now
-        chosen.now.columns.now kept.new.seen.numbers) }
-    ensures batch { OnOk result (kept.new.seen.number ≡ kept.old.seen.number) }
-    ensures tallies { OnOk result (kept.new.tallies ≡ kept.old.tallies) }
-    ensures count { OnOk result (kept.new.count ≡ kept.old.count) }
-    ensures words { OnOk result
-        (AreWordsOf (map key_of kept.new.firsts.keys) kept.new.words.table) }
-{
-    let numbers = &mut kept.seen.numbers;
-    if let Some(groups) = kept.words.place(&mut kept.firsts, numbers, chosen)? {
-        return Ok(groups);
-    }
-    place_by_codes(alloc, &mut kept.firsts, &mut kept.seen.numbers, chosen)
 }
 
 // Makes room for what will be known of the keys of more rows, where so many groups were found: the

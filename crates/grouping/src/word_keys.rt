@@ -4,19 +4,17 @@ ghost use Rattle.std.specs.Prelude.{◌≡◌, ◌<◌, All, IfOk, IfSome, IsTru
 ghost use Rattle.std.specs.Prelude.{map, nat_lt};
 ghost use Rattle.std.specs.List.{list_all};
 ghost use Rattle.scan_base.specs.declared.value.Value.{Value as Cell};
+ghost use Rattle.indexmap.specs.IndexSet.{insert_key};
 ghost use Rattle.arrays.specs.Batch.{row_of};
 ghost use Rattle.key_columns.specs.Blocks.{key_rows};
-ghost use Rattle.first_rows.specs.RowKeys.{key_of};
-ghost use Rattle.grouping.specs.FoundKeys.{found_then};
+ghost use Rattle.first_rows.specs.RowKeys.{key_of, same_first};
+ghost use Rattle.grouping.specs.FoundKeys.{found_then, place_in};
 ghost use Rattle.grouping.specs.inside.Knowing.{StayKnown};
 ghost use Rattle.grouping.specs.inside.Placing.{ArePlaced, FirstsStay, IsFinding, found_by};
-ghost use Rattle.grouping.specs.inside.Seeing.{AreSeenOf};
 ghost use Rattle.grouping.specs.inside.Wording.{AreKeyPlaces, AreWordsOf, chosen_keys, found_with};
 
-use crate::coded_groups::coded_group;
 use crate::table::ChosenRows;
 use crate::word_table::WordTable;
-use coded_keys::SeenNumbers;
 use first_rows::{FirstRows, RowKey};
 use key_columns::{BlockRows, KeyBlock};
 use std::alloc::{AllocError, Global};
@@ -56,8 +54,9 @@ impl WordKeys {
     }
 
     /// The group of each of these rows, by the words of their keys. A row whose key is new opens a
-    /// group after all others. None where there is no column, or no layout holds each key: then
-    /// nothing is changed, and no words are made of later keys.
+    /// group after all others. None where words are not wanted, there is no column, or no layout
+    /// holds each key: then no group is opened, and the words that were made are gone. In the last
+    /// case none are made of later keys.
     ///
     /// # Errors
     ///
@@ -65,19 +64,16 @@ impl WordKeys {
     pub(crate) fn place<'t>(
         &mut self,
         firsts: &mut FirstRows<'t>,
-        numbers: &mut SeenNumbers,
         chosen: &ChosenRows<'t, '_>,
+        wanted: bool,
     ) -> Result<Option<Vec<u32>>, AllocError>
         requires there { IsTrue (list_all
             (λ column. nat_lt column (length chosen.now.batch.now.columns)) chosen.now.columns.now) }
         requires within { All (λ row. row < chosen.now.batch.now.rows) chosen.now.rows.now }
         requires words { AreWordsOf (map key_of firsts.old.keys) self.old.table }
-        requires seen { AreSeenOf firsts.old.texts chosen.now.batch.now chosen.now.columns.now
-            numbers.old }
         ensures none { IfOk result (λ groups. groups ≡ None → self.new.table ≡ None) }
         ensures same_firsts { IfOk result (λ groups. groups ≡ None → firsts.new ≡ firsts.old) }
-        ensures same_numbers { IfOk result
-            (λ groups. groups ≡ None → numbers.new ≡ numbers.old) }
+        ensures texts { firsts.new.texts ≡ firsts.old.texts }
         ensures found { IfOk result (λ groups. IfSome groups (λ groups.
             found_by chosen.now.columns.now firsts.new.keys
             ≡ found_then chosen.now.columns.now (found_by chosen.now.columns.now firsts.old.keys)
@@ -92,11 +88,13 @@ impl WordKeys {
             StayKnown (map key_of firsts.old.keys) (map key_of firsts.new.keys))) }
         ensures words { IfOk result (λ groups. IfSome groups (λ groups.
             AreWordsOf (map key_of firsts.new.keys) self.new.table)) }
-        ensures seen { IfOk result (λ groups. IfSome groups (λ groups.
-            AreSeenOf firsts.new.texts chosen.now.batch.now chosen.now.columns.now numbers.new)) }
     {
         if chosen.columns.is_empty() {
             self.table = None;
+            return Ok(None);
+        }
+        if !wanted {
+            self.forget();
             return Ok(None);
         }
         let rows = BlockRows {
@@ -109,7 +107,7 @@ impl WordKeys {
         let Some(places) = placed else {
             return Ok(None);
         };
-        open_groups(firsts, numbers, chosen, places.as_slice())?;
+        open_groups(firsts, chosen, places.as_slice())?;
         Ok(Some(places))
     }
 
@@ -150,10 +148,9 @@ impl WordKeys {
     }
 }
 
-// Opens a group for each key that is new: its place is that after all groups.
+// Opens a group for each key that is new.
 fn open_groups<'t>(
     firsts: &mut FirstRows<'t>,
-    numbers: &mut SeenNumbers,
     chosen: &ChosenRows<'t, '_>,
     places: &[u32],
 ) -> Result<(), AllocError>
@@ -161,12 +158,9 @@ fn open_groups<'t>(
         (λ column. nat_lt column (length chosen.now.batch.now.columns)) chosen.now.columns.now) }
     requires within { All (λ row. row < chosen.now.batch.now.rows) chosen.now.rows.now }
     requires places { AreKeyPlaces (map key_of firsts.old.keys) (chosen_keys chosen.now) places.now }
-    requires seen { AreSeenOf firsts.old.texts chosen.now.batch.now chosen.now.columns.now
-        numbers.old }
     ensures finding { OnOk result (IsFinding chosen.now firsts.old.keys
         (length chosen.now.rows.now) firsts.new.keys places.now) }
-    ensures seen { OnOk result
-        (AreSeenOf firsts.new.texts chosen.now.batch.now chosen.now.columns.now numbers.new) }
+    ensures texts { firsts.new.texts ≡ firsts.old.texts }
 {
     for k in 0..chosen.rows.len() {
         let first = RowKey {
@@ -175,19 +169,30 @@ fn open_groups<'t>(
             columns: chosen.columns,
             row: chosen.rows[k],
         };
-        let opened = told_below(places[k], firsts.len());
-        coded_group(firsts, numbers, opened, first)?;
+        open_group(firsts, first, places[k])?;
     }
     Ok(())
 }
 
-// The place, if there is a group there.
-fn told_below(place: u32, groups: usize) -> Option<u32>
-    ensures { IfSome result (λ group. (group ≡ place) × (place < groups)) }
+/// Opens a group for a row, where its key is new: then its place is that after all groups. No key
+/// is hashed or read.
+///
+/// # Errors
+///
+/// `AllocError` where memory is refused.
+#[inline]
+pub(crate) fn open_group<'t>(
+    firsts: &mut FirstRows<'t>,
+    first: RowKey<'t>,
+    place: u32,
+) -> Result<(), AllocError>
+    requires { place ≡ place_in (map key_of firsts.old.keys) (key_of first) }
+    ensures inserted { OnOk result
+        (firsts.new.keys ≡ insert_key same_first firsts.old.keys first.entry) }
+    ensures texts { firsts.new.texts ≡ firsts.old.texts }
 {
-    if (place as usize) < groups {
-        Some(place)
-    } else {
-        None
+    if place as usize != firsts.len() {
+        return Ok(());
     }
+    firsts.push(first)
 }

@@ -17,6 +17,6 @@ add_all-requires-clause-kept c =
       length before,
       omega (arith, grows, ap length placed.found, c.found_count-found.ensures),
       rw c.as_mut_slice.ensures.value
-          (subst (λ (tallies : Vec ItemTallies Global). IsKept items (length before) c.place_kept.new.kept.count (lists_of tallies.items)) (sym placed.tallies)
+          (subst (λ (tallies : Vec ItemTallies Global). IsKept items (length before) c.place_rows.new.kept.count (lists_of tallies.items)) (sym placed.tallies)
           (subst (λ (fed : ℕ). IsKept items (length before) fed (lists_of c.args.kept.now.tallies.items)) (sym placed.count) c.requires.kept)),
     )

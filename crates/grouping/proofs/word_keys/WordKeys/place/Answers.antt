@@ -43,3 +43,6 @@ returns-clause-words c =
     subst (λ (found : List (List Value)). AreWordsOf found c.places.new.self.table)
     (words_all c.args.chosen.now c.args.firsts.now.keys c.open_groups.new.firsts.keys _ c.in_ok-open_groups.ensures.finding)
     (words (map key_of c.args.firsts.now.keys) c.in_ok-make.ensures)
+
+pub returns-clause-texts : goal.returns-clause-texts
+returns-clause-texts c = c.in_ok-open_groups.ensures.texts
