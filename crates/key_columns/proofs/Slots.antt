@@ -14,7 +14,8 @@ use Rattle.arrays.specs.Integers.{AreIntegers, IntegersAt}
 use Rattle.arrays.specs.Column.{ColumnAt, IsColumn, slot_of}
 use Rattle.arrays.specs.Layout.{layout_count, layout_slot}
 use Rattle.arrays.specs.declared.layout.Layout.{Layout}
-use Rattle.arrays.specs.Number.{byte_width, element_at, integer_at, number_from}
+use Rattle.arrays.specs.Decimals.{DecimalsAt}
+use Rattle.arrays.specs.Number.{byte_width, decimal_at, element_at, integer_at, number_from}
 use Rattle.arrays.specs.Texts.{TextsAt, texts_slot}
 use Rattle.arrays.specs.Validity.{HasBits, IsLong, is_valid}
 use Rattle.arrays.specs.declared.layout.Layout.TheVariants as layout
@@ -53,6 +54,12 @@ number_there cells kind place valid number values is packed bit read =
     let same : number ≡ integer_at cells.integer cells.values place =
     read ∙ ap (λ (k : IntegerType). integer_at k values place) (sym is) ∙ ap (λ (vs : List ℕ). integer_at cells.integer vs place) packed in
     ap (λ (b : Bool). if b then Int number else Null) bit ∙ ap (λ (z : ℤ). if is_valid cells.validity place then Int z else Null) same
+
+-- the decimal of a slot
+pub decimal_there : (cells : DecimalsAt) (place : ℕ) (valid : Bool) (number : ℤ) → valid ≡ is_valid cells.validity place → number ≡ decimal_at cells.values place →
+    (if valid then Int number else Null) ≡ layout_slot (layout.Decimals cells) place
+decimal_there cells place valid number bit read =
+    ap (λ (b : Bool). if b then Int number else Null) bit ∙ ap (λ (z : ℤ). if is_valid cells.validity place then Int z else Null) read
 
 -- the text of a valid slot
 pub text_there : (texts : TextsAt) (place begin end : ℕ) (bytes : List ℕ) → is_valid texts.validity place ≡ true → bytes ≡ texts.bytes →

@@ -14,10 +14,10 @@ ghost use Rattle.normalized_keys.specs.FieldWords.{FitsHalf};
 ghost use Rattle.normalized_keys.specs.KeyWords.{field_width};
 ghost use Rattle.normalized_keys.specs.ValueWriting.{IsWritten};
 
-use arrays::{Cells, Column, Element, Integers, TextsRef};
+use arrays::{Cells, Column, Decimals, Element, Integers, TextsRef};
 use normalized_keys::{
     KeyField, put_flag, put_long, put_long_slot, put_null, put_small, put_small_slot, put_text,
-    put_wide,
+    put_wide, put_wide_slot,
 };
 use scan_base::ValueRef;
 use std::marker::PhantomData;
@@ -233,6 +233,36 @@ impl<'a> CellWords for LongCells<'a> {
         let valid = self.cells.validity().is_valid(place);
         let number = long_at(self.cells.values(), place);
         put_long_slot(valid, number, words)
+    }
+}
+
+/// Decimals, as they lie, of so many rows, the first of which stands at a place.
+#[derive(Drop)]
+pub(crate) struct DecimalCells<'a> {
+    pub(crate) cells: Decimals<'a>,
+    pub(crate) first: usize,
+    pub(crate) rows: usize,
+    ghost there: { first + rows ≤ cells.len },
+}
+
+impl<'a> CellWords for DecimalCells<'a> {
+    ghost use Rattle.arrays.specs.Layout.{layout_slot};
+    ghost use Rattle.arrays.specs.declared.layout.Layout.TheVariants.{Decimals as DecimalsLayout};
+
+    ghost field = { λ c. Number 128 2 };
+
+    ghost count = { λ c. c.rows };
+
+    ghost value = { λ c row. layout_slot (DecimalsLayout c.cells) (c.first + row) };
+
+    ghost ready = { λ _. Unit {0} };
+
+    fn put(&self, row: usize, words: &mut [u64]) -> bool {
+        let _count = self.cells.len();
+        let place = self.first + row;
+        let valid = self.cells.validity().is_valid(place);
+        let number = self.cells.get(place);
+        put_wide_slot(valid, number, words)
     }
 }
 

@@ -10,9 +10,10 @@ ghost use Rattle.normalized_keys.specs.declared.key_field.KeyField.TheVariants.{
 ghost use Rattle.key_columns.specs.EntryWords.{AreEntryWords};
 ghost use Rattle.key_columns.specs.Parts.{AddsColumn, AreColumnRows, HasRoom};
 
-use crate::cell_words::{AnyCells, CellWords, LongCells, SmallCells, SmallInteger, TextCells};
+use crate::cell_words::{AnyCells, CellWords, DecimalCells, LongCells};
+use crate::cell_words::{SmallCells, SmallInteger, TextCells};
 use crate::entry_words::{EntryCells, entry_words};
-use arrays::{Cells, Code, Column, Indices, Integers, Layout, TextsRef};
+use arrays::{Cells, Code, Column, Decimals, Indices, Integers, Layout, TextsRef};
 use arrow_types::IntegerType;
 use normalized_keys::KeyField;
 use std::alloc::{AllocError, Global};
@@ -61,6 +62,7 @@ impl<'a> ColumnRows<'a> {
         let _count = self.column.len();
         match self.column.layout() {
             Layout::Integers(cells) => Ok(self.put_integers(cells, place, words)),
+            Layout::Decimals(cells) => Ok(self.put_decimals(cells, place, words)),
             Layout::Texts(texts) => Ok(self.put_texts(texts, place, words)),
             Layout::Indices(cells) => self.put_indices(alloc, cells, place, words),
             _ => Ok(self.put_any(place, words)),
@@ -155,6 +157,30 @@ impl<'a> ColumnRows<'a> {
         ensures written { result ≡ true → AddsColumn self.now place.now words.old words.new }
     {
         let cells = LongCells {
+            cells,
+            first: self.column.first(),
+            rows: self.column.len(),
+        };
+        self.put_cells(&cells, place, words)
+    }
+
+    // The same, where these are the column's decimals.
+    #[tactic(auto, using(crate::proofs::Slots::room_there, crate::proofs::Slots::cells_there))]
+    fn put_decimals(&self, cells: Decimals<'a>, place: &WordsPlace, words: &mut [u64]) -> bool
+        requires is { self.now.column.now.layout ≡ layout.Decimals cells }
+        requires rows { AreColumnRows self.now }
+        requires room { HasRoom self.now place.now words.old }
+        ensures long { length words.new ≡ length words.old }
+        ensures written { result ≡ true → AddsColumn self.now place.now words.old words.new }
+    {
+        let KeyField::Number {
+            bits: 128,
+            words: 2,
+        } = place.field
+        else {
+            return self.put_any(place, words);
+        };
+        let cells = DecimalCells {
             cells,
             first: self.column.first(),
             rows: self.column.len(),

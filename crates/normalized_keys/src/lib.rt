@@ -18,6 +18,6 @@ pub use crate::number_words::{number_word, with_digit, word_number};
 pub use crate::text_words::{TextWords, short_words};
 pub use crate::value_words::{
     LONG, SMALL, WIDE, put_flag, put_long, put_long_slot, put_null, put_small, put_small_slot,
-    put_text, put_wide, small_null, small_word, wide_number,
+    put_text, put_wide, put_wide_slot, small_null, small_word, wide_number,
 };
 pub use crate::word_hash::{hash_of, hash_secrets};

@@ -160,6 +160,20 @@ pub fn put_long_slot(valid: bool, number: i64, words: &mut [u64]) -> bool
     put_two(1, 0, words)
 }
 
+/// Writes the words of a slot of whole numbers of 128 bits, which is null where it is not valid.
+#[inline]
+pub fn put_wide_slot(valid: bool, number: i128, words: &mut [u64]) -> bool
+    requires room { length words.old ≡ 3 }
+    ensures long { length words.new ≡ length words.old }
+    ensures written { IsWritten (Number 128 2) (if valid then IntOf number else Null) result
+        words.new }
+{
+    if valid {
+        return put_wide(number, words);
+    }
+    put_three(1, (0, 0), words)
+}
+
 /// Writes the words of a whole number in a small field, and says whether it holds the number.
 pub fn put_small(number: i128, words: &mut [u64]) -> bool
     requires { length words.old ≡ 1 }
