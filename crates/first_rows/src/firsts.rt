@@ -78,7 +78,8 @@ impl<'t> FirstRows<'t> {
     /// `AllocError` where memory is refused. Then the rows are as they were.
     pub fn push(&mut self, first: RowKey<'t>) -> Result<(), AllocError>
         requires { position_or_len (same_first first) self.old.keys ≡ length self.old.keys }
-        ensures { OnOk result (self.new.keys ≡ insert_key same_first self.old.keys first.entry) }
+        ensures inserted { OnOk result
+            (self.new.keys ≡ insert_key same_first self.old.keys first.entry) }
         ensures texts { self.new.texts ≡ self.old.texts }
     {
         let Some(count) = self.count.checked_add(1) else {

@@ -71,6 +71,16 @@ impl KeyChains {
         &self.words[begin..begin + self.width]
     }
 
+    // The words of all keys, one key after another.
+    pub(crate) fn words(&self) -> &[u64]
+        requires { AreChains self.now }
+        ensures keys { cut_keys (length (chain_keys self.now)) self.now.width result.now
+            ≡ chain_keys self.now }
+        ensures long { length result.now ≡ length (chain_keys self.now) * self.now.width }
+    {
+        self.words.as_slice()
+    }
+
     // The bucket of a key.
     fn bucket(&self, key: &[u64]) -> usize
         requires secrets { length self.now.secrets.items ≡ 2 * self.now.width }

@@ -62,6 +62,14 @@ impl KeyTable {
         self.chains.key(number)
     }
 
+    /// The words of all keys, one key after another.
+    pub fn words(&self) -> &[u64]
+        ensures keys { cut_keys (length self.now.keys) self.now.width result.now ≡ self.now.keys }
+        ensures long { length result.now ≡ length self.now.keys * self.now.width }
+    {
+        self.chains.words()
+    }
+
     /// The number of a key, where it is there.
     pub fn find(&self, key: &[u64]) -> Option<u32>
         requires { length key.now ≡ self.now.width }

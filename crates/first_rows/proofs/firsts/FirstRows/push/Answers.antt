@@ -18,8 +18,8 @@ invariant_of-self-2 c =
     let f = c.self.inside in
     rw (c.in_ok-push.ensures.items) (one_more f.set.keys f.later.items f.count c.args.first c.self.invariant (new c))
 
-pub returns-clause-1 : goal.returns-clause-1
-returns-clause-1 c =
+pub returns-clause-inserted : goal.returns-clause-inserted
+returns-clause-inserted c =
     let f = c.self.inside in
     rw (c.in_ok-push.ensures.items) (keys_more f.set.keys f.later.items c.args.first (new c))
     ∙ ap (λ (rows : FirstRowsAt). insert_key same_first rows.keys c.args.first) c.self.view_is
