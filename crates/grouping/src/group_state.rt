@@ -1,6 +1,6 @@
 //! What is kept of the rows that were fed.
 
-ghost use Rattle.std.specs.Prelude.{◌≡◌, ◌≤◌, ◌<◌, ◌+◌, All, IfOk, IsTrue, ℕ, [], List, None, OnOk};
+ghost use Rattle.std.specs.Prelude.{◌≡◌, ◌≤◌, ◌<◌, ◌+◌, All, IfOk, IsTrue, ℕ, [], List, OnOk};
 ghost use Rattle.std.specs.Prelude.{length, map, nat_lt};
 ghost use Rattle.std.specs.List.{list_all};
 ghost use Rattle.scan_base.specs.Limits.{most_rows};
@@ -229,6 +229,9 @@ impl<'t> GroupState<'t> {
         requires other { IsKept shape.now.items.now
             (length (found_by shape.now.keys.now other.now.firsts.keys)) other.now.count
             (lists_of other.now.tallies.items) }
+        requires words { AreWordsOf (map key_of self.old.firsts.keys) self.old.words.table }
+        requires other_words { AreWordsOf (map key_of other.now.firsts.keys)
+            other.now.words.table }
         requires ready { W.ready watch.old }
         ensures merged { OnOk result (IsMerged (found_by shape.now.keys.now self.old.firsts.keys)
             (found_by shape.now.keys.now other.now.firsts.keys) (found_by shape.now.keys.now
@@ -244,14 +247,14 @@ impl<'t> GroupState<'t> {
         ensures known { OnOk result
             (AreKnown value_tagged (map key_of self.new.firsts.keys) self.new.known.items) }
         ensures seen { OnOk result (self.new.seen.numbers.places.items ≡ []) }
-        ensures words { OnOk result (self.new.words.table ≡ None) }
+        ensures words { OnOk result
+            (AreWordsOf (map key_of self.new.firsts.keys) self.new.words.table) }
         ensures ready { OnOk result (W.ready watch.new) }
         ensures watched { W.watched watch.old watch.new }
     {
-        self.words.forget();
         self.seen.numbers.forget();
         know_nothing(&mut self.known, 0)?;
-        let groups = shape.join_firsts(alloc, &mut self.firsts, &other.firsts, watch)?;
+        let groups = shape.join_groups(alloc, self, other, watch)?;
         let found = found_count(shape.keys, &self.firsts);
         let others = OtherGroups {
             tallies: other.tallies.as_slice(),

@@ -201,13 +201,13 @@ impl<'t> Groups<'t> {
     }
 
     /// Frees the tables that find groups sooner: what is known of keys, and what was seen of long
-    /// texts in a batch. What is grouped stays. Rows that are fed later make tables again.
+    /// texts in a batch. What is grouped stays, and so do the words of keys, by which these groups
+    /// are merged. Rows that are fed later make tables again.
     pub fn free_tables(&mut self)
         ensures { self.new ≡ self.old }
     {
         self.kept.seen.numbers.forget();
         self.kept.known = Vec::new(*self.kept.known.allocator());
-        self.kept.words.forget();
     }
 
     /// Takes the groups of other rows of the same batches after the own: each joins that of its

@@ -13,6 +13,7 @@ pub mod laws;
 mod other_groups;
 mod seen_batch;
 mod table;
+mod word_joins;
 mod word_keys;
 mod word_table;
 

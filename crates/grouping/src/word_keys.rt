@@ -18,6 +18,7 @@ use crate::word_table::WordTable;
 use first_rows::{FirstRows, RowKey};
 use key_columns::{BlockRows, KeyBlock};
 use std::alloc::{AllocError, Global};
+use work_watch::Watches;
 
 /// The words of the keys of all groups, while one layout holds each key: it does where no text has
 /// more than 15 bytes.
@@ -109,6 +110,43 @@ impl WordKeys {
         };
         open_groups(firsts, chosen, places.as_slice())?;
         Ok(Some(places))
+    }
+
+    /// The place of each key of other groups among the keys of the own and those of the other before
+    /// it, by the words of keys. None where one of both has no words, or they stand otherwise: then
+    /// the own words are gone.
+    ///
+    /// # Errors
+    ///
+    /// `AllocError` where memory is refused, 32 bits do not number the keys, or who watches ends it.
+    pub(crate) fn take<W: Watches>(
+        &mut self,
+        other: &WordKeys,
+        watch: &mut W,
+    ) -> Result<Option<Vec<u32>>, AllocError>
+        requires ready { W.ready watch.old }
+        ensures none { IfOk result (λ places. places ≡ None → self.new.table ≡ None) }
+        ensures words { IfOk result (λ places. IfSome places (λ places.
+            (found others : List (List Cell)) → AreWordsOf found self.old.table →
+            AreWordsOf others other.now.table →
+            AreWordsOf (found_with found others) self.new.table)) }
+        ensures places { IfOk result (λ places. IfSome places (λ places.
+            (found others : List (List Cell)) → AreWordsOf found self.old.table →
+            AreWordsOf others other.now.table → AreKeyPlaces found others places.items)) }
+        ensures ready { OnOk result (W.ready watch.new) }
+        ensures watched { W.watched watch.old watch.new }
+    {
+        let alloc = *self.block.words.allocator();
+        if let Some(more) = &other.table {
+            if let Some(table) = &mut self.table {
+                if table.layout.is_same(&more.layout) {
+                    let places = table.take_all(alloc, more, watch)?;
+                    return Ok(Some(places));
+                }
+            }
+        }
+        self.forget();
+        Ok(None)
     }
 
     // Makes the words of the keys of all groups, where none were made yet, if a layout holds each

@@ -86,6 +86,13 @@ impl KeyLayout {
         self.fields.len()
     }
 
+    /// Whether both layouts have the same fields.
+    pub fn is_same(&self, other: &KeyLayout) -> bool
+        ensures { IsTrue result → self.now ≡ other.now }
+    {
+        self.fields == other.fields
+    }
+
     /// The field of a column.
     pub fn field(&self, place: usize) -> KeyField
         requires { place < length self.now }

@@ -31,6 +31,13 @@ pub record AreKeyPlaces (found keys : List (List Value)) (places : List ℕ) : T
   pub each : (k : ℕ) → k < length keys →
       get_or places k 0 ≡ place_in (found_with found (take k keys)) (get_or keys k [])
 
+-- The first so many of other keys were put after those that were found: the table has the words of
+-- all, and each number is the place of its key.
+pub record IsTaking (found others : List (List Value)) (count : ℕ) (words : WordTable)
+    (places : List ℕ) : Type 0 where
+  pub table : IsWordTable (found_with found (take count others)) words
+  pub placed : AreKeyPlaces found (take count others) places
+
 -- the keys of the rows, in order
 abbrev pub chosen_keys : ChosenRows → List (List Value)
 chosen_keys chosen =

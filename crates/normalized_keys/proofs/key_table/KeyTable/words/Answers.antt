@@ -1,6 +1,5 @@
 use Rattle.std.proofs.Common.{◌≡◌, ◌*◌, length, subst}
 use Rattle.normalized_keys.specs.KeyTables.{KeyTableAt, cut_keys}
-
 use Rattle.normalized_keys.proofs.key_table.KeyTable.words.Goals as goal
 
 pub returns-clause-keys : goal.returns-clause-keys
