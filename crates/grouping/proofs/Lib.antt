@@ -17,4 +17,5 @@ pub mod Padded
 pub mod Merging
 pub mod Knowing
 pub mod OneColumn
+pub mod Taking
 pub mod Wording

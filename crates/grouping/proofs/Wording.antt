@@ -53,7 +53,7 @@ fit_found : (layout : List (List KeyField)) (found keys : List (List Value)) →
 fit_found layout found [] fit fits = fit
 fit_found layout found (key ∷ keys) fit fits = fit_found layout (insert_key same_key found key) keys (fit_inserted layout found key fit fits.0) fits.1
 
-numbers_long : (keys rows : List (List ℕ)) → length (key_numbers keys rows) ≡ length rows
+pub numbers_long : (keys rows : List (List ℕ)) → length (key_numbers keys rows) ≡ length rows
 numbers_long keys [] = refl
 numbers_long keys (row ∷ rows) = ap suc (numbers_long (with_key keys row) rows)
 
@@ -79,16 +79,14 @@ cut_words words keys block so =
     ∙ ap (λ (n : ℕ). cut_keys (length keys) n block.words.items) words.wide ∙ so.words []
 
 -- the table has the words of the keys after those before
-pub table_placed : (found keys : List (List Value)) (words after : WordTable) (block : KeyBlock) → IsWordTable found words → IsEncoded words.layout keys block →
-    after.layout ≡ words.layout → after.table.keys ≡ keys_then words.table.keys (cut_keys block.count words.table.width block.words.items) →
+pub table_put : (found keys : List (List Value)) (words after : WordTable) (cut : List (List ℕ)) → IsWordTable found words → FitLayout [] (own_packs words.layout) keys →
+    cut ≡ map (key_words [] (own_packs words.layout)) keys → after.layout ≡ words.layout → after.table.keys ≡ keys_then words.table.keys cut →
     IsWordTable (found_with found keys) after
-table_placed found keys words after block so encoded same made =
+table_put found keys words after cut so fits is same made =
     let layout = own_packs words.layout in
-    let fits = encoded.fit [] in
     let fit : FitLayout [] layout (found_with found keys) = fit_found layout found keys so.fit fits in
     let are : after.table.keys ≡ map (key_words [] layout) (found_with found keys) =
-    made ∙ ap (λ (ks : List (List ℕ)). keys_then ks (cut_keys block.count words.table.width block.words.items)) so.are
-    ∙ ap (keys_then (map (key_words [] layout) found)) (cut_words words keys block encoded)
+    made ∙ ap (λ (ks : List (List ℕ)). keys_then ks cut) so.are ∙ ap (keys_then (map (key_words [] layout) found)) is
     ∙ groups_told same_key same_decides [] layout found keys so.fit fits in
     record {
       fit = subst (λ (fields : List KeyField). FitLayout [] (own_packs fields) (found_with found keys)) (sym same) fit;
@@ -96,17 +94,28 @@ table_placed found keys words after block so encoded same made =
     }
 
 -- and their numbers are the places of the keys
+pub places_put : (found keys : List (List Value)) (words : WordTable) (cut : List (List ℕ)) (places : List ℕ) → IsWordTable found words → FitLayout [] (own_packs words.layout) keys →
+    cut ≡ map (key_words [] (own_packs words.layout)) keys → places ≡ key_numbers words.table.keys cut → AreKeyPlaces found keys places
+places_put found keys words cut places so fits is made =
+    let layout = own_packs words.layout in
+    let told : places ≡ key_numbers (map (key_words [] layout) found) (map (key_words [] layout) keys) =
+    made ∙ ap (λ (ks : List (List ℕ)). key_numbers ks cut) so.are ∙ ap (key_numbers (map (key_words [] layout) found)) is in
+    record {
+      long = ap length told ∙ numbers_long (map (key_words [] layout) found) (map (key_words [] layout) keys) ∙ length-map keys (key_words [] layout);
+      each = λ k low. ap (λ (ps : List ℕ). get_or ps k 0) told ∙ place_told layout found keys so.fit fits k low;
+    }
+
+-- those of a block
+pub table_placed : (found keys : List (List Value)) (words after : WordTable) (block : KeyBlock) → IsWordTable found words → IsEncoded words.layout keys block →
+    after.layout ≡ words.layout → after.table.keys ≡ keys_then words.table.keys (cut_keys block.count words.table.width block.words.items) →
+    IsWordTable (found_with found keys) after
+table_placed found keys words after block so encoded same made =
+    table_put found keys words after (cut_keys block.count words.table.width block.words.items) so (encoded.fit []) (cut_words words keys block encoded) same made
+
 pub places_told : (found keys : List (List Value)) (words : WordTable) (block : KeyBlock) (places : List ℕ) → IsWordTable found words → IsEncoded words.layout keys block →
     places ≡ key_numbers words.table.keys (cut_keys block.count words.table.width block.words.items) → AreKeyPlaces found keys places
 places_told found keys words block places so encoded made =
-    let layout = own_packs words.layout in
-    let is : places ≡ key_numbers (map (key_words [] layout) found) (map (key_words [] layout) keys) =
-    made ∙ ap (λ (ks : List (List ℕ)). key_numbers ks (cut_keys block.count words.table.width block.words.items)) so.are
-    ∙ ap (key_numbers (map (key_words [] layout) found)) (cut_words words keys block encoded) in
-    record {
-      long = ap length is ∙ numbers_long (map (key_words [] layout) found) (map (key_words [] layout) keys) ∙ length-map keys (key_words [] layout);
-      each = λ k low. ap (λ (ps : List ℕ). get_or ps k 0) is ∙ place_told layout found keys so.fit (encoded.fit []) k low;
-    }
+    places_put found keys words (cut_keys block.count words.table.width block.words.items) places so (encoded.fit []) (cut_words words keys block encoded) made
 
 -- ---- a table of the keys of groups
 
@@ -183,7 +192,7 @@ placed_all chosen before firsts places k so all finding =
     let whole : take k places ≡ places = take_all k places (omega (arith, so.long, all, length-map chosen.rows.now key)) in
     subst (λ (n : ℕ). IsFinding chosen before n firsts places) all (subst (IsFinding chosen before k firsts) whole finding)
 
-found_keyed : (columns : List ℕ) (firsts : List RowKey) → nat_eq (length columns) 0 ≡ false → found_by columns firsts ≡ map key_of firsts
+pub found_keyed : (columns : List ℕ) (firsts : List RowKey) → nat_eq (length columns) 0 ≡ false → found_by columns firsts ≡ map key_of firsts
 found_keyed [] firsts some = cc
 found_keyed (key ∷ keys) firsts some = refl
 

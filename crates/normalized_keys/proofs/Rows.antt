@@ -2,7 +2,7 @@
 use Rattle.std.proofs.Common.{◌≡◌, ℕ, zero, suc, ◌+◌, ◌*◌, ◌<◌, ◌≤◌, List, [], ◌∷◌, ◌++◌, ◌&&◌, Bool, true, false, length, take, drop, get_or, refl, sym, ap, ◌∙◌, arith, suc-mul}
 use Rattle.std.specs.Prelude.{nat_eq}
 use Rattle.std.specs.Str.{bytes_eq}
-use Rattle.std.proofs.lemmas.List.{take-append-le, drop-append-le, take_all, take_more, length-drop, length-take-le, drop-drop}
+use Rattle.std.proofs.lemmas.List.{take-append-le, drop-append-le, take_all, take_more, take-take, length-drop, length-take-le, drop-drop}
 use Rattle.normalized_keys.specs.KeyTables.{cut_keys}
 
 pub length-cut_keys : (n width : ℕ) (words : List ℕ) → length (cut_keys n width words) ≡ n
@@ -29,6 +29,40 @@ rows_more (suc n) width words key h w =
     let left : length (drop width words) ≡ n * width = omega (arith, length-drop width words, h, suc-mul n width) in
     (λ i. take-append-le width words key room i ∷ cut_keys (suc n) width (drop-append-le width words key room i))
     ∙ ap (λ (ys : List (List ℕ)). take width words ∷ ys) (rows_more n width (drop width words) key left w)
+
+-- ---- some of the keys
+
+take_none : (k : ℕ) → take {A = ℕ} k [] ≡ []
+take_none zero = refl
+take_none (suc k) = refl
+
+drop_take : (m k n : ℕ) (words : List ℕ) → n ≡ m + k → drop m (take n words) ≡ take k (drop m words)
+drop_take zero k n words is = let same : n ≡ k = omega (arith, is) in ap (λ (j : ℕ). take j words) same
+drop_take (suc m) k zero words is = absurd (omega (arith, is))
+drop_take (suc m) k (suc n) [] is = sym (take_none k)
+drop_take (suc m) k (suc n) (word ∷ words) is = drop_take m k n words (omega (arith, is))
+
+-- the first so many keys
+cut_first : (n width m : ℕ) (words : List ℕ) → m ≤ n → cut_keys m width (take (m * width) words) ≡ take m (cut_keys n width words)
+cut_first n width zero words low = refl
+cut_first zero width (suc m) words low = absurd (omega (arith, low))
+cut_first (suc n) width (suc m) words low =
+    let long : suc m * width ≡ width + m * width = omega (arith, suc-mul m width) in
+    ap (λ (key : List ℕ). key ∷ cut_keys m width (drop width (take (suc m * width) words))) (take-take width (suc m * width) words (omega (arith, long)))
+    ∙ ap (λ (rest : List ℕ). take width words ∷ cut_keys m width rest) (drop_take width (m * width) (suc m * width) words long)
+    ∙ ap (λ (keys : List (List ℕ)). take width words ∷ keys) (cut_first n width m (drop width words) (omega (arith, low)))
+
+-- so many keys from one on
+pub cut_part : (n width from m : ℕ) (words : List ℕ) → from + m ≤ n → cut_keys m width (take (m * width) (drop (from * width) words)) ≡ take m (drop from (cut_keys n width words))
+cut_part n width zero m words low =
+    let none : 0 * width ≡ 0 = omega arith in
+    ap (λ (j : ℕ). cut_keys m width (take (m * width) (drop j words))) none ∙ cut_first n width m words (omega (arith, low))
+cut_part zero width (suc from) m words low = absurd (omega (arith, low))
+cut_part (suc n) width (suc from) m words low =
+    let long : suc from * width ≡ width + from * width = omega (arith, suc-mul from width) in
+    ap (λ (j : ℕ). cut_keys m width (take (m * width) (drop j words))) long
+    ∙ ap (λ (rest : List ℕ). cut_keys m width (take (m * width) rest)) (sym (drop-drop (from * width) width words))
+    ∙ cut_part n width from m (drop width words) (omega (arith, low))
 
 -- ---- keys that are the same
 

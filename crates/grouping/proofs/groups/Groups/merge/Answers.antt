@@ -3,7 +3,6 @@ use Rattle.arrays.specs.Batch.{BatchAt}
 use Rattle.grouping.specs.FedRows.{GroupsAt}
 use Rattle.grouping.specs.inside.Placing.{IsFirst, found_by}
 use Rattle.grouping.proofs.Merging.{merges_all}
-use Rattle.grouping.proofs.Wording.{no_words}
 use Rattle.grouping.proofs.groups.Groups.merge.Given.{Over}
 use Rattle.grouping.proofs.groups.Groups.merge.Goals as goal
 use Rattle.grouping.proofs.groups.Groups.merge.Goals.{In-Ok}
@@ -25,6 +24,12 @@ join-requires-clause-firsts g c =
     subst (λ (batches : List BatchAt). All (IsFirst batches shape.keys.now) firsts) same_batches
     (subst (λ keys. All (IsFirst c.other.inside.shape.batches.now keys) firsts) same_keys (c.other.invariant.first c.in_default-refused.is))
 
+pub join-requires-clause-words : goal.join-requires-clause-words
+join-requires-clause-words g c = c.self.invariant.words_are c.in_default.is
+
+pub join-requires-clause-other_words : goal.join-requires-clause-other_words
+join-requires-clause-other_words g c = c.other.invariant.words_are c.in_default-refused.is
+
 pub invariant_of-self-in-Ok : goal.invariant_of-self-in-Ok
 invariant_of-self-in-Ok g c =
     let at = (goal.at.invariant_of-self-in-Ok g c).In-Ok in
@@ -36,7 +41,7 @@ invariant_of-self-in-Ok g c =
       few = λ none. omega (arith, c.in-Ok.ensures.count, c.requires.few (sym (ap (λ (g : GroupsAt). g.refused) c.self.view_is) ∙ c.in_default.is) (sym (ap (λ (g : GroupsAt). g.refused) c.other.view_is) ∙ c.in_default-refused.is), ap (λ (g : GroupsAt). g.count) c.self.view_is, ap (λ (g : GroupsAt). g.count) c.other.view_is);
       known_are = λ none. c.in-Ok.ensures.known;
       seen_are = λ none k d low. absurd (omega (arith, low, ap length c.in-Ok.ensures.seen));
-      words_are = λ none. no_words _ _ c.in-Ok.ensures.words;
+      words_are = λ none. c.in-Ok.ensures.words;
       first = λ none. c.in-Ok.ensures.firsts shape.batches.now shape.keys.now (c.self.invariant.first none)
           (subst (λ (batches : List BatchAt). All (IsFirst batches shape.keys.now) firsts) (batches g at)
           (subst (λ keys. All (IsFirst c.other.inside.shape.batches.now keys) firsts) (keys g at) (c.other.invariant.first c.in_default-refused.is)));
