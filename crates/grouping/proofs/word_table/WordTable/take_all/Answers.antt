@@ -12,7 +12,7 @@ pieces-init g c = record {
   few = omega (arith, c.in_ok-places.ensures.items);
   taken = λ found others so has. rw c.in_ok-places.ensures.items (taken_none found others c.args.self.now so);
   ready = c.requires.ready;
-  watched = g.met.W.Watches.same _;
+  watched = g.met.W.Watches.unasked _;
 }
 
 pub pieces-preserved : goal.pieces-preserved
