@@ -25,6 +25,8 @@ use crate::other_groups::{OtherGroups, join_all};
 use crate::seen_batch::SeenBatch;
 use crate::table::{ChosenRows, groups_of};
 use crate::word_keys::WordKeys;
+use arrays::Layout;
+use arrow_types::IntegerType;
 use first_rows::FirstRows;
 use group_slots::{ItemTallies, RowGroups, add_all};
 use std::alloc::{AllocError, Global};
@@ -137,7 +139,7 @@ fn place_rows<'t>(
     ensures words { OnOk result
         (AreWordsOf (map key_of kept.new.firsts.keys) kept.new.words.table) }
 {
-    let wanted = wants_words(kept, chosen.columns.len());
+    let wanted = wants_words(kept, chosen);
     let placed = kept.words.place(&mut kept.firsts, chosen, wanted)?;
     if let Some(groups) = placed {
         return Ok(groups);
@@ -145,12 +147,33 @@ fn place_rows<'t>(
     place_kept(alloc, kept, chosen)
 }
 
-// Whether keys are to be found by their words: where a key is not one column, most rows opened a
-// group, or there are many groups. Once they are made they are used for all rows.
-fn wants_words(kept: &GroupState<'_>, columns: usize) -> bool {
+// Whether keys are to be found by their words: where no tag tells them, most rows opened a group, or
+// there are many groups. Once they are made they are used for all rows.
+fn wants_words(kept: &GroupState<'_>, chosen: &ChosenRows<'_, '_>) -> bool
+    requires { IsTrue (list_all
+        (λ column. nat_lt column (length chosen.now.batch.now.columns)) chosen.now.columns.now) }
+{
     let found = kept.firsts.len();
     let is_new_mostly = found > LEAST_GROUPS && kept.count / 2 < found;
-    columns != 1 || is_new_mostly || found > MOST_KNOWN || kept.words.are_made()
+    is_new_mostly || found > MOST_KNOWN || kept.words.are_made() || have_no_tags(chosen)
+}
+
+// Whether no tag tells the keys of rows: the key is not one column, or one whose values no number of
+// 64 bits tells.
+fn have_no_tags(chosen: &ChosenRows<'_, '_>) -> bool
+    requires { IsTrue (list_all
+        (λ column. nat_lt column (length chosen.now.batch.now.columns)) chosen.now.columns.now) }
+{
+    if chosen.columns.len() != 1 {
+        return true;
+    }
+    let column = &chosen.batch.columns()[chosen.columns[0]];
+    let _count = column.len();
+    match column.layout() {
+        Layout::Integers(cells) => cells.integer_type() == IntegerType::UInt64,
+        Layout::Decimals(_) | Layout::Bools(_) => true,
+        Layout::Texts(_) | Layout::Indices(_) => false,
+    }
 }
 
 // The group of each of these rows, by what is known of keys. Where the key is not one column, or
