@@ -1,5 +1,6 @@
 -- First rows that a set does not have yet.
 use Rattle.std.proofs.Common.{◌≡◌, ◌<◌, ℕ, zero, suc, ◌+◌, Bool, true, false, List, [], ◌∷◌, ◌++◌, length, get_or, take, refl, sym, ap, ◌∙◌, subst, arith, append_assoc}
+use Rattle.std.specs.Prelude.{nat_eq}
 use Rattle.std.specs.List.{list_any, position_or_len}
 use Rattle.std.proofs.lemmas.List.{append-nil, length-append, take_more}
 use Rattle.indexmap.specs.IndexSet.{insert_key}
@@ -72,3 +73,11 @@ one_more set later count first has new = record {
 pub keys_more : (set later : List RowKey) (first : RowKey) → position_or_len (same_first first) (set ++ later) ≡ length (set ++ later) →
     set ++ (later ++ first ∷ []) ≡ insert_key same_first (set ++ later) first
 keys_more set later first new = sym (append_assoc set later (first ∷ [])) ∙ sym (inserted_last (set ++ later) first new)
+
+pub empty : (rows : List RowKey) → nat_eq (length rows) 0 ≡ true → rows ≡ []
+empty [] none = refl
+empty (row ∷ rows) none = cc
+
+-- without later rows the keys are those of the set
+pub set_keys : (set later : List RowKey) → later ≡ [] → set ++ later ≡ set
+set_keys set later none = ap (λ (rows : List RowKey). set ++ rows) none ∙ append-nil set

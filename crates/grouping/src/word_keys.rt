@@ -229,7 +229,8 @@ pub(crate) fn open_group<'t>(
         (firsts.new.keys ≡ insert_key same_first firsts.old.keys first.entry) }
     ensures texts { firsts.new.texts ≡ firsts.old.texts }
 {
-    if place as usize != firsts.len() {
+    let groups = firsts.len();
+    if place as usize != groups {
         return Ok(());
     }
     firsts.push(first)
