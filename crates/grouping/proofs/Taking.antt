@@ -1,5 +1,6 @@
 -- Keys of other groups, taken by their words.
-use Rattle.std.proofs.Common.{◌≡◌, ◌≤◌, ◌<◌, ℕ, zero, suc, ◌+◌, ◌-◌, ◌*◌, Bool, true, false, List, [], ◌∷◌, ◌++◌, length, map, get_or, take, drop, nat_lt, refl, sym, ap, ◌∙◌, subst, arith}
+use Rattle.std.proofs.Common.{◌≡◌, ◌≤◌, ◌<◌, ℕ, zero, suc, ◌+◌, ◌-◌, ◌*◌, Bool, true, false, List, [], ◌∷◌, ◌++◌, length, map, get_or, take, drop, nat_lt, refl, sym, ap, ◌∙◌, subst, arith, suc-mul}
+use Rattle.std.proofs.Math.Nat.{mul-le-mul_right}
 use borrow.Author.Tests.{ltb-false, ltb-true}
 use Rattle.std.proofs.Math.Seq.{take-length}
 use Rattle.std.proofs.lemmas.List.{drop-map, get_or-append_right, get_or_append_left, length-append, length-map, take-append-le, take-map}
@@ -75,6 +76,18 @@ places_joined found xs ys ps qs so more = record {
         ∙ ap (place_in (found_with found (take k (xs ++ ys)))) (sym (get_or-append_right xs ys n k [] refl over))
 
 -- ---- a part of the keys of another table
+
+mul_sum : (from m width : ℕ) → (from + m) * width ≡ from * width + m * width
+mul_sum zero m width = omega arith
+mul_sum (suc from) m width = omega (arith, suc-mul (from + m) width, suc-mul from width, mul_sum from m width)
+
+-- its words are so many
+pub part_wide : (from m to width : ℕ) → to ≡ from + m → to * width - from * width ≡ m * width
+part_wide from m to width is = let same : to * width ≡ (from + m) * width = ap (λ (n : ℕ). n * width) is in omega (arith, same, mul_sum from m width)
+
+-- and are there
+pub part_there : (to n width long : ℕ) → to ≤ n → long ≡ n * width → to * width ≤ long
+part_there to n width long low is = omega (arith, is, mul-le-mul_right width low)
 
 -- its words are those of the keys
 part_words : (others : List (List Value)) (from m n : ℕ) (layout : List (List KeyField)) (width : ℕ) (words : List ℕ) → from + m ≤ n →

@@ -156,8 +156,11 @@ impl WordTable {
         let (from, to) = span;
         let width = self.table.width();
         let words = other.table.words();
-        let block = &words[from * width..to * width];
-        self.table.place(alloc, block, to - from, places)
+        let begin = from * width;
+        let end = to * width;
+        self.table
+            .place(alloc, &words[begin..end], to - from, places)?;
+        Ok(())
     }
 }
 
