@@ -12,7 +12,7 @@ use Rattle.arrays.specs.Batch.{row_of}
 use Rattle.arrays.specs.Column.{ColumnAt}
 use Rattle.typed_plan.specs.GroupedRows.{same_key}
 use Rattle.normalized_keys.specs.declared.key_field.KeyField.{KeyField}
-use Rattle.normalized_keys.specs.KeyTables.{KeyTableAt, cut_keys, key_numbers, keys_then, with_key}
+use Rattle.normalized_keys.specs.KeyTables.{KeyTableAt, cut_keys, key_numbers, keys_then, with_new_key}
 use Rattle.normalized_keys.specs.KeyWords.{FitsLayout, key_words, own_packs}
 use Rattle.normalized_keys.specs.Laws.{FitLayout}
 use Rattle.normalized_keys.proofs.SameGroups.{groups_told, number_told}
@@ -46,7 +46,7 @@ fit_inserted layout found key fit one = by (list_any (same_key key) found) refl
     by false e = rw e (fit_more layout found key fit one)
 
 words_inserted : (layout : List (List KeyField)) (found : List (List Value)) (key : List Value) → FitLayout [] layout found → FitsLayout [] layout key →
-    with_key (map (key_words [] layout) found) (key_words [] layout key) ≡ map (key_words [] layout) (insert_key same_key found key)
+    with_new_key (map (key_words [] layout) found) (key_words [] layout key) ≡ map (key_words [] layout) (insert_key same_key found key)
 words_inserted layout found key fit one = groups_told same_key same_decides [] layout found (key ∷ []) fit (one, tt)
 
 fit_found : (layout : List (List KeyField)) (found keys : List (List Value)) → FitLayout [] layout found → FitLayout [] layout keys → FitLayout [] layout (found_with found keys)
@@ -55,7 +55,7 @@ fit_found layout found (key ∷ keys) fit fits = fit_found layout (insert_key sa
 
 pub numbers_long : (keys rows : List (List ℕ)) → length (key_numbers keys rows) ≡ length rows
 numbers_long keys [] = refl
-numbers_long keys (row ∷ rows) = ap suc (numbers_long (with_key keys row) rows)
+numbers_long keys (row ∷ rows) = ap suc (numbers_long (with_new_key keys row) rows)
 
 place_told : (layout : List (List KeyField)) (found keys : List (List Value)) → FitLayout [] layout found → FitLayout [] layout keys → (k : ℕ) → k < length keys →
     get_or (key_numbers (map (key_words [] layout) found) (map (key_words [] layout) keys)) k 0 ≡ place_in (found_with found (take k keys)) (get_or keys k [])

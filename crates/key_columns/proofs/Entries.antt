@@ -3,7 +3,7 @@ use Rattle.std.proofs.Common.{◌≡◌, ◌≢◌, ◌<◌, ◌+◌, ◌*◌, �
 use Rattle.std.proofs.lemmas.List.{get_or_append_left, get_or_push, length-append}
 use Rattle.scan_base.specs.declared.value.Value.{Value}
 use Rattle.scan_base.specs.declared.value.Value.TheVariants.{Null}
-use Rattle.key_columns.specs.EntryWords.{AreEntryWords, AreWordsOf}
+use Rattle.key_columns.specs.EntryWords.{AreEntryWords, AreTextWords}
 
 -- two words
 pub two_words : (words : List ℕ) → length words ≡ 2 → words ≡ get_or words 0 0 ∷ get_or words 1 0 ∷ []
@@ -14,7 +14,7 @@ two_words (a ∷ b ∷ c ∷ words) two = absurd (omega (arith, two))
 
 -- one entry more
 pub entries_more : (dictionary : List Value) (words : List ℕ) (index first last : ℕ) → AreEntryWords dictionary words index →
-    AreWordsOf (get_or dictionary index Null) (first ∷ last ∷ []) → AreEntryWords dictionary ((words ++ first ∷ []) ++ last ∷ []) (index + 1)
+    AreTextWords (get_or dictionary index Null) (first ∷ last ∷ []) → AreEntryWords dictionary ((words ++ first ∷ []) ++ last ∷ []) (index + 1)
 entries_more dictionary words index first last so one =
     let half = words ++ first ∷ [] in
     let new = half ++ last ∷ [] in
@@ -25,10 +25,10 @@ entries_more dictionary words index first last so one =
     let right : get_or new (2 * index + 1) 0 ≡ last = get_or_push half last 0 (2 * index + 1) halfway in
     record {
       long = omega (arith, length-append half (last ∷ []), halfway);
-      each = below_more (λ (k : ℕ). AreWordsOf (get_or dictionary k Null) (get_or new (2 * k) 0 ∷ get_or new (2 * k + 1) 0 ∷ [])) index
+      each = below_more (λ (k : ℕ). AreTextWords (get_or dictionary k Null) (get_or new (2 * k) 0 ∷ get_or new (2 * k + 1) 0 ∷ [])) index
           (λ k low.
           let a = early (2 * k) (omega (arith, low)) in
           let b = early (2 * k + 1) (omega (arith, low)) in
-          subst (AreWordsOf (get_or dictionary k Null)) (sym (ap (λ (x : ℕ). x ∷ get_or new (2 * k + 1) 0 ∷ []) a ∙ ap (λ (y : ℕ). get_or words (2 * k) 0 ∷ y ∷ []) b)) (so.each k low))
-          (subst (AreWordsOf (get_or dictionary index Null)) (sym (ap (λ (x : ℕ). x ∷ get_or new (2 * index + 1) 0 ∷ []) left ∙ ap (λ (y : ℕ). first ∷ y ∷ []) right)) one);
+          subst (AreTextWords (get_or dictionary k Null)) (sym (ap (λ (x : ℕ). x ∷ get_or new (2 * k + 1) 0 ∷ []) a ∙ ap (λ (y : ℕ). get_or words (2 * k) 0 ∷ y ∷ []) b)) (so.each k low))
+          (subst (AreTextWords (get_or dictionary index Null)) (sym (ap (λ (x : ℕ). x ∷ get_or new (2 * index + 1) 0 ∷ []) left ∙ ap (λ (y : ℕ). first ∷ y ∷ []) right)) one);
     }

@@ -5,7 +5,7 @@ ghost use Rattle.std.specs.Prelude.{true};
 ghost use Rattle.scan_base.specs.declared.value.Value.TheVariants.{Null};
 ghost use Rattle.arrays.specs.Number.{byte_width};
 ghost use Rattle.normalized_keys.specs.declared.key_field.KeyField.TheVariants.{Text as TextField};
-ghost use Rattle.key_columns.specs.EntryWords.{AreEntryWords, AreWordsOf};
+ghost use Rattle.key_columns.specs.EntryWords.{AreEntryWords, AreTextWords};
 
 use crate::cell_words::{CellWords, put_value};
 use arrays::{Code, Dictionary, Indices};
@@ -41,7 +41,7 @@ pub(crate) fn entry_words(alloc: Global, dictionary: &Dictionary) -> Result<Vec<
 
 // The words of a value of a dictionary.
 fn words_of(dictionary: &Dictionary, index: usize) -> (u64, u64)
-    ensures { AreWordsOf (get_or dictionary.now index Null) (result.0 ∷ result.1 ∷ []) }
+    ensures { AreTextWords (get_or dictionary.now index Null) (result.0 ∷ result.1 ∷ []) }
 {
     if let Some(value) = dictionary.get(index) {
         let mut words = [0u64; 2];

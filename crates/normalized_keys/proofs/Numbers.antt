@@ -5,7 +5,7 @@ use Rattle.std.proofs.lemmas.Bool.{cases_eq, false_from_ne_true, lt-ltb, le-ltb}
 use Rattle.std.proofs.lemmas.List.{get_or_append_left, get_or_at}
 use Rattle.std.proofs.lemmas.List.Sums.{position_or_len_is}
 use Rattle.std.proofs.lemmas.Slice.Eq.{bytes_eq-Decides}
-use Rattle.normalized_keys.specs.KeyTables.{found_number, key_number, no_number, with_key}
+use Rattle.normalized_keys.specs.KeyTables.{found_number, key_number, no_number, with_new_key}
 use Rattle.normalized_keys.specs.inside.Chaining.{AreDistinct, NoneFrom}
 
 other : (key row : List ℕ) → row ≢ key → bytes_eq key row ≡ false
@@ -23,13 +23,13 @@ number_absent keys key n count none =
     (λ j below. other key (get_or keys j []) (none j (omega arith) below))
     (λ l. absurd (omega (arith, l, count)))
 
-pub keys_found : (keys : List (List ℕ)) (key : List ℕ) (n k : ℕ) → length keys ≡ n → AreDistinct keys n → k < n → get_or keys k [] ≡ key → with_key keys key ≡ keys
+pub keys_found : (keys : List (List ℕ)) (key : List ℕ) (n k : ℕ) → length keys ≡ n → AreDistinct keys n → k < n → get_or keys k [] ≡ key → with_new_key keys key ≡ keys
 keys_found keys key n k count distinct within is =
     let at = number_found keys key n k count distinct within is in
     let there : nat_lt (key_number keys key) (length keys) ≡ true = lt-ltb (key_number keys key) (length keys) (omega (arith, at, within, count)) in
     rw there refl
 
-pub keys_absent : (keys : List (List ℕ)) (key : List ℕ) (n : ℕ) → length keys ≡ n → NoneFrom keys key 0 n → with_key keys key ≡ keys ++ key ∷ []
+pub keys_absent : (keys : List (List ℕ)) (key : List ℕ) (n : ℕ) → length keys ≡ n → NoneFrom keys key 0 n → with_new_key keys key ≡ keys ++ key ∷ []
 keys_absent keys key n count none =
     let at = number_absent keys key n count none in
     let gone : nat_lt (key_number keys key) (length keys) ≡ false = le-ltb (key_number keys key) (length keys) (omega (arith, at, count)) in

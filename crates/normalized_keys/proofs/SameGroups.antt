@@ -10,7 +10,7 @@ use Rattle.std.proofs.lemmas.Slice.Eq.{bytes_eq-Decides}
 use Rattle.indexmap.specs.IndexSet.{insert_key}
 use Rattle.scan_base.specs.declared.value.Value.{Value}
 use Rattle.normalized_keys.specs.declared.key_field.KeyField.{KeyField}
-use Rattle.normalized_keys.specs.KeyTables.{key_number, keys_then, with_key}
+use Rattle.normalized_keys.specs.KeyTables.{key_number, keys_then, with_new_key}
 use Rattle.normalized_keys.specs.KeyWords.{FitsLayout, key_words}
 use Rattle.normalized_keys.specs.Laws.{FitLayout, WordsKeepGroups, WordsKeepNumbers}
 use Rattle.normalized_keys.proofs.Packs.{keys_told}
@@ -39,7 +39,7 @@ module _ (same : List Value → List Value → Bool) (decides : (a b : List Valu
       (λ i. if not (tells key first k h.0 i) then 1 + number_told found key h.1 k i else 0)
 
   inserted : (found : List (List Value)) (key : List Value) → FitLayout texts layout found → FitsLayout texts layout key →
-      with_key (map (key_words texts layout) found) (key_words texts layout key) ≡ map (key_words texts layout) (insert_key same found key)
+      with_new_key (map (key_words texts layout) found) (key_words texts layout key) ≡ map (key_words texts layout) (insert_key same found key)
   inserted found key h k =
       let words = map (key_words texts layout) found in
       let row = key_words texts layout key in

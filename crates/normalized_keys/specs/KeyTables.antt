@@ -19,18 +19,18 @@ abbrev pub key_number : List (List ℕ) → List ℕ → ℕ
 key_number keys key = position_or_len (bytes_eq key) keys
 
 -- the keys, and one more after them where it is new
-abbrev pub with_key : List (List ℕ) → List ℕ → List (List ℕ)
-with_key keys key = if nat_lt (key_number keys key) (length keys) then keys else keys ++ key ∷ []
+abbrev pub with_new_key : List (List ℕ) → List ℕ → List (List ℕ)
+with_new_key keys key = if nat_lt (key_number keys key) (length keys) then keys else keys ++ key ∷ []
 
 -- the keys, and then those of more that are new
 abbrev pub keys_then : List (List ℕ) → List (List ℕ) → List (List ℕ)
 keys_then keys [] = keys
-keys_then keys (key ∷ rest) = keys_then (with_key keys key) rest
+keys_then keys (key ∷ rest) = keys_then (with_new_key keys key) rest
 
 -- and the numbers of these
 abbrev pub key_numbers : List (List ℕ) → List (List ℕ) → List ℕ
 key_numbers keys [] = []
-key_numbers keys (key ∷ rest) = key_number keys key ∷ key_numbers (with_key keys key) rest
+key_numbers keys (key ∷ rest) = key_number keys key ∷ key_numbers (with_new_key keys key) rest
 
 -- the number that no key has
 abbrev pub no_number : ℕ

@@ -5,7 +5,7 @@ ghost use Rattle.std.specs.Prelude.{IfOk, IsTrue, MatchOption, OnOk, get_or, len
 ghost use Rattle.std.specs.Prelude.{replicate};
 ghost use Rattle.std.specs.Str.{bytes_eq};
 ghost use Rattle.normalized_keys.specs.KeyTables.{cut_keys, found_number, key_number, key_numbers};
-ghost use Rattle.normalized_keys.specs.KeyTables.{keys_then, with_key};
+ghost use Rattle.normalized_keys.specs.KeyTables.{keys_then, with_new_key};
 ghost use Rattle.normalized_keys.specs.inside.Chaining.{AreChains, AreOpenChains, HasSame};
 ghost use Rattle.normalized_keys.specs.inside.Chaining.{NoneFrom};
 ghost use Rattle.normalized_keys.specs.inside.Chaining.{chain_keys, key_bucket};
@@ -130,7 +130,7 @@ impl KeyChains {
         ensures chains { AreChains self.new }
         ensures width { self.new.width ≡ self.old.width }
         ensures keys { OnOk result
-            (chain_keys self.new ≡ with_key (chain_keys self.old) key.now) }
+            (chain_keys self.new ≡ with_new_key (chain_keys self.old) key.now) }
         ensures number { IfOk result
             (λ number. number ≡ key_number (chain_keys self.old) key.now) }
     {
@@ -218,7 +218,7 @@ impl KeyChains {
         ensures chains { AreChains self.new }
         ensures width { self.new.width ≡ self.old.width }
         ensures keys { OnOk result
-            (chain_keys self.new ≡ with_key (chain_keys self.old) key.now) }
+            (chain_keys self.new ≡ with_new_key (chain_keys self.old) key.now) }
         ensures number { IfOk result
             (λ number. number ≡ key_number (chain_keys self.old) key.now) }
     {

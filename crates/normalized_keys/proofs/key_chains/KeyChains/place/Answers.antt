@@ -1,6 +1,6 @@
 use Rattle.std.proofs.Common.{◌≡◌, ◌≤◌, ◌<◌, ◌+◌, ◌-◌, ◌*◌, ◌++◌, ◌∙◌, ℕ, List, [], ◌∷◌, drop, get_or, length, take, sym, ap, append-nil, append_assoc, arith}
 use Rattle.std.proofs.lemmas.List.{at_drop_all, at_drop_more}
-use Rattle.normalized_keys.specs.KeyTables.{keys_then, key_number, key_numbers, cut_keys, with_key}
+use Rattle.normalized_keys.specs.KeyTables.{keys_then, key_number, key_numbers, cut_keys, with_new_key}
 use Rattle.normalized_keys.specs.inside.Chaining.{chain_keys}
 use Rattle.normalized_keys.proofs.Rows.{length-cut_keys, row_at}
 use Rattle.normalized_keys.proofs.key_chains.KeyChains.place.Goals as goal
@@ -21,7 +21,7 @@ loop-row-preserved c =
     let wide : row * own + own - row * own ≡ own = omega arith in
     let key : take (row * own + own - row * own) (drop (row * own) block) ≡ get_or all row [] =
     ap (λ (m : ℕ). take m (drop (row * own) block)) wide ∙ ap (λ (m : ℕ). take m (drop (row * m) block)) same ∙ sym (row_at c.args.count width row block within) in
-    let after : chain_keys c.guessed.new.self ≡ with_key k (get_or all row []) = c.in_ok-number.ensures.keys ∙ ap (with_key k) key in
+    let after : chain_keys c.guessed.new.self ≡ with_new_key k (get_or all row []) = c.in_ok-number.ensures.keys ∙ ap (with_new_key k) key in
     let number : c.in_ok-number.number ≡ key_number k (get_or all row []) = c.in_ok-number.ensures.number ∙ ap (key_number k) key in
     record {
       chains = c.in_ok-number.ensures.chains;
