@@ -147,8 +147,8 @@ fn place_rows<'t>(
     place_kept(alloc, kept, chosen)
 }
 
-// Whether keys are to be found by their words: where no tag tells them, most rows opened a group, or
-// there are many groups. Once they are made they are used for all rows.
+// Whether keys are to be found by their words: where no tag tells them, most rows opened a group,
+// or there are many groups. Once they are made they are used for all rows.
 fn wants_words(kept: &GroupState<'_>, chosen: &ChosenRows<'_, '_>) -> bool
     requires { IsTrue (list_all
         (λ column. nat_lt column (length chosen.now.batch.now.columns)) chosen.now.columns.now) }
@@ -158,8 +158,8 @@ fn wants_words(kept: &GroupState<'_>, chosen: &ChosenRows<'_, '_>) -> bool
     is_new_mostly || found > MOST_KNOWN || kept.words.are_made() || have_no_tags(chosen)
 }
 
-// Whether no tag tells the keys of rows: the key is not one column, or one whose values no number of
-// 64 bits tells.
+// Whether no tag tells the keys of rows: the key is not one column, or one whose values no number
+// of 64 bits tells.
 fn have_no_tags(chosen: &ChosenRows<'_, '_>) -> bool
     requires { IsTrue (list_all
         (λ column. nat_lt column (length chosen.now.batch.now.columns)) chosen.now.columns.now) }

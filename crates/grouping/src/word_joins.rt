@@ -1,6 +1,6 @@
 //! Groups of other rows, which join the own by the words of their keys.
 
-ghost use Rattle.std.specs.Prelude.{◌≡◌, All, IfOk, IfSome, None, OnOk, length, map};
+ghost use Rattle.std.specs.Prelude.{◌≡◌, All, IfOk, OnOk, length, map};
 ghost use Rattle.indexmap.specs.IndexSet.{insert_all};
 ghost use Rattle.typed_plan.specs.GroupedRows.{same_key};
 ghost use Rattle.first_rows.specs.RowKeys.{key_of};

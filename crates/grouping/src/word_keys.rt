@@ -69,7 +69,8 @@ impl WordKeys {
         wanted: bool,
     ) -> Result<Option<Vec<u32>>, AllocError>
         requires there { IsTrue (list_all
-            (λ column. nat_lt column (length chosen.now.batch.now.columns)) chosen.now.columns.now) }
+            (λ column. nat_lt column (length chosen.now.batch.now.columns))
+            chosen.now.columns.now) }
         requires within { All (λ row. row < chosen.now.batch.now.rows) chosen.now.rows.now }
         requires words { AreWordsOf (map key_of firsts.old.keys) self.old.table }
         ensures none { IfOk result (λ groups. groups ≡ None → self.new.table ≡ None) }
@@ -112,13 +113,14 @@ impl WordKeys {
         Ok(Some(places))
     }
 
-    /// The place of each key of other groups among the keys of the own and those of the other before
-    /// it, by the words of keys. None where one of both has no words, or they stand otherwise: then
+    /// The place of each key of other groups among the own keys and those of the other before it, by
+    /// the words of keys. None where one of both has no words, or they stand otherwise: then
     /// the own words are gone.
     ///
     /// # Errors
     ///
-    /// `AllocError` where memory is refused, 32 bits do not number the keys, or who watches ends it.
+    /// `AllocError` where memory is refused, 32 bits do not number the keys, or who watches ends
+    /// it.
     pub(crate) fn take<W: Watches>(
         &mut self,
         other: &WordKeys,
@@ -195,7 +197,8 @@ fn open_groups<'t>(
     requires there { IsTrue (list_all
         (λ column. nat_lt column (length chosen.now.batch.now.columns)) chosen.now.columns.now) }
     requires within { All (λ row. row < chosen.now.batch.now.rows) chosen.now.rows.now }
-    requires places { AreKeyPlaces (map key_of firsts.old.keys) (chosen_keys chosen.now) places.now }
+    requires places { AreKeyPlaces (map key_of firsts.old.keys) (chosen_keys chosen.now)
+        places.now }
     ensures finding { OnOk result (IsFinding chosen.now firsts.old.keys
         (length chosen.now.rows.now) firsts.new.keys places.now) }
     ensures texts { firsts.new.texts ≡ firsts.old.texts }

@@ -109,7 +109,8 @@ impl WordTable {
     ///
     /// # Errors
     ///
-    /// `AllocError` where memory is refused, 32 bits do not number the keys, or who watches ends it.
+    /// `AllocError` where memory is refused, 32 bits do not number the keys, or who watches ends
+    /// it.
     pub(crate) fn take_all<W: Watches>(
         &mut self,
         alloc: Global,

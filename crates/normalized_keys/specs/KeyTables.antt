@@ -20,7 +20,8 @@ key_number keys key = position_or_len (bytes_eq key) keys
 
 -- the keys, and one more after them where it is new
 abbrev pub with_new_key : List (List ℕ) → List ℕ → List (List ℕ)
-with_new_key keys key = if nat_lt (key_number keys key) (length keys) then keys else keys ++ key ∷ []
+with_new_key keys key =
+    if nat_lt (key_number keys key) (length keys) then keys else keys ++ key ∷ []
 
 -- the keys, and then those of more that are new
 abbrev pub keys_then : List (List ℕ) → List (List ℕ) → List (List ℕ)
