@@ -5,7 +5,8 @@ use borrow.Author.Tests.{ltb-false, ltb-true}
 use Rattle.std.proofs.Math.Seq.{take-length}
 use Rattle.std.proofs.lemmas.List.{drop-map, get_or-append_right, get_or_append_left, length-append, length-map, take-append-le, take-map}
 use Rattle.std.proofs.lemmas.List.Sums.{fold-append}
-use Rattle.indexmap.specs.IndexSet.{insert_key}
+use Rattle.std.specs.Prelude.{nat_eq}
+use Rattle.indexmap.specs.IndexSet.{insert_all, insert_key}
 use Rattle.scan_base.specs.declared.value.Value.{Value}
 use Rattle.typed_plan.specs.GroupedRows.{same_key}
 use Rattle.normalized_keys.specs.declared.key_field.KeyField.{KeyField}
@@ -15,6 +16,9 @@ use Rattle.normalized_keys.specs.Laws.{FitLayout}
 use Rattle.normalized_keys.proofs.Rows.{cut_part}
 use Rattle.grouping.specs.FoundKeys.{place_in}
 use Rattle.grouping.specs.declared.word_table.WordTable.{WordTable}
+use Rattle.first_rows.specs.declared.key.RowKey.{RowKey}
+use Rattle.grouping.specs.inside.Merging.{AreJoined}
+use Rattle.grouping.specs.inside.Placing.{found_by}
 use Rattle.grouping.specs.inside.Wording.{AreKeyPlaces, IsTaking, IsWordTable, found_with}
 use Rattle.grouping.proofs.Wording.{places_put, table_put}
 
@@ -130,3 +134,13 @@ taken_all found others words places so =
     let all = take-length others in
     (subst (λ (keys : List (List Value)). IsWordTable (found_with found keys) words) all so.table,
     subst (λ (keys : List (List Value)). AreKeyPlaces found keys places) all so.placed)
+
+-- ---- no other groups
+
+pub nothing_joined : (columns : List ℕ) (firsts others : List RowKey) → nat_eq (length columns) 0 ≡ false → length others ≡ 0 →
+    (found_by columns firsts ≡ insert_all same_key (found_by columns firsts) (found_by columns others))
+    × AreJoined (found_by columns firsts) (found_by columns others) [] (length (found_by columns others))
+nothing_joined [] firsts others some none = cc
+nothing_joined (column ∷ columns) firsts [] some none =
+    (refl, record { long = refl; each = λ k low. absurd (omega (arith, low)); there = λ k low. absurd (omega (arith, low)) })
+nothing_joined (column ∷ columns) firsts (first ∷ others) some none = absurd (omega (arith, none))

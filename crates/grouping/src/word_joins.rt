@@ -17,7 +17,8 @@ use work_watch::Watches;
 
 impl<'t> Grouping<'t> {
     /// The group that each of other groups joins, or stands as after all others: by the words of
-    /// keys, where both have them, and else by first rows. Who watches is told as for these.
+    /// keys, where both have them, and else by first rows. Who watches is told as for these. Where
+    /// no row was fed there, the own words stay.
     ///
     /// # Errors
     ///
@@ -56,6 +57,10 @@ impl<'t> Grouping<'t> {
         if self.keys.is_empty() {
             kept.words.forget();
             return self.join_firsts(alloc, &mut kept.firsts, &other.firsts, watch);
+        }
+        let many = other.firsts.len();
+        if many == 0 {
+            return Ok(Vec::new(alloc));
         }
         let placed = kept.words.take(&other.words, watch)?;
         if let Some(places) = placed {

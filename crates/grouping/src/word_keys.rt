@@ -113,8 +113,8 @@ impl WordKeys {
         Ok(Some(places))
     }
 
-    /// The place of each key of other groups among the own keys and those of the other before it, by
-    /// the words of keys. None where one of both has no words, or they stand otherwise: then
+    /// The place of each key of other groups among the own keys and those of the other before it,
+    /// by the words of keys. None where one of both has no words, or they stand otherwise: then
     /// the own words are gone.
     ///
     /// # Errors

@@ -3,8 +3,8 @@ use Rattle.std.proofs.lemmas.List.{get_or_append_left, get_or-append_right, get_
 use Rattle.first_rows.specs.Firsts.{FirstRowsAt}
 use Rattle.first_rows.proofs.firsts.FirstRows.get.Goals as goal
 
-pub returns-then-place : goal.returns-then-place
-returns-then-place c =
+pub returns-then-place-many : goal.returns-then-place-many
+returns-then-place-many c =
     let f = c.self.inside in
     c.get.ensures ∙ sym (get_or_append_left f.set.keys f.later.items c.get.result c.args.place (omega (arith, c.if-place-many.true, c.len-many.ensures)))
     ∙ ap (λ (rows : FirstRowsAt). get_or rows.keys c.args.place c.get.result) c.self.view_is

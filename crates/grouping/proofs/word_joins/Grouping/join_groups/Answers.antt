@@ -1,10 +1,22 @@
-use Rattle.std.proofs.Common.{◌≡◌, List, map, sym, ap, ◌∙◌, subst}
+use Rattle.std.proofs.Common.{◌≡◌, List, map, sym, ap, ◌∙◌, subst, arith}
 use Rattle.std.proofs.lemmas.Result.{on_ok_weaker}
 use Rattle.scan_base.specs.declared.value.Value.{Value}
 use Rattle.first_rows.specs.RowKeys.{key_of}
 use Rattle.grouping.specs.inside.Wording.{AreWordsOf}
+use Rattle.grouping.proofs.Taking.{nothing_joined}
 use Rattle.grouping.proofs.Wording.{found_keyed, no_words}
 use Rattle.grouping.proofs.word_joins.Grouping.join_groups.Goals as goal
+
+-- no other groups
+
+pub returns-then-many-eq0-clause-found : goal.returns-then-many-eq0-clause-found
+returns-then-many-eq0-clause-found g c =
+    (nothing_joined c.args.self.now.keys.now c.args.kept.now.firsts.keys c.args.other.now.firsts.keys (sym c.if-is_empty.ensures) (omega (arith, c.if-many-eq0.true, c.len-many.ensures))).0
+
+pub returns-then-many-eq0-clause-joined : goal.returns-then-many-eq0-clause-joined
+returns-then-many-eq0-clause-joined g c =
+    rw c.new.ensures.items
+    (nothing_joined c.args.self.now.keys.now c.args.kept.now.firsts.keys c.args.other.now.firsts.keys (sym c.if-is_empty.ensures) (omega (arith, c.if-many-eq0.true, c.len-many.ensures))).1
 
 -- by their words
 
