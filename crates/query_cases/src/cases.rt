@@ -21,6 +21,7 @@ pub fn answer(
         "range" => rows::of_range(alloc, catalog, case),
         "opened" => rows::opened_batches(alloc, catalog, case),
         "merged" => merges::by_key(alloc, catalog.seed(), case),
+        "pairs" => merges::by_pair(alloc, catalog.seed(), case),
         "whole" => merges::whole(alloc, catalog.seed(), case),
         _ => return String::from_str(alloc, "no such case"),
     };

@@ -25,6 +25,8 @@ static TYPES: [DataType; 2] = [
 
 static KEY: [usize; 1] = [0];
 
+static BOTH_KEYS: [usize; 2] = [0, 1];
+
 static NO_KEY: [usize; 0] = [];
 
 static OF_KEYS: [Aggregate; 4] = [
@@ -32,6 +34,12 @@ static OF_KEYS: [Aggregate; 4] = [
     Aggregate::CountRows,
     Aggregate::Count(1),
     Aggregate::Sum(1),
+];
+
+static OF_PAIRS: [Aggregate; 3] = [
+    Aggregate::Key(0),
+    Aggregate::Key(1),
+    Aggregate::CountRows,
 ];
 
 static OF_ALL: [Aggregate; 3] = [Aggregate::CountRows, Aggregate::Count(1), Aggregate::Sum(1)];
@@ -173,6 +181,18 @@ pub fn by_key(alloc: Global, seed: HashSeed, case: &str) -> Result<String, Fault
         types: &TYPES,
         keys: &KEY,
         items: &OF_KEYS,
+    };
+    cells_of(alloc, merged_of(alloc, seed, shape)?)
+}
+
+/// How many rows of two parts have each key and number.
+pub fn by_pair(alloc: Global, seed: HashSeed, case: &str) -> Result<String, Fault> {
+    let batches = batches_of(alloc, case)?;
+    let shape = Grouping {
+        batches: &batches,
+        types: &TYPES,
+        keys: &BOTH_KEYS,
+        items: &OF_PAIRS,
     };
     cells_of(alloc, merged_of(alloc, seed, shape)?)
 }
