@@ -24,14 +24,15 @@ use Rattle.grouping.proofs.Wording.{places_put, table_put}
 
 -- ---- parts of lists
 
-none_taken : {A : Type 0} (k : ℕ) → take {A = A} k [] ≡ []
-none_taken zero = refl
-none_taken (suc k) = refl
+none_taken : {A : Type 0} (k : ℕ) (xs : List A) → xs ≡ [] → take k xs ≡ []
+none_taken zero xs none = refl
+none_taken (suc k) [] none = refl
+none_taken (suc k) (x ∷ xs) none = cc
 
 take_joined : {A : Type 0} (from m to : ℕ) (xs : List A) → to ≡ from + m → take from xs ++ take m (drop from xs) ≡ take to xs
 take_joined zero m to xs is = let same : m ≡ to = omega (arith, is) in ap (λ (n : ℕ). take n xs) same
 take_joined (suc from) m zero xs is = absurd (omega (arith, is))
-take_joined (suc from) m (suc to) [] is = none_taken m
+take_joined (suc from) m (suc to) [] is = none_taken m [] refl
 take_joined (suc from) m (suc to) (x ∷ xs) is = ap (λ ys. x ∷ ys) (take_joined from m to xs (omega (arith, is)))
 
 take_over : {A : Type 0} (xs ys : List A) (k j : ℕ) → k ≡ length xs + j → take k (xs ++ ys) ≡ xs ++ take j ys

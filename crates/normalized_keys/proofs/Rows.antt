@@ -32,14 +32,15 @@ rows_more (suc n) width words key h w =
 
 -- ---- some of the keys
 
-take_none : (k : ℕ) → take {A = ℕ} k [] ≡ []
-take_none zero = refl
-take_none (suc k) = refl
+take_none : (k : ℕ) (words : List ℕ) → words ≡ [] → take k words ≡ []
+take_none zero words none = refl
+take_none (suc k) [] none = refl
+take_none (suc k) (word ∷ words) none = cc
 
 drop_take : (m k n : ℕ) (words : List ℕ) → n ≡ m + k → drop m (take n words) ≡ take k (drop m words)
 drop_take zero k n words is = let same : n ≡ k = omega (arith, is) in ap (λ (j : ℕ). take j words) same
 drop_take (suc m) k zero words is = absurd (omega (arith, is))
-drop_take (suc m) k (suc n) [] is = sym (take_none k)
+drop_take (suc m) k (suc n) [] is = sym (take_none k [] refl)
 drop_take (suc m) k (suc n) (word ∷ words) is = drop_take m k n words (omega (arith, is))
 
 -- the first so many keys
