@@ -19,10 +19,6 @@ use normalized_keys::KeyField;
 use std::alloc::{AllocError, Global};
 use std::marker::PhantomData;
 
-// The words of a dictionary's values are made at once where it has no more values than so many for
-// each row.
-const MOST_ENTRIES: usize = 4;
-
 /// A column, and the numbers of some of its rows.
 #[derive(Clone, Copy, Drop)]
 pub(crate) struct ColumnRows<'a> {
@@ -208,8 +204,8 @@ impl<'a> ColumnRows<'a> {
         self.put_cells(&cells, place, words)
     }
 
-    // The same, where these are the column's indices. Of a dictionary with few values the words of
-    // each are made once.
+    // The same, where these are the column's indices. The words of each value of the dictionary are
+    // made once, where it has no more values than there are rows.
     fn put_indices(
         &self,
         alloc: Global,
@@ -228,7 +224,7 @@ impl<'a> ColumnRows<'a> {
         let KeyField::Text = place.field else {
             return Ok(self.put_any(place, words));
         };
-        if dictionary.len() / MOST_ENTRIES > self.rows.len() {
+        if dictionary.len() > self.rows.len() {
             return Ok(self.put_any(place, words));
         }
         let entries = entry_words(alloc, dictionary)?;
