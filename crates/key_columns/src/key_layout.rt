@@ -90,7 +90,7 @@ impl KeyLayout {
     pub fn is_same(&self, other: &KeyLayout) -> bool
         ensures { IsTrue result → self.now ≡ other.now }
     {
-        self.fields == other.fields
+        have_same(self.fields.as_slice(), other.fields.as_slice())
     }
 
     /// The field of a column.
@@ -150,4 +150,40 @@ fn fields_width(fields: &[KeyField]) -> Result<usize, AllocError>
         width = more;
     }
     Ok(width)
+}
+
+// Whether two lists have the same fields, one by one.
+fn have_same(left: &[KeyField], right: &[KeyField]) -> bool
+    ensures { IsTrue result → left.now ≡ right.now }
+{
+    if left.len() != right.len() {
+        return false;
+    }
+    let mut same = true;
+    for place in 0..left.len() {
+        let one = left[place];
+        let other = right[place];
+        same = same & is_field(one, other);
+    }
+    same
+}
+
+// Whether two fields are the same.
+fn is_field(left: KeyField, right: KeyField) -> bool
+    ensures { IsTrue result → left ≡ right }
+{
+    match left {
+        KeyField::Truth => match right {
+            KeyField::Truth => true,
+            _ => false,
+        },
+        KeyField::Text => match right {
+            KeyField::Text => true,
+            _ => false,
+        },
+        KeyField::Number { bits, words } => match right {
+            KeyField::Number { bits: b, words: w } => bits == b && words == w,
+            _ => false,
+        },
+    }
 }
