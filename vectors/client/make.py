@@ -174,7 +174,7 @@ join(["schema_Date batch_Date" + DONE, "schema_Int32 batch_Int32" + DONE], "F11 
 join(["schema_Int32 batch_Int32" + DONE, "schema_Date" + DONE], "F11 SchemaMismatch")
 join(["schema_Date batch_Date" + DONE, "schema_Date_full" + DONE], "F11 SchemaMismatch")
 join(["schema_Timestamp batch_Timestamp" + DONE, "schema_Timestamp" + DONE],
-     "a Timestamp or null; 1714564800250000,;null,;-1,;-62135596800000000,;-62135596800000001,;253402300799999999,;"
+     "a Timestamp(Microsecond, false) or null; 1714564800250000,;null,;-1,;-62135596800000000,;-62135596800000001,;253402300799999999,;"
      "-9223372036854775808,;9223372036854775807,;")
 join(["schema_Timestamp batch_Timestamp" + DONE, "schema_Int64 batch_Int64" + DONE], "F11 SchemaMismatch")
 join(["schema_Int64 batch_Int64" + DONE, "schema_Timestamp" + DONE], "F11 SchemaMismatch")

@@ -437,7 +437,6 @@ TIMESTAMPS = [
     (f"t BETWEEN TIMESTAMP '1969-12-31 23:59:59.9' AND {NOON}", [4, 5]),
     (f"t NOT BETWEEN TIMESTAMP '1969-12-31 23:59:59.9' AND {NOON}", [1, 2, 6]),
     (f"t BETWEEN t AND {NOON}", [2, 4, 5]),
-    (f"{NOON} BETWEEN TIMESTAMP '2024-05-01 00:00:00' AND t", [1, 5, 6]),
     (f"t IN ({NOON}, TIMESTAMP '9999-12-31 23:59:59.999999')", [5, 6]),
     (f"t NOT IN ({NOON})", [1, 2, 4, 6]),
     ("t IN (TIMESTAMP '2024-05-02 12:00:00', t)", [1, 2, 4, 5, 6]),
@@ -450,7 +449,33 @@ TIMESTAMPS = [
     (f"{NOON} = {NOON}", [1, 2, 3, 4, 5, 6]),
     (f"{NOON} > {LATER}", []),
     (f"t > {NOON} AND d >= DATE '2024-05-01'", [1]),
+    ("t > TIMESTAMP '1969-12-31 23:59:59.9999989'", [1, 4, 5, 6]),
+    ("t = TIMESTAMP '2024-05-01 12:00:00.0000001'", []),
+    ("TIMESTAMP '1969-12-31 23:59:59.9999991Z' >= t", [2, 4]),
 ]
+
+# Over `ticks`, of which the row k has these: s in seconds and m in milliseconds with a zone are the moments of TICKS, n is a
+# nanosecond after, c is the time of that day in milliseconds, and e a duration in seconds.
+TICKS_ASKED = [
+    ("s = TIMESTAMP '2024-05-01 12:00:00.5'", []),
+    ("s <> TIMESTAMP '2024-05-01 12:00:00.5'", [1, 2, 3]),
+    ("s < TIMESTAMP '2024-05-01 12:00:00.000000000000000000001'", [1, 2]),
+    ("s <= TIMESTAMP '2024-05-01 12:00:00.5'", [1, 2]),
+    ("s > TIMESTAMP '2024-05-01 11:59:59.5'", [2, 3]),
+    ("TIMESTAMP '2024-05-01 12:00:00.5' > s", [1, 2]),
+    ("s >= TIMESTAMP '1969-12-31 23:59:58.5'", [2, 3]),
+    ("s BETWEEN TIMESTAMP '1969-12-31 23:59:58.5' AND TIMESTAMP '2024-05-01 12:00:00.5'", [2]),
+    ("s NOT IN (TIMESTAMP '2024-05-01 12:00:00.5', TIMESTAMP '2024-05-01 12:00:00Z')", [1, 3]),
+    ("m = TIMESTAMP '2024-05-01 12:00:00Z'", [2]),
+    ("n > TIMESTAMP '2024-05-01 12:00:00'", [2, 3]),
+    ("n = TIMESTAMP '2024-05-01 12:00:00.000000001'", [2]),
+    ("c = TIME '12:00:00'", [2]),
+    ("c < TIME '12:00:00.0001'", [2, 3]),
+    ("c >= TIME '23:59:57.9999'", [1]),
+    ("e = e", [1, 2, 3]),
+]
+CLASHES_OF_TICKS = ["s = m", "s = n", "s = c", "c = e", "e = 1", "s = TIME '12:00:00'", "c = TIMESTAMP '2024-05-01 12:00:00'", "c = '12:00:00'",
+                    "TIME '12:00:00' = TIMESTAMP '2024-05-01 12:00:00'", "s = 1714564800", "s IN (TIMESTAMP '2024-05-01 12:00:00', m)"]
 
 # A timestamp is of a class of its own, too.
 CLASHES_OF_TIMESTAMPS = [
@@ -468,6 +493,8 @@ CLASHES_OF_TIMESTAMPS = [
     f"{NOON} < '2024-05-01 12:00:00'",
     f"{NOON} = TRUE",
     "t = k",
+    f"{NOON} BETWEEN TIMESTAMP '2024-05-01 00:00:00' AND t",
+    f"{NOON} IN (t)",
     f"t BETWEEN {NOON} AND DATE '2024-05-02'",
     f"t BETWEEN '2024-05-01 12:00:00' AND {LATER}",
     f"t BETWEEN {NOON} AND 0",
@@ -729,8 +756,8 @@ COLUMNS = [
     ("SELECT * FROM p JOIN q ON p.a = q.a", "a Integer(Int64) true;a Integer(Int64) true;"),
     ('SELECT a AS "x""y", a "Ab", b Cd FROM t', 'x"y Integer(Int64) true;Ab Integer(Int64) true;Cd Integer(Int64) true;'),
     ("SELECT d, COUNT(d) FROM days GROUP BY d", "d Date true;col2 Integer(Int64) false;"),
-    ("SELECT t, COUNT(t) FROM moments GROUP BY t", "t Timestamp true;col2 Integer(Int64) false;"),
-    ("SELECT t AS timestamp, i timestamp FROM clocks Timestamp", "timestamp Timestamp false;timestamp Integer(Int64) false;"),
+    ("SELECT t, COUNT(t) FROM moments GROUP BY t", "t Timestamp(Microsecond, false) true;col2 Integer(Int64) false;"),
+    ("SELECT t AS timestamp, i timestamp FROM clocks Timestamp", "timestamp Timestamp(Microsecond, false) false;timestamp Integer(Int64) false;"),
     (
         "SELECT c, k, c AS d FROM types",
         "c Dictionary(DictionaryEncoding { id: 0, index: Int32 }) true;k Integer(Int8) false;"
@@ -783,6 +810,7 @@ def refused():
     yield from ((f"rows SELECT k FROM types WHERE {predicate}", CLASH) for predicate in CLASHES_OF_TYPES)
     yield from ((f"rows SELECT k FROM days WHERE {predicate}", CLASH) for predicate in CLASHES_OF_DATES)
     yield from ((f"rows SELECT k FROM moments WHERE {predicate}", CLASH) for predicate in CLASHES_OF_TIMESTAMPS)
+    yield from ((f"rows SELECT k FROM ticks WHERE {predicate}", CLASH) for predicate in CLASHES_OF_TICKS)
 
 
 def large():
@@ -820,6 +848,8 @@ def cases():
         yield rows(f"SELECT k FROM days WHERE {predicate}", wanted)
     for predicate, wanted in TIMESTAMPS:
         yield rows(f"SELECT k FROM moments WHERE {predicate}", wanted)
+    for predicate, wanted in TICKS_ASKED:
+        yield rows(f"SELECT k FROM ticks WHERE {predicate}", wanted)
     yield from (rows(query, wanted) for query, wanted in JOINED_OR_GROUPED)
     yield from ((f"merged {first}/{second}", "".join(map(shown, wanted))) for first, second, wanted in MERGED)
     yield from ((f"whole {first}/{second}", "".join(map(shown, wanted))) for first, second, wanted in MERGED_WHOLE)

@@ -10,7 +10,7 @@ import pyarrow
 from .columns import Categories, Column
 from .errors import InterfaceError
 from .rows import ROWS_OF_A_BATCH, Values
-from .schema import DAY, DIGITS, INTEGERS, MOMENT, NUMBER, TEXT, TRUTH, DataType, Field, Schema, dictionary_of
+from .schema import CLOCKS, DAY, DIGITS, INTEGERS, MOMENT, MOMENTS, NUMBER, TEXT, TRUTH, ZONED, DataType, Field, Schema, dictionary_of
 from .stream import Batch
 from .tables import Table
 from .values import of_array, refused, values_of, with_codes
@@ -21,8 +21,19 @@ def type_for(of: DataType) -> pyarrow.DataType:
         return pyarrow.dictionary(pyarrow.from_numpy_dtype(of.dtype), pyarrow.string())
     if of.is_integer:
         return pyarrow.from_numpy_dtype(of.dtype)
-    return {TEXT: pyarrow.string(), TRUTH: pyarrow.bool_(), DAY: pyarrow.date32(), MOMENT: pyarrow.timestamp("us"),
-            NUMBER: pyarrow.decimal128(DIGITS, 0)}[of]
+    if of.unit is not None:
+        return type_of_times(of, of.unit)
+    return {TEXT: pyarrow.string(), TRUTH: pyarrow.bool_(), DAY: pyarrow.date32(), NUMBER: pyarrow.decimal128(DIGITS, 0)}[of]
+
+
+def type_of_times(of: DataType, unit: str) -> pyarrow.DataType:
+    if of in MOMENTS.values():
+        return pyarrow.timestamp(unit)
+    if of in ZONED.values():
+        return pyarrow.timestamp(unit, "UTC")
+    if of in CLOCKS.values():
+        return (pyarrow.time32 if unit in ("s", "ms") else pyarrow.time64)(unit)
+    return pyarrow.duration(unit)
 
 
 def schema_for(schema: Schema) -> pyarrow.Schema:

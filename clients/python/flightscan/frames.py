@@ -10,12 +10,12 @@ import pandas
 from .columns import Array
 from .errors import DataError, InterfaceError
 from .rows import Values
-from .schema import DAY, INTEGERS, MOMENT, NUMBER, TEXT, TRUTH, Field, Schema, dictionary_of
+from .schema import DAY, INTEGERS, NUMBER, TEXT, TRUTH, DataType, Field, Schema, dictionary_of
 from .tables import JoinedColumn, Table
 from .values import look_at_name, of_array, refused, values_of, with_codes
 
-# What 64 bits of nanoseconds hold: 1677-09-22 to 2262-04-11, as days and as microseconds from 1970 on.
-MOST = {DAY.name: 106_751, MOMENT.name: (2**63 - 1) // 1_000}
+# What 64 bits of nanoseconds hold, as units: of days and of moments from 1970 on, 1677-09-22 to 2262-04-11.
+MOST = {None: 106_751, "s": (2**63 - 1) // 10**9, "ms": (2**63 - 1) // 10**6, "us": (2**63 - 1) // 1_000, "ns": 2**63 - 1}
 CHOICES = {"decimals": ("objects", "integers"), "dates": ("datetime64", "objects")}
 
 
@@ -41,13 +41,13 @@ def frame_of(table: Table, decimals: str = "objects", dates: str = "datetime64")
 
 def series_of(column: JoinedColumn, decimals: str, dates: str) -> Any:
     """The array of a frame's column."""
-    of, values = column.field.type, column.values if column.field.type not in (NUMBER, DAY, MOMENT) else None
+    of, values = column.field.type, column.values if of_slots(column.field.type) else None
     if of.is_dictionary:
         codes, categories = column.coded()
         return pandas.Categorical.from_codes(codes, pandas.Index(categories, dtype=object))
     if of == TEXT:
         return values
-    if of in (DAY, MOMENT):
+    if of == DAY or of.unit is not None:
         return column_of_objects(column) if dates == "objects" else times_of(column)
     if of == NUMBER and decimals == "objects":
         return column.values
@@ -68,14 +68,20 @@ def column_of_objects(column: JoinedColumn) -> Array:
     return made
 
 
+def of_slots(of: DataType) -> bool:
+    """Whether the values of a frame's column are those of its slots."""
+    return of not in (NUMBER, DAY) and of.unit is None
+
+
 def times_of(column: JoinedColumn) -> Array:
-    """Dates or timestamps in nanoseconds, which is what pandas has."""
-    name, nulls = column.field.type.name, np.zeros(len(column), np.bool_) if column.mask is None else column.mask
-    kept = column.values[~nulls].astype(np.int64)
-    if len(kept) and not -MOST[name] <= kept.min() <= kept.max() <= MOST[name]:
-        raise DataError(f"column {column.field.name}: a {name} outside 1677-09-22 to 2262-04-11; ask with dates='objects'")
-    found = column.values.astype("datetime64[ns]")
-    found[nulls] = np.datetime64("NaT")
+    """Dates, timestamps, times or durations in nanoseconds, which is what pandas has."""
+    of, nulls = column.field.type, np.zeros(len(column), np.bool_) if column.mask is None else column.mask
+    kept, most = column.values[~nulls].astype(np.int64), MOST[of.unit]
+    if len(kept) and not -most <= kept.min() <= kept.max() <= most:
+        raise DataError(f"column {column.field.name}: a {of.name} outside 1677-09-22 to 2262-04-11; ask with dates='objects'")
+    kind = column.values.dtype.kind
+    found = column.values.astype(f"<{kind}8[ns]")
+    found[nulls] = np.array("NaT", f"{kind}8[ns]")
     return found
 
 

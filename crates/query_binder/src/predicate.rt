@@ -4,7 +4,9 @@ ghost use Rattle.std.specs.Prelude.{◌≡◌, IfOk, Ok, map};
 ghost use Rattle.scan_base.specs.Predicate.{truth_test, comparing, between, membership, null_test};
 ghost use Rattle.scan_base.specs.View.{pred_of};
 ghost use Rattle.typed_plan.specs.Class.{literal_value};
+ghost use Rattle.scan_base.specs.declared.comparison.Comparison.TheVariants.{Equal};
 ghost use Rattle.typed_plan.specs.Scope.{term_operand};
+ghost use Rattle.typed_plan.specs.SettledLiterals.{settled_operand as settled};
 ghost use Rattle.typed_plan.specs.Faults.{operand_class, compare_fault, items_fault, fault_in};
 ghost use Rattle.query_binder.specs.NameClasses.{class_of_name, class_of_term};
 ghost use Rattle.typed_plan.specs.NumberedPredicates.{operand_bind};
@@ -12,6 +14,7 @@ ghost use Rattle.query_binder.specs.Chain.{connected};
 ghost use Rattle.query_binder.specs.Outcome.{Binds, BindsPredicate};
 
 use crate::chain::{ChainLink, Connective, first_of};
+use crate::literals::{settled_operand, settled_or, turned};
 use crate::scope::Scope;
 use scan_base::{Comparison, Fault, Items, Operand, Predicate, Truth, Value};
 use sql_query::{ColumnName, Literal, Term};
@@ -49,7 +52,7 @@ fn operand_class(scope: &Scope<'_>, operand: &Operand<Term>) -> Result<Class, Fa
 fn agree(class: Class, other: Result<Class, Fault>) -> Result<(), Fault>
     ensures { fault_in result ≡ compare_fault (Ok class) other }
 {
-    if class == other? {
+    if class.is_same(other?) {
         Ok(())
     } else {
         Err(Fault::TypeClash)
@@ -64,6 +67,7 @@ fn bind_literal(literal: &Literal) -> Result<Value, AllocError>
         Literal::Text(text) => Ok(Value::Text(text.clone()?)),
         Literal::Truth(flag) => Ok(Value::Bool(*flag)),
         Literal::Number(_, number) => Ok(Value::Int(*number)),
+        Literal::Timestamp(zeptos) | Literal::Time(zeptos) => Ok(Value::Int(*zeptos)),
     }
 }
 
@@ -88,19 +92,30 @@ fn number_operand(scope: &Scope<'_>, operand: &Operand<Term>) -> Result<Operand<
     }
 }
 
+// What the items of an IN are compared with: an operand, and its class.
+#[derive(Clone, Copy)]
+struct LeftSide<'a> {
+    class: Class,
+    operand: &'a Operand<Term>,
+}
+
 // The items whose classes agree with an operand's.
 fn number_items(
     alloc: Global,
     scope: &Scope<'_>,
-    class: Class,
+    left: LeftSide<'_>,
     items: &[Operand<Term>],
 ) -> Result<Items<Operand<usize>>, Fault>
-    ensures { Binds (items_fault (class_of_term scope.now) (Ok class) items.now)
-        (λ bound. bound ≡ map (operand_bind (term_operand scope.now)) items.now) result }
+    ensures { Binds (items_fault (class_of_term scope.now) (Ok left.entry.class)
+        (map (settled scope.now Equal left.entry.operand.now) items.now))
+        (λ bound. bound ≡ map (operand_bind (term_operand scope.now))
+        (map (settled scope.now Equal left.entry.operand.now) items.now)) result }
 {
     let mut bound = Items::new(alloc);
     for item in items {
-        agree(class, operand_class(scope, item))?;
+        let settled = settled_operand(scope, Comparison::Equal, left.operand, item);
+        let item = settled_or(&settled, item);
+        agree(left.class, operand_class(scope, item))?;
         bound.push(number_operand(scope, item)?)?;
     }
     Ok(bound)
@@ -115,6 +130,10 @@ fn number_comparison(
 ) -> Result<Predicate<usize>, Fault>
     ensures { BindsPredicate scope.now (comparing comparison left.now right.now) result }
 {
+    let left_settled = settled_operand(scope, turned(comparison), right, left);
+    let right_settled = settled_operand(scope, comparison, left, right);
+    let left = settled_or(&left_settled, left);
+    let right = settled_or(&right_settled, right);
     agree(operand_class(scope, left)?, operand_class(scope, right))?;
     Ok(Predicate::Compare {
         comparison,
@@ -133,6 +152,10 @@ fn number_between(
 ) -> Result<Predicate<usize>, Fault>
     ensures { BindsPredicate scope.now (between negated operand.now low.now high.now) result }
 {
+    let low_settled = settled_operand(scope, Comparison::GreaterOrEqual, operand, low);
+    let high_settled = settled_operand(scope, Comparison::LessOrEqual, operand, high);
+    let low = settled_or(&low_settled, low);
+    let high = settled_or(&high_settled, high);
     let class = operand_class(scope, operand)?;
     agree(class, operand_class(scope, low))?;
     agree(class, operand_class(scope, high))?;
@@ -155,7 +178,7 @@ fn number_in(
     ensures { BindsPredicate scope.now (membership negated operand.now items.now) result }
 {
     let class = operand_class(scope, operand)?;
-    let items = number_items(alloc, scope, class, items)?;
+    let items = number_items(alloc, scope, LeftSide { class, operand }, items)?;
     Ok(Predicate::In {
         negated,
         operand: number_operand(scope, operand)?,

@@ -2,7 +2,7 @@
 use Rattle.std.proofs.Common.{◌≡◌, true, false, refl}
 use Rattle.jiff_core.specs.Calendar.{days_from_civil, day_count, days_of_years, days_of_months}
 use Rattle.sql_text.specs.Values.{number_of}
-use Rattle.number_words.specs.Moments.{clock_in, fraction_in, moment_in}
+use Rattle.number_words.specs.Moments.{clock_in, fraction_in, moment_in, time_in}
 use Rattle.grammar.specs.Reading.{nullable, starts}
 use Rattle.grammar.proofs.Determined.{well_made, is_guarded, covers, determined}
 use Rattle.sql_parse.specs.Tokens.{same_word, same_symbol}
@@ -24,7 +24,7 @@ one_way = refl
 pub made_well : well_made factor_by_operand ≡ true
 unfolding number_of same_word same_symbol name column minus digits date number string literal operand compare negated conj pred
     truth_value compared nulled ranged among tail forms primary test factor_by_operand unquoted days_from_civil day_count days_of_years days_of_months
-    clock_in fraction_in moment_in
+    clock_in fraction_in moment_in time_in
 made_well = refl
 
 pub guarded : is_guarded factor_by_operand ≡ true

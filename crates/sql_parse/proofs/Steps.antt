@@ -5,9 +5,7 @@ use Rattle.std.specs.Prelude.{◌==◌, ℤ}
 use Rattle.sql_text.specs.Values.{number_of}
 use Rattle.std.proofs.lemmas.Bool.{ne_eqb}
 use Rattle.jiff_core.specs.Calendar.{days_from_civil, day_count, days_of_years, days_of_months}
-use Rattle.number_words.specs.Moments.{clock_in, fraction_in, moment_in}
-use Rattle.arrow_types.specs.declared.data_type.NumberType.{NumberType}
-use Rattle.arrow_types.specs.declared.data_type.NumberType.TheVariants.{Date}
+use Rattle.number_words.specs.Moments.{clock_in, fraction_in, moment_in, time_in}
 use Rattle.sql_text.specs.declared.word.Keyword.{Keyword}
 use Rattle.sql_text.specs.declared.word.Keyword.TheVariants as word
 use Rattle.sql_text.specs.declared.symbol.Symbol.TheVariants as symbol
@@ -23,14 +21,14 @@ use Rattle.scan_base.specs.Predicate.{conjunction, disjunction, negation}
 use Rattle.grammar.specs.Rule.{many, make}
 use Rattle.grammar.proofs.Deep.{flat_alike}
 use Rattle.sql_query.specs.declared.query.Term.{Term}
-use Rattle.sql_parse.specs.Productions.{name, column, minus, digits, number_after, date, number, string, literal, operand}
+use Rattle.sql_parse.specs.Productions.{name, column, minus, digits, literal_after, date, number, string, literal, operand}
 use Rattle.sql_parse.specs.Productions.{compare}
 use Rattle.sql_parse.specs.Notation.{Condition}
 use Rattle.sql_parse.specs.Productions.{negated}
 use Rattle.sql_parse.specs.PredicateProductions.{truth_value, conj, pred, inner}
 use Rattle.sql_parse.specs.Notation.{a_word, a_symbol, ◌⊳◌, ◌⊲◌}
 use Rattle.sql_parse.specs.FactoredGrammar.{compared, nulled, ranged, among, tail, forms, primary, test, factor_by_operand}
-use Rattle.sql_parse.specs.Steps.{at, token_at, name_at, column_at, minus_at, numbered, digits_at, number_after_at, number_at}
+use Rattle.sql_parse.specs.Steps.{at, token_at, name_at, column_at, minus_at, given, digits_at, literal_after_at, number_at}
 use Rattle.sql_parse.specs.Steps.{literal_at, operand_at, compare_at}
 use Rattle.sql_parse.specs.PredicateSteps.{negated_at, truth_at, compared_at, nulled_at, ranged_at}
 use Rattle.sql_parse.specs.PredicateSteps.{operands_at, among_at, tail_at, factor_at, ands_at, conj_at, ors_at, pred_at}
@@ -79,7 +77,7 @@ pub column_same : (D : Nest) (ts : List Mark) → seen (reads D column ts) ≡ c
 unfolding column column_at token_at at
 column_same D ts = simp (flat, name_same)
 
-seen_kept : (o : Option ℤ) (all rest : List Mark) → seen (kept o all rest) ≡ numbered o all rest
+seen_kept : {A : Type 0} (o : Option A) (all rest : List Mark) → seen (kept o all rest) ≡ given o all rest
 unfolding seen
 seen_kept None all rest = refl
 seen_kept (Some n) all rest = refl
@@ -93,14 +91,14 @@ then_same : {A : Type 0} (o : Answer A) → (o >>= λ p. Ok (p.0, p.1)) ≡ o
 then_same (Ok p) = refl
 then_same (Err e) = refl
 
-number_after_same : (before : Keyword) (kind : NumberType) (D : Nest) (t : Mark) (ts : List Mark) →
-    seen (reads D (number_after before kind t) ts) ≡ number_after_at before kind ts
-unfolding number_after_at token_at
-number_after_same before kind D t ts = simp (flat, seen_kept, then_same)
+literal_after_same : (before : Keyword) (D : Nest) (t : Mark) (ts : List Mark) →
+    seen (reads D (literal_after before t) ts) ≡ literal_after_at before ts
+unfolding literal_after_at token_at
+literal_after_same before D t ts = simp (flat, seen_kept, then_same)
 
-date_same : (D : Nest) (ts : List Mark) → seen (reads D date ts) ≡ number_after_at word.Date Date ts
+date_same : (D : Nest) (ts : List Mark) → seen (reads D date ts) ≡ literal_after_at word.Date ts
 unfolding date
-date_same D ts = number_after_same word.Date Date D date_token ts
+date_same D ts = literal_after_same word.Date D date_token ts
 
 number_same : (D : Nest) (ts : List Mark) → seen (reads D number ts) ≡ number_at ts
 unfolding number number_at token_at
@@ -115,7 +113,7 @@ unfolding date at
 date_starts ts = refl
 
 literal_same : (D : Nest) (ts : List Mark) → seen (reads D literal ts) ≡ literal_at ts
-unfolding literal literal_at number_after_at token_at at string
+unfolding literal literal_at literal_after_at token_at at string
 literal_same D ts = simp (flat, date_starts, date_same, seen_kept, then_same, number_same)
 
 pub operand_same : (D : Nest) (ts : List Mark) → seen (reads D operand ts) ≡ operand_at ts
@@ -269,7 +267,7 @@ nil_after xs ys x = append_assoc xs (x ∷ []) ys
 
 operand_made : well_made (a_symbol symbol.Comma ⊳ operand) ≡ true
 unfolding literal operand column name number minus digits date string same_symbol same_word number_of unquoted days_from_civil day_count days_of_years days_of_months
-    clock_in fraction_in moment_in
+    clock_in fraction_in moment_in time_in
 operand_made = refl
 
 operands_flat : (D : Nest) (ts : List Mark) →

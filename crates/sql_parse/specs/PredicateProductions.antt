@@ -20,7 +20,7 @@ abbrev pub begins_factor : TokenKind → Bool
 begins_factor = is_one_of
     (is_name ∷ is_symbol symbol.Plus ∷ is_symbol symbol.Minus ∷ is_digits ∷ is_string ∷
     is_word word.True ∷ is_word word.False ∷ is_word word.Date ∷ is_symbol symbol.LeftParenthesis
-    ∷ is_word word.Not ∷ is_word word.Timestamp ∷ [])
+    ∷ is_word word.Not ∷ is_word word.Timestamp ∷ is_word word.Time ∷ [])
 
 -- a factor within a factor
 abbrev pub inner : Of Condition

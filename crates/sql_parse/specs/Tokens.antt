@@ -98,3 +98,7 @@ date_token = (kind.String, (0, codes "'1970-01-01'"))
 -- a token that is the text of a timestamp
 abbrev pub timestamp_token : Mark
 timestamp_token = (kind.String, (0, codes "'1970-01-01 00:00:00'"))
+
+-- a token that is the text of a time of a day
+abbrev pub time_token : Mark
+time_token = (kind.String, (0, codes "'00:00:00'"))

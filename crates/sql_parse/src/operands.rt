@@ -3,12 +3,13 @@
 ghost use Rattle.std.specs.Prelude.{◌≡◌, ◌<◌, ◌≤◌, ◌≤ℤ◌, pos, IfOk};
 ghost use Rattle.sql_parse.specs.Answers.{Gives};
 ghost use Rattle.sql_parse.specs.Calls.{unread, remaining};
+ghost use Rattle.sql_parse.specs.Productions.{literal_said};
 ghost use Rattle.sql_parse.specs.Steps as steps;
 
 use crate::refusal::Refusal;
 use crate::tokens::{Class, Rest};
 use arrow_types::NumberType;
-use number_words::read;
+use number_words::{read, time_zeptos, zeptos_said};
 use scan_base::{Comparison, Operand, Text};
 use sql_query::{ColumnName, Literal, Term};
 use sql_text::{Keyword, Symbol};
@@ -90,37 +91,50 @@ fn signed_number<'t>(tokens: Rest<'t>) -> Result<(i128, Rest<'t>), Refusal>
     Ok((if negative { -number } else { number }, rest))
 }
 
-// a word and a string, where the string is a number of the type
-#[tactic(auto, unfolding(crate::specs::Steps::number_after_at))]
-fn number_after<'t>(
+// a word and a string, where the string says a literal
+#[tactic(auto, unfolding(crate::specs::Steps::literal_after_at))]
+fn literal_after<'t>(
     alloc: Global,
     tokens: Rest<'t>,
     word: Keyword,
-    kind: NumberType,
 ) -> Result<(Literal, Rest<'t>), Refusal>
     ensures exact { Gives (λ x. (x.0, unread x.1)) result
-        (steps.number_after_at word kind (unread tokens.entry)) }
+        (steps.literal_after_at word (unread tokens.entry)) }
     ensures shorter { IfOk result (λ x. remaining x.1 < remaining tokens.entry) }
 {
     let (_, behind) = tokens.take(Class::Word(word))?;
     let (token, rest) = behind.take(Class::String)?;
     let text = token.value(alloc)?;
-    match read(kind, text.as_str()) {
-        Some(number) => Ok((Literal::Number(kind, number), rest)),
+    match literal_said(word, text.as_str()) {
+        Some(literal) => Ok((literal, rest)),
         None => Err(Refusal::Offends(behind.tokens.len())),
     }
 }
 
-// DATE string | TIMESTAMP string | string | TRUE | FALSE | number
+// The literal that a text says after a word.
+fn literal_said(word: Keyword, text: &str) -> Option<Literal>
+    ensures { result ≡ literal_said word text.now }
+{
+    match word {
+        Keyword::Date => Some(Literal::Number(NumberType::Date, read(NumberType::Date, text)?)),
+        Keyword::Timestamp => Some(Literal::Timestamp(zeptos_said(text)?)),
+        Keyword::Time => Some(Literal::Time(time_zeptos(text)?)),
+        _ => None,
+    }
+}
+
+// DATE string | TIMESTAMP string | TIME string | string | TRUE | FALSE | number
 #[tactic(auto, unfolding(crate::specs::Steps::literal_at))]
 fn literal<'t>(alloc: Global, tokens: Rest<'t>) -> Result<(Literal, Rest<'t>), Refusal>
     ensures exact { Gives (λ x. (x.0, unread x.1)) result (steps.literal_at (unread tokens.entry)) }
     ensures shorter { IfOk result (λ x. remaining x.1 < remaining tokens.entry) }
 {
     if tokens.at(Class::Word(Keyword::Date)) {
-        number_after(alloc, tokens, Keyword::Date, NumberType::Date)
+        literal_after(alloc, tokens, Keyword::Date)
     } else if tokens.at(Class::Word(Keyword::Timestamp)) {
-        number_after(alloc, tokens, Keyword::Timestamp, NumberType::Timestamp)
+        literal_after(alloc, tokens, Keyword::Timestamp)
+    } else if tokens.at(Class::Word(Keyword::Time)) {
+        literal_after(alloc, tokens, Keyword::Time)
     } else if tokens.at(Class::String) {
         let (token, rest) = tokens.take(Class::String)?;
         Ok((Literal::Text(token.value(alloc)?), rest))
