@@ -1,5 +1,5 @@
 -- The text of a timestamp reads back.
-use Rattle.std.proofs.Common.{◌≡◌, ℕ, ◌+◌, ◌-◌, ◌*◌, ◌/◌, ◌%◌, ◌<◌, ◌&&◌, ◌==◌, Bool, true, false, if◌then◌else◌, List, [], ◌∷◌, ◌++◌, append_assoc, append-nil, length, take, slice_index, nat_le, IsTrue, Option, Some, None, option_map, ℤ, pos, negsuc, ◌≤ℤ◌, ◌+ℤ◌, ◌*ℤ◌, unsigned_abs, refl, sym, ap, ◌∙◌, arith}
+use Rattle.std.proofs.Common.{◌≡◌, ℕ, ◌+◌, ◌-◌, ◌*◌, ◌/◌, ◌%◌, ◌<◌, ◌&&◌, Bool, true, false, if◌then◌else◌, List, [], ◌∷◌, ◌++◌, append_assoc, append-nil, length, take, slice_index, nat_le, IsTrue, Option, Some, None, option_map, ℤ, pos, negsuc, ◌≤ℤ◌, ◌+ℤ◌, ◌*ℤ◌, unsigned_abs, refl, ap, ◌∙◌, arith}
 use Rattle.std.specs.Char.{is_ascii_digit}
 use Rattle.std.specs.Int.{int_div_euclid, int_rem_euclid}
 use Rattle.std.specs.Str.{byte}
@@ -10,8 +10,8 @@ use Rattle.arrow_types.specs.declared.data_type.TimeUnit.{TimeUnit}
 use Rattle.arrow_types.specs.declared.data_type.TimeUnit.TheVariants.{Second, Millisecond, Microsecond, Nanosecond}
 use Rattle.number_words.specs.Dates.{day_in, two_digits}
 use Rattle.number_words.specs.DateText.{date_text, date_of, date_within, has_date, DayReadsBack}
-use Rattle.number_words.specs.Moments.{is_clock_form, seconds_of, clock_in, is_fraction_form, three_digits, fraction_in, moment_of, moment_in, ends_with_zone, stamp_in, nanos_in, whole_in, in_unit, timestamp_in, time_in, time_said}
-use Rattle.number_words.specs.MomentText.{in_three_digits, clock_text, millis_text, micros_text, nanos_text, time_text, per_day, is_time, day_at, time_at, zone_text, timestamp_text, timestamp_within}
+use Rattle.number_words.specs.Moments.{is_clock_form, seconds_of, clock_in, is_fraction_form, three_digits, fraction_in, moment_of, moment_in, stamp_in, nanos_in, whole_in, in_unit, timestamp_in, time_in, time_said}
+use Rattle.number_words.specs.MomentText.{clock_text, millis_text, micros_text, nanos_text, time_text, per_day, is_time, day_at, time_at, zone_text, timestamp_text, timestamp_within}
 use Rattle.number_words.proofs.Parts.{from_to-parts}
 use Rattle.number_words.proofs.Texts.{all, digit_stands, said, two_stand_there}
 
