@@ -22,7 +22,7 @@ use Rattle.grammar.specs.Rule.{many, make}
 use Rattle.grammar.proofs.Deep.{flat_alike}
 use Rattle.sql_query.specs.declared.query.Term.{Term}
 use Rattle.sql_parse.specs.Productions.{name, column, minus, digits, number, string, literal, operand}
-use Rattle.sql_parse.specs.Productions.{literal_words, literal_after, worded, plain_literal}
+use Rattle.sql_parse.specs.Productions.{literal_words, literal_after, worded_literal, plain_literal}
 use Rattle.sql_parse.specs.Productions.{compare}
 use Rattle.sql_parse.specs.Notation.{Condition}
 use Rattle.sql_parse.specs.Productions.{negated}
@@ -92,11 +92,6 @@ then_same : {A : Type 0} (o : Answer A) → (o >>= λ p. Ok (p.0, p.1)) ≡ o
 then_same (Ok p) = refl
 then_same (Err e) = refl
 
-literal_after_same : (row : Keyword × List ℕ) (D : Nest) (ts : List Mark) →
-    seen (reads D (literal_after row) ts) ≡ literal_after_at row.0 ts
-unfolding literal_after_at token_at
-literal_after_same row D ts = simp (flat, seen_kept, then_same)
-
 number_same : (D : Nest) (ts : List Mark) → seen (reads D number ts) ≡ number_at ts
 unfolding number number_at token_at
 number_same D ts = simp (flat, minus_same, digits_same)
@@ -120,10 +115,11 @@ literal_by_cond true before others ts = refl
 literal_by_cond false before others ts = refl
 
 worded_same : (rows : List (Keyword × List ℕ)) (D : Nest) (ts : List Mark) →
-    seen (reads D (worded rows plain_literal) ts) ≡ literal_by (word_at rows ts) ts
+    seen (reads D (worded_literal rows plain_literal) ts) ≡ literal_by (word_at rows ts) ts
+unfolding literal_after_at token_at
 worded_same [] D ts = plain_same D ts
 worded_same (row ∷ rows) D ts =
-    simp (flat, row_starts, literal_after_same, literal_by_cond, worded_same rows D ts)
+    simp (flat, row_starts, seen_kept, then_same, literal_by_cond, worded_same rows D ts)
 
 literal_same : (D : Nest) (ts : List Mark) → seen (reads D literal ts) ≡ literal_at ts
 unfolding literal literal_at

@@ -59,7 +59,7 @@ number = make (λ p. signed p.0 p.1) (both minus digits)
 unfoldable pub string : Of (List ℕ)
 string = one is_string (λ t. Some (said t.0 t.1.1)) (string_token (codes "''"))
 
--- the literal that a text says after a word
+-- the literal that a string says after this word, if it says one
 abbrev pub literal_said : Keyword → List ℕ → Option Literal
 literal_said word.Date text = option_map (Number Date) (number_read Date text)
 literal_said word.Timestamp text = option_map Timestamp (zeptos_said text)
@@ -73,15 +73,15 @@ literal_words =
     (word.Timestamp, codes "'1970-01-01 00:00:00'") ∷
     (word.Time, codes "'00:00:00'") ∷ []
 
--- the word of such a row and a string, where the string says a literal after the word
+-- the word of such a row, and a string that says a literal after it
 abbrev pub literal_after : Keyword × List ℕ → Of Literal
 literal_after row = a_word row.0
     ⊳ one is_string (λ t. literal_said row.0 (said t.0 t.1.1)) (string_token row.1)
 
--- one of these words and its string, or another form
-abbrev pub worded : List (Keyword × List ℕ) → Of Literal → Of Literal
-worded [] other = other
-worded (row ∷ rows) other = either (literal_after row) (worded rows other)
+-- one of these words and a string, or the other form
+abbrev pub worded_literal : List (Keyword × List ℕ) → Of Literal → Of Literal
+worded_literal [] other = other
+worded_literal (row ∷ rows) other = either (literal_after row) (worded_literal rows other)
 
 -- string | TRUE | FALSE | number
 unfoldable pub plain_literal : Of Literal
@@ -91,7 +91,7 @@ plain_literal = either (make Text string)
 
 -- DATE string | TIMESTAMP string | TIME string | string | TRUE | FALSE | number
 unfoldable pub literal : Of Literal
-literal = worded literal_words plain_literal
+literal = worded_literal literal_words plain_literal
 
 -- column | literal
 unfoldable pub operand : Of (Operand Term)

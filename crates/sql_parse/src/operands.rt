@@ -111,7 +111,7 @@ fn literal_after<'t>(
     }
 }
 
-// The literal that a text says after a word.
+// the literal that a string says after this word, if it says one
 fn literal_said(word: Keyword, text: &str) -> Option<Literal>
     ensures { result ≡ literal_said word text.now }
 {
