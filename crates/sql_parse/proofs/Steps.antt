@@ -1,7 +1,7 @@
 -- Reading by the grammar is these steps.
 use Rattle.std.proofs.Common.{◌≡◌, ℕ, zero, suc, ◌-◌, Bool, true, false, cond, List, [], ◌∷◌, ◌++◌, Option, Some}
 use Rattle.std.proofs.Common.{None, Ok, Err, refl, ◌∙◌, ap, sym, append_assoc, arith, append-nil}
-use Rattle.std.specs.Prelude.{◌==◌, ℤ}
+use Rattle.std.specs.Prelude.{◌==◌}
 use Rattle.sql_text.specs.Values.{number_of}
 use Rattle.std.proofs.lemmas.Bool.{ne_eqb}
 use Rattle.jiff_core.specs.Calendar.{days_from_civil, day_count, days_of_years, days_of_months}

@@ -131,9 +131,9 @@ fn literal_word<'t>(tokens: Rest<'t>) -> Option<Keyword>
     match tokens.tokens {
         [] => None,
         [first, ..] => match first.kind {
-            TokenKind::Keyword(
-                word @ (Keyword::Date | Keyword::Timestamp | Keyword::Time),
-            ) => Some(word),
+            TokenKind::Keyword(word @ (Keyword::Date | Keyword::Timestamp | Keyword::Time)) => {
+                Some(word)
+            }
             _ => None,
         },
     }
