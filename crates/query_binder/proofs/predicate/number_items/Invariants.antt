@@ -8,7 +8,7 @@ use Rattle.query_binder.proofs.predicate.number_items.Given as goal
 
 abbrev pub invariant-loop-item : goal.invariant-loop-item
 invariant-loop-item l = record {
-  made : l.bound ≡ map (operand_bind (term_operand l.scope)) (map (settled_item l.scope l.left.beside l.left.operand) (take l.item-index l.items));
-  left : items_fault (class_of_term l.scope) (Ok l.left.class) (map (settled_item l.scope l.left.beside l.left.operand) l.items)
-      ≡ items_fault (class_of_term l.scope) (Ok l.left.class) (map (settled_item l.scope l.left.beside l.left.operand) (drop l.item-index l.items));
+  made : l.bound ≡ map (operand_bind (term_operand l.scope)) (map (settled_item l.scope l.left.beside l.left.operand.now) (take l.item-index l.items));
+  left : items_fault (class_of_term l.scope) (Ok l.left.class) (map (settled_item l.scope l.left.beside l.left.operand.now) l.items)
+      ≡ items_fault (class_of_term l.scope) (Ok l.left.class) (map (settled_item l.scope l.left.beside l.left.operand.now) (drop l.item-index l.items));
 }
