@@ -1,4 +1,4 @@
-use Rattle.std.proofs.Common.{◌≡◌, ℕ, Option, Result, Ok, map, List, sym, ap, ◌∙◌}
+use Rattle.std.proofs.Common.{ℕ, Option, Result, Ok, map, List, sym, ap, ◌∙◌}
 use Rattle.std.proofs.lemmas.Result.{err_from_is_err_and}
 use Rattle.arrow_types.specs.declared.data_type.DataType.{DataType}
 use Rattle.scan_base.specs.declared.fault.Fault.{Fault}
