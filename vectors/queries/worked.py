@@ -437,9 +437,18 @@ TIMESTAMPS = [
     (f"t BETWEEN TIMESTAMP '1969-12-31 23:59:59.9' AND {NOON}", [4, 5]),
     (f"t NOT BETWEEN TIMESTAMP '1969-12-31 23:59:59.9' AND {NOON}", [1, 2, 6]),
     (f"t BETWEEN t AND {NOON}", [2, 4, 5]),
+    (f"{NOON} BETWEEN TIMESTAMP '2024-05-01 00:00:00' AND t", [1, 5, 6]),
+    (f"{NOON} BETWEEN t AND t", [5]),
+    (f"{NOON} NOT BETWEEN t AND {LATER}", [1, 6]),
+    ("TIMESTAMP '2024-05-01 12:00:00.2500001' BETWEEN t AND TIMESTAMP '2024-05-02 00:00:00'", [1, 2, 4, 5]),
+    (f"{NOON} BETWEEN {NOON} AND {LATER}", [1, 2, 3, 4, 5, 6]),
     (f"t IN ({NOON}, TIMESTAMP '9999-12-31 23:59:59.999999')", [5, 6]),
     (f"t NOT IN ({NOON})", [1, 2, 4, 6]),
     ("t IN (TIMESTAMP '2024-05-02 12:00:00', t)", [1, 2, 4, 5, 6]),
+    (f"{NOON} IN (t)", [5]),
+    (f"{NOON} IN ({LATER}, t)", [5]),
+    (f"{NOON} IN (t, {LATER}, {NOON})", [1, 2, 3, 4, 5, 6]),
+    (f"{NOON} NOT IN (t, {LATER})", [1, 2, 4, 6]),
     ("t IS NULL", [3]),
     (f"{NOON} IS NULL", []),
     ("t = t", [1, 2, 4, 5, 6]),
@@ -456,6 +465,7 @@ TIMESTAMPS = [
 
 # Over `ticks`, of which the row k has these: s in seconds and m in milliseconds with a zone are the moments of TICKS, n is a
 # nanosecond after, c is the time of that day in milliseconds, and e a duration in seconds.
+HALF = "TIMESTAMP '2024-05-01 12:00:00.5'"
 TICKS_ASKED = [
     ("s = TIMESTAMP '2024-05-01 12:00:00.5'", []),
     ("s <> TIMESTAMP '2024-05-01 12:00:00.5'", [1, 2, 3]),
@@ -467,6 +477,18 @@ TICKS_ASKED = [
     ("s BETWEEN TIMESTAMP '1969-12-31 23:59:58.5' AND TIMESTAMP '2024-05-01 12:00:00.5'", [2]),
     ("s NOT IN (TIMESTAMP '2024-05-01 12:00:00.5', TIMESTAMP '2024-05-01 12:00:00Z')", [1, 3]),
     ("m = TIMESTAMP '2024-05-01 12:00:00Z'", [2]),
+    (f"{HALF} BETWEEN s AND s", []),
+    (f"{HALF} BETWEEN s AND TIMESTAMP '2024-05-01 12:00:00.6'", [1, 2]),
+    (f"{HALF} BETWEEN {NOON} AND s", [3]),
+    (f"{HALF} NOT BETWEEN s AND m", [1, 2, 3]),
+    ("TIMESTAMP '2024-05-01 12:00:00.0000000005' BETWEEN s AND n", [2]),
+    (f"{HALF} IN (s)", []),
+    (f"{HALF} NOT IN (TIMESTAMP '2024-05-01 12:00:00.7', s)", [1, 2, 3]),
+    (f"{HALF} IN (TIMESTAMP '2024-05-01 12:00:00.7', s, TIMESTAMP '2024-05-01 12:00:00.50Z')", [1, 2, 3]),
+    (f"{NOON} IN ({HALF}, m)", [2]),
+    ("TIME '12:00:00' BETWEEN c AND TIME '23:00:00'", [2, 3]),
+    ("TIME '12:00:00.0001' BETWEEN c AND c", []),
+    ("TIME '12:00:00' IN (TIME '12:00:00.0001', c)", [2]),
     ("n > TIMESTAMP '2024-05-01 12:00:00'", [2, 3]),
     ("n = TIMESTAMP '2024-05-01 12:00:00.000000001'", [2]),
     ("c = TIME '12:00:00'", [2]),
@@ -475,7 +497,8 @@ TICKS_ASKED = [
     ("e = e", [1, 2, 3]),
 ]
 CLASHES_OF_TICKS = ["s = m", "s = n", "s = c", "c = e", "e = 1", "s = TIME '12:00:00'", "c = TIMESTAMP '2024-05-01 12:00:00'", "c = '12:00:00'",
-                    "TIME '12:00:00' = TIMESTAMP '2024-05-01 12:00:00'", "s = 1714564800", "s IN (TIMESTAMP '2024-05-01 12:00:00', m)"]
+                    "TIME '12:00:00' = TIMESTAMP '2024-05-01 12:00:00'", "s = 1714564800", "s IN (TIMESTAMP '2024-05-01 12:00:00', m)",
+                    f"{NOON} IN (s, m)", f"{NOON} IN (c)", f"{NOON} BETWEEN s AND c", "TIME '12:00:00' IN (s)", f"TIME '12:00:00' IN (c, {NOON})"]
 
 # A timestamp is of a class of its own, too.
 CLASHES_OF_TIMESTAMPS = [
@@ -493,8 +516,10 @@ CLASHES_OF_TIMESTAMPS = [
     f"{NOON} < '2024-05-01 12:00:00'",
     f"{NOON} = TRUE",
     "t = k",
-    f"{NOON} BETWEEN TIMESTAMP '2024-05-01 00:00:00' AND t",
-    f"{NOON} IN (t)",
+    f"{NOON} BETWEEN d AND t",
+    f"{NOON} BETWEEN t AND 0",
+    f"{NOON} IN (t, d)",
+    f"{NOON} IN (5, t)",
     f"t BETWEEN {NOON} AND DATE '2024-05-02'",
     f"t BETWEEN '2024-05-01 12:00:00' AND {LATER}",
     f"t BETWEEN {NOON} AND 0",
