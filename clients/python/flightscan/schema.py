@@ -62,7 +62,8 @@ DAY, NUMBER = DataType("date", np.dtype("<i4")), DataType("decimal", SLOT_OF_A_D
 
 def times_named(word: str, *sizes: int) -> dict[str, DataType]:
     """The types of times of a word, by their units. Microseconds have the word alone."""
-    return {unit: DataType(word if unit == "us" else f"{word}_{unit}", np.dtype(f"<i{size}"), unit) for unit, size in zip(UNITS, sizes)}
+    return {unit: DataType(word if unit == "us" else f"{word}_{unit}", np.dtype(f"<i{size}"), unit)
+            for unit, size in zip(UNITS, sizes)}
 
 
 MOMENTS, ZONED = times_named("timestamp", 8, 8, 8, 8), times_named("timestamptz", 8, 8, 8, 8)

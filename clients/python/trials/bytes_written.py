@@ -147,11 +147,14 @@ def refused_values(run: Run) -> None:
          {"a": np.array([-(2**40)], "M8[D]")}, "a:timestamp"),
         ("far nanoseconds", flightscan.DataError, "column a: a time whose nanoseconds do not fit into 64 bits",
          {"a": [datetime.datetime.max]}, "a:timestamp_ns"),
-        ("part of a second", flightscan.DataError, "column a: a time that is no whole number of seconds", {"a": [NOON]}, "a:timestamp_s"),
-        ("a zone", flightscan.DataError, "column a: timestamptz where timestamp must be", {"a": [NOON.replace(tzinfo=UTC)]}, "a:timestamp"),
+        ("part of a second", flightscan.DataError, "column a: a time that is no whole number of seconds", {"a": [NOON]},
+         "a:timestamp_s"),
+        ("a zone", flightscan.DataError, "column a: timestamptz where timestamp must be", {"a": [NOON.replace(tzinfo=UTC)]},
+         "a:timestamp"),
         ("a zone and none", flightscan.DataError, "column a: times with a zone next to some without",
          {"a": [NOON, NOON.replace(tzinfo=UTC)]}, None),
-        ("a zone of a clock", flightscan.DataError, "column a: a time of a day with a zone", {"a": [datetime.time(12, tzinfo=UTC)]}, None),
+        ("a zone of a clock", flightscan.DataError, "column a: a time of a day with a zone",
+         {"a": [datetime.time(12, tzinfo=UTC)]}, None),
         ("a time for a duration", flightscan.DataError, "column a: time where duration", {"a": [datetime.time(12)]}, "a:duration"),
         ("months", flightscan.NotSupportedError, "column a: timedelta64[M]", {"a": np.array([1], "m8[M]")}, None),
         ("a long span for seconds of a day", flightscan.DataError, "column a: a number that time_s does not hold",
@@ -198,7 +201,8 @@ def found_types(run: Run) -> None:
         ({"a": np.array(["2024-05-01T12:00:00.25", "NaT"], "M8[ns]")}, MICROS, [[1_714_564_800_250_000], [None]], None),
         ({"a": np.array(["2024-05-01T12:00:01"], "M8[s]")}, "Timestamp(Second, false)", [[1_714_564_801]], None),
         ({"a": np.array(["1969-12-31T23:59:59.999"], ">M8[ms]")}, "Timestamp(Millisecond, false)", [[-1]], None),
-        ({"a": np.array(["2024-05-01T12:00:00.000000001"], "M8[ns]")}, "Timestamp(Nanosecond, false)", [[1_714_564_800_000_000_001]], None),
+        ({"a": np.array(["2024-05-01T12:00:00.000000001"], "M8[ns]")}, "Timestamp(Nanosecond, false)",
+         [[1_714_564_800_000_000_001]], None),
         ({"a": np.array(["2024-05-01T12:00:00"], "M8[m]")}, "Timestamp(Second, false)", [[1_714_564_800]], None),
         ({"a": np.array(["2024-05-01T12:00:00.25"], "M8[ms]")}, "Timestamp(Nanosecond, true)", [[1_714_564_800_250_000_000]],
          "a:timestamptz_ns"),
@@ -248,7 +252,8 @@ def bound_parameters(run: Run) -> None:
         "?, ?", (NOON.replace(tzinfo=datetime.timezone(datetime.timedelta(hours=2))), datetime.time(12, 0, 0, 1))))
     refused("a time before the year 1", flightscan.NotSupportedError, "a time outside the years", lambda: literals.bound(
         "?", (datetime.datetime.min.replace(tzinfo=datetime.timezone(datetime.timedelta(hours=2))),)))
-    refused("a duration", flightscan.NotSupportedError, "timedelta has no literal", lambda: literals.bound("?", (datetime.timedelta(1),)))
+    refused("a duration", flightscan.NotSupportedError, "timedelta has no literal", lambda: literals.bound(
+        "?", (datetime.timedelta(1),)))
     same("numbers of numpy", "-9223372036854775808, 255, 18446744073709551615, TRUE, FALSE, 'o''clock'", literals.bound(
         "?, ?, ?, ?, ?, ?", (np.int64(-(2**63)), np.uint8(255), np.uint64(2**64 - 1), np.bool_(True), np.bool_(False),
                              np.str_("o'clock"))))
