@@ -463,9 +463,12 @@ TIMESTAMPS = [
     (f"TIMESTAMP '2024-05-01 12:00:00.0000001' NOT IN (t, {NOON})", [1, 2, 4, 5, 6]),
     ("TIMESTAMP '2024-05-01 12:00:00.0000001' IN (t, TIMESTAMP '2024-05-01 12:00:00.0000001')", [1, 2, 3, 4, 5, 6]),
     ("TIMESTAMP '2024-05-01 12:00:00.0000001' IN (t, TIMESTAMP '2024-05-01 12:00:00.0000002')", []),
+    (f"{NOON} NOT BETWEEN t AND {LATER}", [1, 6]),
+    ("TIMESTAMP '2024-05-01 12:00:00.2500001' BETWEEN t AND TIMESTAMP '2024-05-02 00:00:00'", [1, 2, 4, 5]),
     (f"t IN ({NOON}, TIMESTAMP '9999-12-31 23:59:59.999999')", [5, 6]),
     (f"t NOT IN ({NOON})", [1, 2, 4, 6]),
     ("t IN (TIMESTAMP '2024-05-02 12:00:00', t)", [1, 2, 4, 5, 6]),
+    (f"{NOON} IN (t, {LATER}, {NOON})", [1, 2, 3, 4, 5, 6]),
     ("t IS NULL", [3]),
     (f"{NOON} IS NULL", []),
     ("t = t", [1, 2, 4, 5, 6]),
@@ -482,6 +485,7 @@ TIMESTAMPS = [
 
 # Over `ticks`, of which the row k has these: s in seconds and m in milliseconds with a zone are the moments of TICKS, n is a
 # nanosecond after, c is the time of that day in milliseconds, and e a duration in seconds.
+HALF = "TIMESTAMP '2024-05-01 12:00:00.5'"
 TICKS_ASKED = [
     ("s = TIMESTAMP '2024-05-01 12:00:00.5'", []),
     ("s <> TIMESTAMP '2024-05-01 12:00:00.5'", [1, 2, 3]),
@@ -503,20 +507,28 @@ TICKS_ASKED = [
     ("n > TIMESTAMP '0001-01-01 00:00:00'", [1, 2, 3]),
     ("n = TIMESTAMP '9999-12-31 23:59:59.999999999'", []),
     # a literal on the left, also between columns of two units
-    ("TIMESTAMP '2024-05-01 12:00:00.5' BETWEEN s AND s", []),
+    (f"{HALF} BETWEEN s AND s", []),
+    (f"{HALF} BETWEEN s AND TIMESTAMP '2024-05-01 12:00:00.6'", [1, 2]),
+    (f"{HALF} BETWEEN {NOON} AND s", [3]),
+    (f"{HALF} NOT BETWEEN s AND m", [1, 2, 3]),
+    ("TIMESTAMP '2024-05-01 12:00:00.0000000005' BETWEEN s AND n", [2]),
+    (f"{HALF} IN (s)", []),
+    (f"{HALF} NOT IN (TIMESTAMP '2024-05-01 12:00:00.7', s)", [1, 2, 3]),
+    (f"{HALF} IN (TIMESTAMP '2024-05-01 12:00:00.7', s, TIMESTAMP '2024-05-01 12:00:00.50Z')", [1, 2, 3]),
+    (f"{NOON} IN ({HALF}, m)", [2]),
+    ("TIME '12:00:00' BETWEEN c AND TIME '23:00:00'", [2, 3]),
+    ("TIME '12:00:00.0001' BETWEEN c AND c", []),
+    ("TIME '12:00:00' IN (TIME '12:00:00.0001', c)", [2]),
     ("TIMESTAMP '2024-05-01 12:00:00.5' NOT BETWEEN s AND s", [1, 2, 3]),
     ("TIMESTAMP '2024-05-01 12:00:00.5' BETWEEN s AND TIMESTAMP '2024-05-02 00:00:00'", [1, 2]),
     ("TIMESTAMP '1969-12-31 23:59:58.5' BETWEEN TIMESTAMP '1969-12-31 23:59:57' AND s", [2, 3]),
     ("TIMESTAMP '1969-12-31 23:59:57.5' BETWEEN TIMESTAMP '1969-12-31 23:59:57' AND s", [1, 2, 3]),
     ("TIMESTAMP '2024-05-01 12:00:00.5' BETWEEN s AND n", []),
-    ("TIMESTAMP '2024-05-01 12:00:00.0000000005' BETWEEN s AND n", [2]),
     ("TIMESTAMP '2024-05-01 12:00:00.0000000005' NOT BETWEEN s AND n", [1, 3]),
     ("TIMESTAMP '2024-05-01 12:00:00Z' BETWEEN m AND TIMESTAMP '2024-05-01 12:00:00'", [1, 2]),
     ("TIMESTAMP '2024-05-01 12:00:00.0000000015' BETWEEN n AND TIMESTAMP '9999-12-31 23:59:59'", [1, 2]),
     ("TIMESTAMP '2024-05-01 12:00:00Z' IN (s, s)", [2]),
-    ("TIMESTAMP '2024-05-01 12:00:00.5' IN (s)", []),
     ("TIMESTAMP '2024-05-01 12:00:00.5' NOT IN (s, TIMESTAMP '2024-05-01 12:00:00.25')", [1, 2, 3]),
-    ("TIMESTAMP '2024-05-01 12:00:00' IN (TIMESTAMP '2024-05-01 12:00:00.5', m)", [2]),
     ("TIMESTAMP '2024-05-01 12:00:00.000000001' IN (n)", [2]),
     ("TIME '12:00:00' BETWEEN c AND TIME '23:59:59.999'", [2, 3]),
     ("TIME '12:00:00.0005' BETWEEN c AND c", []),
@@ -533,7 +545,8 @@ CLASHES_OF_TICKS += [
     "TIMESTAMP '2024-05-01 12:00:00' BETWEEN s AND c", "TIMESTAMP '2024-05-01 12:00:00' BETWEEN e AND s", "TIME '12:00:00' BETWEEN s AND s",
     "TIMESTAMP '2024-05-01 12:00:00' BETWEEN s AND TIME '12:00:00'", "TIMESTAMP '2024-05-01 12:00:00' BETWEEN 1 AND s",
     "TIMESTAMP '2024-05-01 12:00:00' IN (c)", "TIMESTAMP '2024-05-01 12:00:00' IN (s, n)", "TIMESTAMP '2024-05-01 12:00:00' IN (s, k)",
-    "TIMESTAMP '2024-05-01 12:00:00' IN (TIME '12:00:00')", "TIME '12:00:00' IN (c, s)", "TIME '12:00:00' IN (e)", "'12:00:00' IN (c)", "1 IN (e)"]
+    "TIMESTAMP '2024-05-01 12:00:00' IN (TIME '12:00:00')", "TIME '12:00:00' IN (c, s)", "TIME '12:00:00' IN (e)", "'12:00:00' IN (c)", "1 IN (e)",
+    f"{NOON} IN (s, m)", "TIME '12:00:00' IN (s)", f"TIME '12:00:00' IN (c, {NOON})"]
 
 # A timestamp is of a class of its own, too.
 CLASHES_OF_TIMESTAMPS = [
@@ -561,6 +574,8 @@ CLASHES_OF_TIMESTAMPS = [
     "'2024-05-01 12:00:00' IN (t)",
     "DATE '2024-05-01' BETWEEN d AND t",
     "DATE '2024-05-01' IN (t)",
+    f"{NOON} BETWEEN t AND 0",
+    f"{NOON} IN (5, t)",
     f"t BETWEEN {NOON} AND DATE '2024-05-02'",
     f"t BETWEEN '2024-05-01 12:00:00' AND {LATER}",
     f"t BETWEEN {NOON} AND 0",

@@ -1,6 +1,6 @@
 //! Literals of timestamps and times next to a column.
 
-ghost use Rattle.std.specs.Prelude.{◌≡◌, ◌^◌, ◌<ℤ◌, pos, unwrap_or};
+ghost use Rattle.std.specs.Prelude.{◌≡◌, ◌^◌, ◌<ℤ◌, ◌+ℤ◌, if◌then◌else◌, pos, unwrap_or};
 ghost use Rattle.typed_plan.specs.Scope.{column_of as number_of};
 ghost use Rattle.typed_plan.specs.SettledLiterals.{number_beside, number_between, number_alike};
 ghost use Rattle.typed_plan.specs.SettledLiterals.{typed, typed_by, alike, alike_by, turned};
@@ -41,12 +41,20 @@ fn number_beside(comparison: Comparison, unit: TimeUnit, zeptos: i128) -> i128
     }
 }
 
+// A number where a test holds, and another where it does not.
+fn number_if(number: i128, test: bool) -> i128
+    requires { number <ℤ pos (2 ^ 101) }
+    ensures { result ≡ (if test then number else number +ℤ pos 1) }
+{
+    if test { number } else { number + 1 }
+}
+
 // The number of a literal among the items of IN, where another is on the left.
 fn number_alike(unit: TimeUnit, left: i128, zeptos: i128) -> i128
     ensures { result ≡ number_alike unit left zeptos }
 {
     let number = number_beside(Comparison::Equal, unit, left);
-    if left == zeptos { number } else { number + 1 }
+    number_if(number, left == zeptos)
 }
 
 // A literal on the right of a comparison with numbers of a type, if it gets the type.
