@@ -9,7 +9,7 @@ MOST_WORDS_OF = {
     "docs/USING.md": 3_240, "docs/PROTOCOL.md": 8_200, "docs/FORMATS.md": 5_050,
     "docs/SQL.md": 5_140, "docs/PROMISE.md": 5_720, "docs/ARCHITECTURE.md": 6_000,
     "docs/DECISIONS.md": 6_020, "docs/SCALING.md": 950, "bench/README.md": 2_500,
-    "scripts/README.md": 1_950, "clients/python/README.md": 770,
+    "scripts/README.md": 2_000, "clients/python/README.md": 770,
     "gateway/README.md": 1_050, "plants/README.md": 1_250, "vectors/README.md": 400,
     "vectors/arrow/README.md": 1_200, "vectors/flight/README.md": 350, "vectors/puts/README.md": 320,
 }
