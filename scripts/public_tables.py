@@ -17,6 +17,7 @@ from __future__ import annotations
 
 import argparse
 import pathlib
+import re
 import sys
 from collections import Counter
 from dataclasses import dataclass
@@ -139,7 +140,7 @@ def main() -> int:
     except Difference as found:
         print(f"DIFFERENCE: {found}")
         return 1
-    kinds = Counter(one.of.table[0] for columns in refused.values() for one in columns)
+    kinds = Counter(re.match(r"\w+", one.said)[0] for columns in refused.values() for one in columns)
     print("refused: " + (", ".join(f"{count} {kind}" for kind, count in kinds.most_common()) or "none"))
     taken = [sum(map(len, tables.values())) - kinds.total(), sum(not columns for columns in refused.values())]
     print(f"columns {taken[0]} of {sum(map(len, tables.values()))}; tables {taken[1]} of {len(tables)}")
