@@ -26,10 +26,10 @@ sys.dont_write_bytecode = True
 ROOT = pathlib.Path(__file__).resolve().parent.parent
 sys.path += [str(ROOT / "vectors" / folder) for folder in ("arrow", "flight", "queries", "streams")]
 
-import arrow_types  # noqa: E402
+import column_types  # noqa: E402
 import framing  # noqa: E402
 import trees  # noqa: E402
-from arrow_types import Type, type_of  # noqa: E402
+from column_types import Type, type_of  # noqa: E402
 from built import program  # noqa: E402
 from layout import written  # noqa: E402
 from loopback import Server  # noqa: E402
@@ -78,10 +78,10 @@ def listed_tables() -> dict[str, list[Column]]:
 
 def messages(columns: list[Column]) -> list[tuple[dict, bytes]]:
     """The messages of a stream of these columns: a schema, the dictionaries, and a batch."""
-    fields = [arrow_types.field(one.name, one.of, one.nullable, number) for number, one in enumerate(columns)]
-    coded = [(number, arrow_types.distinct(one.values)) for number, one in enumerate(columns) if one.of.index]
+    fields = [column_types.field(one.name, one.of, one.nullable, number) for number, one in enumerate(columns)]
+    coded = [(number, column_types.distinct(one.values)) for number, one in enumerate(columns) if one.of.index]
     dictionaries = [trees.dictionary(number, trees.batch(len(texts), (0, b"", *trees.texts(texts)))) for number, texts in coded]
-    return [(trees.schema(*fields), b""), *dictionaries, arrow_types.batch(ROWS, [(one.of, one.values) for one in columns])]
+    return [(trees.schema(*fields), b""), *dictionaries, column_types.batch(ROWS, [(one.of, one.values) for one in columns])]
 
 
 def stream(columns: list[Column]) -> bytes:
