@@ -14,8 +14,8 @@ from bridge.arrow import RECORD_BATCH, SCHEMA, V5, message, record_batch
 from bridge.flatbuffers import Table, Unreadable, table
 
 DICTIONARY = 2  # the kind of a dictionary's message
-INT, UTF8, BOOL, DECIMAL, DATE, TIMESTAMP = 2, 5, 6, 7, 8, 10  # the kinds of types
-DECIMAL_BYTES, DATE_BYTES, TIMESTAMP_BYTES, OFFSET_BYTES = 16, 4, 8, 4
+INT, UTF8, BOOL, DECIMAL, DATE, TIME, TIMESTAMP, DURATION = 2, 5, 6, 7, 8, 9, 10, 18  # the kinds of types
+DECIMAL_BYTES, DATE_BYTES, LONG_BYTES, OFFSET_BYTES = 16, 4, 8, 4  # timestamps and durations are long
 MOST_ROWS, MOST_BYTES = 65_536, 8_388_608  # of a piece, where one row is not longer
 BITS, TEXTS = 0, -1  # in place of a width in bytes: bits, and strings with offsets
 Pair = tuple[int, int]
@@ -38,7 +38,9 @@ def column_width(field: Table) -> int:
         return 4 if index is None else width_of(index.number(0, "i"))
     if kind == INT:
         return width_of(field.needed(3).number(0, "i"))
-    known = {UTF8: TEXTS, BOOL: BITS, DECIMAL: DECIMAL_BYTES, DATE: DATE_BYTES, TIMESTAMP: TIMESTAMP_BYTES}
+    if kind == TIME:
+        return width_of(field.needed(3).number(1, "i", 32))
+    known = {UTF8: TEXTS, BOOL: BITS, DECIMAL: DECIMAL_BYTES, DATE: DATE_BYTES, TIMESTAMP: LONG_BYTES, DURATION: LONG_BYTES}
     if kind not in known:
         raise Unreadable("a type that is not supported")
     return known[kind]

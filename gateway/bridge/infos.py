@@ -54,10 +54,10 @@ TYPE_COLUMNS = [
     Field("maximum_scale", INT32), Field("sql_data_type", INT32, False), Field("datetime_subcode", INT32),
     Field("num_prec_radix", INT32), Field("interval_precision", INT32)]
 BIT, TINYINT, BIGINT, DECIMAL, INTEGER, SMALLINT, VARCHAR = -7, -6, -5, 3, 4, 5, 12  # of XdbcDataType
-DATE, TIMESTAMP = 91, 93
+DATE, TIME, TIMESTAMP = 91, 92, 93
 NULLABLE, COMPARES = 1, 2  # NULLABILITY_NULLABLE; SEARCHABLE_BASIC: all but LIKE
-DATETIME, DAY_CODE, TIMESTAMP_CODE = 9, 1, 3  # the SQL data type of dates and timestamps, and their subcodes
-MICROSECONDS = 6  # the digits of a second's fraction
+DATETIME, DAY_CODE, TIME_CODE, TIMESTAMP_CODE = 9, 1, 2, 3  # the SQL data type of dates and times, and their subcodes
+UNITS = {"_s": 0, "_ms": 3, "": 6, "_ns": 9}  # what ends the word of a type, and the digits of its fraction of a second
 DIGITS = {8: 3, 16: 5, 32: 10, 64: 19}  # of the widest value
 INTEGERS = {8: TINYINT, 16: SMALLINT, 32: INTEGER, 64: BIGINT}
 
@@ -74,6 +74,13 @@ def numeric(name: str, type: int, digits: int, unsigned: bool) -> tuple:
     return type_row(name, type, digits, unsigned_attribute=unsigned, minimum_scale=0, maximum_scale=0, num_prec_radix=10)
 
 
+def timed(name: str, type: int, size: int, digits: int) -> tuple:
+    """A timestamp or a time whose text has so many bytes and, after a point, so many digits."""
+    word, code = ("TIMESTAMP", TIMESTAMP_CODE) if type == TIMESTAMP else ("TIME", TIME_CODE)
+    return type_row(name, type, size + digits + (digits > 0), literal_prefix=f"{word} '", literal_suffix="'", minimum_scale=digits,
+                    maximum_scale=digits, sql_data_type=DATETIME, datetime_subcode=code)
+
+
 ALL_TYPES = sorted([
     type_row("bool", BIT, 1),
     *(numeric(f"int{bits}", INTEGERS[bits], DIGITS[bits], False) for bits in DIGITS),
@@ -81,8 +88,9 @@ ALL_TYPES = sorted([
     numeric("decimal", DECIMAL, 38, False),
     type_row("utf8", VARCHAR, 65_536, literal_prefix="'", literal_suffix="'", case_sensitive=True),
     type_row("date", DATE, 10, literal_prefix="DATE '", literal_suffix="'", sql_data_type=DATETIME, datetime_subcode=DAY_CODE),
-    type_row("timestamp", TIMESTAMP, 26, literal_prefix="TIMESTAMP '", literal_suffix="'", minimum_scale=MICROSECONDS,
-             maximum_scale=MICROSECONDS, sql_data_type=DATETIME, datetime_subcode=TIMESTAMP_CODE),
+    *(timed(f"timestamp{zone}{end}", TIMESTAMP, 19 + len(zone) // 2, digits) for zone in ("", "tz") for end, digits in UNITS.items()),
+    *(timed(f"time{end}", TIME, 8, digits) for end, digits in UNITS.items()),
+    *(numeric(f"duration{end}", BIGINT, DIGITS[64], False) for end in UNITS),
 ], key=lambda row: (row[1], row[0]))
 
 

@@ -165,16 +165,24 @@ def jdbc(run: Run) -> None:
 def types(run: Run) -> None:
     with run.serving() as (_, gateway), Client(gateway.port) as client:
         rows = asked(client, stock.CommandGetXdbcTypeInfo(), TYPES)
-        codes = [("bool", -7), ("int8", -6), ("uint8", -6), ("int64", -5), ("uint64", -5), ("decimal", 3), ("int32", 4),
-                 ("uint32", 4), ("int16", 5), ("uint16", 5), ("utf8", 12), ("date", 91), ("timestamp", 93)]
+        ends = ["", "_ms", "_ns", "_s"]
+        codes = [("bool", -7), ("int8", -6), ("uint8", -6), *((f"duration{end}", -5) for end in ends), ("int64", -5), ("uint64", -5),
+                 ("decimal", 3), ("int32", 4), ("uint32", 4), ("int16", 5), ("uint16", 5), ("utf8", 12), ("date", 91),
+                 *((f"time{end}", 92) for end in ends), *((f"timestamp{zone}{end}", 93) for zone in ("", "tz") for end in ends)]
         same("names and codes", codes, [row[:2] for row in rows])
         sizes = {"bool": 1, "int8": 3, "uint8": 3, "int16": 5, "uint16": 5, "int32": 10, "uint32": 10, "int64": 19, "uint64": 20,
-                 "decimal": 38, "utf8": 65_536, "date": 10, "timestamp": 26}
+                 "decimal": 38, "utf8": 65_536, "date": 10, **{f"duration{end}": 19 for end in ends},
+                 "time_s": 8, "time_ms": 12, "time": 15, "time_ns": 18,
+                 "timestamp_s": 19, "timestamp_ms": 23, "timestamp": 26, "timestamp_ns": 29,
+                 "timestamptz_s": 20, "timestamptz_ms": 24, "timestamptz": 27, "timestamptz_ns": 30}
         same("sizes", sizes, {row[0]: row[2] for row in rows})
-        same("what has no sign", {name: name.startswith("u") for name in sizes if "int" in name} | {"decimal": False},
+        numbers = [name for name in sizes if "int" in name or name.startswith("duration")]
+        same("what has no sign", {name: name.startswith("u") for name in numbers} | {"decimal": False},
              {row[0]: row[9] for row in rows if row[9] is not None})
-        same("what a timestamp has", ("TIMESTAMP '", "'", 6, 6, 9, 3), tuple(rows[-1][one] for one in (3, 4, 13, 14, 15, 16)))
-        for code in (-5, 91, 93, 1):
+        moment, clock = (next(row for row in rows if row[0] == name) for name in ("timestamp", "time_s"))
+        same("what a timestamp has", ("TIMESTAMP '", "'", 6, 6, 9, 3), tuple(moment[one] for one in (3, 4, 13, 14, 15, 16)))
+        same("what a time has", ("TIME '", "'", 0, 0, 9, 2), tuple(clock[one] for one in (3, 4, 13, 14, 15, 16)))
+        for code in (-5, 91, 92, 93, 1):
             same(f"types of {code}", [row for row in rows if row[1] == code],
                  asked(client, stock.CommandGetXdbcTypeInfo(data_type=code), TYPES))
 

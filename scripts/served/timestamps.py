@@ -11,12 +11,12 @@ from framing import END
 from layout import written
 from loopback import Server
 from random_calls.answers import same
-from random_calls.plain_model import Column
+from random_calls.plain_model import MICROSECONDS, Column
 
 from served.cases import Run, case
 from served.programs import CLASSES, answered, marked, printed, put, query, rows_in, stream, typed
 
-COLUMNS = (Column("t", "Timestamp", True), Column("n", "Int64", False))
+COLUMNS = (Column("t", MICROSECONDS, True), Column("n", "Int64", False))
 FIRST, LAST = "0001-01-01 00:00:00.000000", "9999-12-31 23:59:59.999999"
 TEXTS = ["2024-05-01 12:00:00.250000", "1969-12-31 23:59:59.999999", LAST, None, FIRST, "1970-01-01 00:00:00.000000"]
 SELECT = "SELECT n FROM t WHERE t "
@@ -86,16 +86,18 @@ ASKED = [  # the rows that meet a predicate, by their numbers
     ("= TIMESTAMP '2024-05-01 12:00:00.25'", [0]),
     ("> TIMESTAMP '2024-05-01 12:00:00'", [0, 2]),
     ("<= timestamp '1969-12-31 23:59:59.999999000'", [1, 4, 6]),
+    ("<= TIMESTAMP '1969-12-31 23:59:59.9999999Z'", [1, 4, 6]),
+    ("= TIMESTAMP '2024-05-01 12:00:00.2500000001'", []),
     ("BETWEEN TIMESTAMP '1970-01-01 00:00:00' AND TIMESTAMP '2024-05-01 12:00:00.250001'", [0, 5]),
     (f"IN (TIMESTAMP '{FIRST}', TIMESTAMP '{LAST}')", [2, 4]),
     ("IS NULL", [3]),
 ]
 CLASHES = ["= '2024-05-01 12:00:00'", "= DATE '2024-05-01'", "= 1714564800250000", "= n", "IN (TIMESTAMP '1970-01-01 00:00:00', 0)"]
-NO_MOMENTS = ["2024-05-01", "2024-05-01T12:00:00", "2024-05-01 12:00:00.1234567", "2024-05-01 12:00:00Z", "2024-05-01 24:00:00",
+NO_MOMENTS = ["2024-05-01", "2024-05-01T12:00:00", "2024-05-01 12:00:00." + 22 * "0", "2024-05-01 12:00:00z", "2024-05-01 24:00:00",
               "2024-02-30 00:00:00", "0000-01-01 00:00:00"]
 
 
-@case("queries of timestamps: literals of 0 to 9 digits, and what is of another class, or no timestamp")
+@case("queries of timestamps: literals of 0 to 21 digits, and what is of another class, or no timestamp")
 def asked_timestamps(run: Run) -> None:
     with run.serving() as server:
         same("put", printed("7 rows"), put(run, server, "t", stream(COLUMNS, ROWS)))
@@ -136,17 +138,42 @@ def csv_timestamps(run: Run) -> None:
             same(f"texts {number}", (0, b"2 rows\n", b"col1:utf8\n"), text)
 
 
-@case("a put of timestamps of another unit, or with a zone: F7, and a line that names the column and its type")
-def refused_timestamps(run: Run) -> None:
-    number = trees.field("n", trees.integer(64, True))
-    line = "column at: timestamp of another unit or zone is not taken"
-    others = [{"unit": unit} for unit in ("SECOND", "MILLISECOND", "NANOSECOND")] + [{"unit": "MICROSECOND", "timezone": "UTC"}]
+def column_of(table: tuple[str, dict[str, object]], value: int, width: int) -> bytes:
+    """A stream of one row: a column `at` of a type with one value, and a number 0."""
+    schema = trees.schema(trees.field("at", table), trees.field("n", trees.integer(64, True)))
+    batch = trees.batch(1, (0, b"", value.to_bytes(width, "little", signed=True)), (0, b"", bytes(8)))
+    return framing.stream_of((written("Message", tree, "spread"), body) for tree, body in [(schema, b""), batch]) + END
+
+
+UNITS_TAKEN = [
+    (trees.timestamp("Second"), -1, 8, "timestamp_s", "TIMESTAMP '1969-12-31 23:59:59'"),
+    (trees.timestamp("Millisecond", "Europe/Vienna"), 250, 8, "timestamptz_ms", "TIMESTAMP '1970-01-01 00:00:00.250Z'"),
+    (trees.timestamp("Microsecond", "UTC"), 250, 8, "timestamptz", "TIMESTAMP '1970-01-01 00:00:00.000250Z'"),
+    (trees.timestamp("Nanosecond", ""), -1, 8, "timestamp_ns", "TIMESTAMP '1969-12-31 23:59:59.999999999'"),
+    (trees.time("Second"), 86399, 4, "time_s", "TIME '23:59:59'"),
+    (trees.time("Nanosecond"), 86400 * 10**9, 8, "time_ns", "TIME(86400000000000)"),
+    (trees.duration("Millisecond"), -90, 8, "duration_ms", "-90"),
+]
+
+
+@case("times of each unit, with a zone or none: described, printed and put again; another unit or width is F7, with its column")
+def units_of_times(run: Run) -> None:
     with run.serving() as server:
-        for other in others:
-            schema = trees.schema(number, trees.field("at", ("Timestamp", other)))
-            batch = trees.batch(1, (0, b"", bytes(8)), (0, b"", bytes(8)))
-            data = framing.stream_of((written("Message", tree, "spread"), body) for tree, body in [(schema, b""), batch]) + END
-            same(f"{other}", answered("F7 UnsupportedArrow", line), put(run, server, "t", data))
+        for number, (table, value, width, word, text) in enumerate(UNITS_TAKEN):
+            name = f"u{number}"
+            same(f"a put of {word}", printed("1 rows"), put(run, server, name, column_of(table, value, width)))
+            same(word, printed(f"at:{word}?,n:int64?"), described(run, server, name))
+            same(text, printed("at", text), query(run, server, f"SELECT at FROM {name}"))
+            _, data, _ = query(run, server, f"SELECT * FROM {name}", "--format", "arrow")
+            same(f"{word} again", printed("1 rows"), put(run, server, name, data, "append"))
+        for table, line in [(("Timestamp", {"unit": 4}), "timestamp of another unit"), (trees.time("Second", 64), "time of another width"),
+                            (("Duration", {"unit": -1}), "duration of another unit")]:
+            same(line, answered("F7 UnsupportedArrow", f"column at: {line} is not taken"), put(run, server, "x", column_of(table, 0, 8)))
+
+
+@case("numbers are not put into a column of timestamps")
+def numbers_into_timestamps(run: Run) -> None:
+    with run.serving() as server:
         same("a put", printed("7 rows"), put(run, server, "t", stream(COLUMNS, ROWS)))
         whole = stream((Column("t", "Int64", True), Column("n", "Int64", False)), [(0, 1)])
         others = "the table has other columns: names, types and nulls must agree, in their order"

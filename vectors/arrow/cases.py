@@ -2,8 +2,8 @@
 import json
 from dataclasses import dataclass
 
-from trees import (BOOL, DATE, DECIMAL, TIMESTAMP, UTF8, batch, dictionary, encoding, field, headed, hexed, integer, offsets, placed,
-                   schema)
+from trees import (BOOL, DATE, DECIMAL, TIMESTAMP, UNITS, UTF8, batch, dictionary, duration, encoding, field, headed, hexed, integer, offsets,
+                   placed, schema, time, timestamp)
 
 MESSAGES, INDEX = {}, []
 
@@ -123,11 +123,28 @@ add("schema_Date", schema(field("a", DATE)), says(("a", "Date", True)))
 add("schema_Date_full", schema(field("a", DATE, False)), says(("a", "Date", False)), layout="packed", compared=True)
 add("schema_Date_and_more", schema(field("a", integer(32, True)), field("d", DATE, False), field("s", UTF8)),
     says(("a", "Int32", True), ("d", "Date", False), ("s", "Utf8", True)), layout="spread", compared=True)
-# Microseconds, of which the unit has to be stored too: left out it is seconds.
-add("schema_Timestamp", schema(field("a", TIMESTAMP)), says(("a", "Timestamp", True)))
-add("schema_Timestamp_full", schema(field("a", TIMESTAMP, False)), says(("a", "Timestamp", False)), layout="packed", compared=True)
+# Times of each unit. A default unit is left out: seconds of a Timestamp, milliseconds of the others.
+for unit in UNITS:
+    add(f"schema_Timestamp_{unit}", schema(field("a", timestamp(unit))), says(("a", f"Timestamp({unit}, false)", True)))
+    add(f"schema_Time_{unit}", schema(field("a", time(unit))), says(("a", f"Time({unit})", True)))
+    add(f"schema_Duration_{unit}", schema(field("a", duration(unit))), says(("a", f"Duration({unit})", True)))
+    add(f"schema_Timestamp_{unit}_Vienna", schema(field("a", timestamp(unit, "Europe/Vienna"), False)),
+        says(("a", f"Timestamp({unit}, true)", False)), layout="packed", compared=True)
+add("schema_Timestamp_zone_empty", schema(field("a", timestamp("Nanosecond", ""))),
+    says(("a", "Timestamp(Nanosecond, false)", True)), note="an empty zone is none")
+add("schema_times", schema(field("a", timestamp("Second", "UTC")), field("b", time("Nanosecond"), False), field("c", duration("Second"))),
+    says(("a", "Timestamp(Second, true)", True), ("b", "Time(Nanosecond)", False), ("c", "Duration(Second)", True)),
+    layout="spread", compared=True)
+add("schema_times_defaults", schema(field("a", timestamp("Second")), field("b", time("Millisecond")), field("c", duration("Millisecond"))),
+    says(("a", "Timestamp(Second, false)", True), ("b", "Time(Millisecond)", True), ("c", "Duration(Millisecond)", True)),
+    layout="defaults")
+add("schema_Timestamp_zone_UTC", schema(field("a", timestamp("Microsecond", "UTC"))), says(("a", "Timestamp(Microsecond, true)", True)))
+add("schema_Timestamp_zone_Paris", schema(field("a", timestamp("Microsecond", "Europe/Paris"))),
+    says(("a", "Timestamp(Microsecond, true)", True)), layout="spread", compared=True, note="a zone has no name")
+add("schema_Timestamp", schema(field("a", TIMESTAMP)), says(("a", "Timestamp(Microsecond, false)", True)))
+add("schema_Timestamp_full", schema(field("a", TIMESTAMP, False)), says(("a", "Timestamp(Microsecond, false)", False)), layout="packed", compared=True)
 add("schema_Timestamp_and_more", schema(field("a", I64), field("d", DATE, False), field("t", TIMESTAMP), field("s", UTF8)),
-    says(("a", "Int64", True), ("d", "Date", False), ("t", "Timestamp", True), ("s", "Utf8", True)), layout="spread", compared=True)
+    says(("a", "Int64", True), ("d", "Date", False), ("t", "Timestamp(Microsecond, false)", True), ("s", "Utf8", True)), layout="spread", compared=True)
 add("schema_64_columns", schema(*(field(f"c{n}", I64) for n in range(64))),
     says(*((f"c{n}", "Int64", True) for n in range(64))))
 add("schema_name_of_64", schema(field("ä" * 32, I64)), says(("ä" * 32, "Int64", True)), note="32 letters of 2 bytes")
@@ -179,9 +196,8 @@ add("bad_name_utf8_of_65", schema({**A, "name": "n" * 64 + "\udcff"}), "F6", lay
 add("bad_name_first", schema({"name": ""}), "F12", note="no type kind either")
 for name, table in [
     ("Null", {}), ("FloatingPoint", {"precision": "DOUBLE"}), ("Binary", {}), ("Date", {"unit": "MILLISECOND"}),
-    ("Time", {"unit": "NANOSECOND", "bitWidth": 64}), ("Timestamp", {"unit": "MICROSECOND", "timezone": "UTC"}),
     ("Interval", {"unit": "DAY_TIME"}), ("Union", {"mode": "Dense", "typeIds": [0]}),
-    ("FixedSizeBinary", {"byteWidth": 16}), ("Duration", {"unit": "SECOND"}), ("LargeBinary", {}), ("LargeUtf8", {}),
+    ("FixedSizeBinary", {"byteWidth": 16}), ("LargeBinary", {}), ("LargeUtf8", {}),
     ("RunEndEncoded", {}), ("BinaryView", {}), ("Utf8View", {}),
 ]:
     add(f"bad_type_{name}", schema(field("a", (name, table))), "F7")
@@ -193,23 +209,20 @@ add("bad_type_Date_stored", schema(field("a", ("Date", {"unit": "MILLISECOND"}))
 add("bad_type_Date_unit_2", schema(field("a", ("Date", {"unit": 2}))), "F7", layout="spread")
 add("bad_type_absent_Date", schema({"name": "a", "type_type": "Date"}), "F6", layout="packed")
 add("bad_dictionary_Date", schema(field("a", DATE, dictionary=encoding(1))), "F7", layout="packed", compared=True)
-for unit in ("SECOND", "MILLISECOND", "NANOSECOND"):
-    add(f"bad_type_Timestamp_{unit.lower()}", schema(field("a", ("Timestamp", {"unit": unit}))), "F7",
-        note="its unit is absent" if unit == "SECOND" else "")
-add("bad_type_Timestamp_stored", schema(field("a", ("Timestamp", {"unit": "SECOND"}))), "F7", layout="packed", compared=True,
-    note="the same unit, stored")
-add("bad_type_Timestamp_unit_4", schema(field("a", ("Timestamp", {"unit": 4}))), "F7", layout="spread")
+for name, table in [("Timestamp", {"unit": 4}), ("Time", {"unit": 4, "bitWidth": 64}), ("Duration", {"unit": -1})]:
+    add(f"bad_type_{name}_unit", schema(field("a", (name, table))), "F7", layout="packed")
 add("bad_type_Timestamp_unit_258", schema(field("a", ("Timestamp", {"unit": 258}))), "F7", layout="packed", note="2 in 8 bits")
-for layout in ("packed", "spread"):
-    add(f"bad_type_Timestamp_zone_{layout}", schema(field("a", ("Timestamp", {"unit": "MICROSECOND", "timezone": "Europe/Paris"}))),
-        "F7", layout=layout, compared=True)
 ZONED = schema(field("a", ("Timestamp", {"unit": "MICROSECOND", "timezone": "UTC"})))  # packed, its offset to the zone lies at 51
-add("bad_type_Timestamp_zone_far", ZONED, "F7", layout="packed", patch=(51, bytes.fromhex("FF FF FF 7F")),
-    note="the zone lies outside, and is not read")
-add("schema_Timestamp_zone_0", ZONED, says(("a", "Timestamp", True)), layout="packed", patch=(51, bytes(4)),
-    note="an offset of 0 leads to no zone")
-add("bad_type_Timestamp_zone_empty", schema(field("a", ("Timestamp", {"unit": "MICROSECOND", "timezone": ""}))), "F7")
-add("bad_type_Timestamp_nanosecond_zone", schema(field("a", ("Timestamp", {"unit": "NANOSECOND", "timezone": "UTC"}))), "F7")
+add("bad_type_Timestamp_zone_far", ZONED, "F6", layout="packed", patch=(51, bytes.fromhex("FF FF FF 7F")),
+    note="the zone lies outside")
+add("schema_Timestamp_zone_0", ZONED, says(("a", "Timestamp(Microsecond, false)", True)), layout="packed", patch=(51, bytes(4)),
+    note="an offset of 0 leads to itself, which is an empty zone")
+for unit, bits in [("Second", 64), ("Millisecond", 64), ("Microsecond", 32), ("Nanosecond", 32), ("Nanosecond", 8)]:
+    add(f"bad_type_Time_{unit}_{bits}", schema(field("a", time(unit, bits))), "F7", layout="spread", compared=True)
+add("bad_type_Timestamp_zone_utf8", schema(field("a", timestamp("Second", "\udcff"))), "F6", layout="packed",
+    note="a zone that is not UTF-8")
+add("bad_type_Timestamp_unit_first", schema(field("a", ("Timestamp", {"unit": 4, "timezone": "\udcff"}))), "F7", layout="packed",
+    note="before F6")
 add("bad_type_absent_Timestamp", schema({"name": "a", "type_type": "Timestamp"}), "F6", layout="packed")
 add("bad_dictionary_Timestamp", schema(field("a", TIMESTAMP, dictionary=encoding(1))), "F7", layout="packed", compared=True)
 add("bad_type_absent_kind", schema({"name": "a"}), "F6")
@@ -306,6 +319,13 @@ add("batch_Timestamp", batch(8, (1, "FD", "90 00 DD 39 63 17 06 00" + "A5" * 8 +
 add("batch_Timestamp_full", batch(2, (0, "", "00" * 8 + "FF" * 8)), rows([0], [-1]), "schema_Timestamp_full", layout="spread",
     compared=True)
 add("bad_data_short_Timestamp", batch(2, (0, "", "00" * 15)), "F8", "schema_Timestamp", layout="packed")
+LONGS = "00 00 00 00 00 00 00 80 A5 A5 A5 A5 A5 A5 A5 A5 90 00 DD 39 63 17 06 00 FF FF FF FF FF FF FF 7F"
+for name in ("Timestamp_Second", "Timestamp_Nanosecond_Vienna", "Time_Nanosecond", "Duration_Second"):
+    add(f"batch_{name}", batch(4, (1, "0D", LONGS)), rows([-9223372036854775808], [None], [1714564800250000], [9223372036854775807]),
+        f"schema_{name}", layout="packed", compared=True, note="every value of 64 bits is taken")
+add("batch_Time_Millisecond", batch(3, (1, "05", "00 00 00 80 A5 A5 A5 A5 FF 5B 26 05")), rows([-2147483648], [None], [86399999]),
+    "schema_Time_Millisecond", layout="spread", compared=True)
+add("bad_data_short_Time", batch(2, (0, "", "00" * 7)), "F8", "schema_Time_Second", layout="packed")
 add("batch_Bool", batch(4, (1, "0D", "09")), rows([True], [None], [False], [True]), "schema_Bool")
 add("batch_Bool_null_bit", batch(4, (1, "0D", "0B")), rows([True], [None], [False], [True]), "schema_Bool")
 add("batch_Bool_nine", batch(9, (2, "FB FE", "81 FF")),

@@ -36,7 +36,9 @@ TABLES = {
     "FloatingPoint": [("precision", "i16")],
     "Decimal": [("precision", "i32"), ("scale", "i32"), ("bitWidth", "i32")],
     "Date": [("unit", "i16")],
+    "Time": [("unit", "i16"), ("bitWidth", "i32")],
     "Timestamp": [("unit", "i16"), ("timezone", "string")],
+    "Duration": [("unit", "i16")],
     "DictionaryEncoding": [("id", "i64"), ("indexType", "Int"), ("isOrdered", "u8"), ("dictionaryKind", "i16")],
     "RecordBatch": [
         ("length", "i64"), ("nodes", ["FieldNode"]), ("buffers", ["Buffer"]), ("compression", "BodyCompression"),

@@ -4,7 +4,11 @@ import json
 import struct
 
 INTEGERS = {(bits, signed): f"{'' if signed else 'U'}Int{bits}" for bits in (8, 16, 32, 64) for signed in (True, False)}
-BYTES = {"Decimal128": 16, "Date": 4, "Timestamp": 8, **{name: bits // 8 for (bits, _), name in INTEGERS.items()}}
+UNITS = ["Second", "Millisecond", "Microsecond", "Nanosecond"]
+TIMES = {f"Time({unit})": 4 if number < 2 else 8 for number, unit in enumerate(UNITS)}
+TIMES |= {f"Duration({unit})": 8 for unit in UNITS}
+TIMES |= {f"Timestamp({unit}, {zoned})": 8 for unit in UNITS for zoned in ("true", "false")}
+BYTES = {"Decimal128": 16, "Date": 4, **TIMES, **{name: bits // 8 for (bits, _), name in INTEGERS.items()}}
 
 
 class Fault(Exception):
@@ -89,12 +93,10 @@ def integer(table):
 
 def read_type(field):
     kind = there(field.scalar(2, 1, None)) & 255
-    demand(kind in (2, 5, 6, 7, 8, 10), "F7")
+    demand(kind in (2, 5, 6, 7, 8, 9, 10, 18), "F7")
     table = there(field.table(3))
-    if kind == 10:
-        demand(table.scalar(0, 2) == 2, "F7")
-        demand(table.scalar(1, 4) == 0, "F7")
-        return "Timestamp"
+    if kind in (9, 10, 18):
+        return read_time(kind, table)
     if kind == 8:
         demand(table.scalar(0, 2, 1) == 0, "F7")
         return "Date"
@@ -102,6 +104,17 @@ def read_type(field):
         demand((table.scalar(0, 4), table.scalar(1, 4), table.scalar(2, 4, 128)) == (38, 0, 128), "F7")
         return "Decimal128"
     return integer(table) if kind == 2 else {5: "Utf8", 6: "Bool"}[kind]
+
+
+def read_time(kind, table):
+    unit = table.scalar(0, 2, 0 if kind == 10 else 1)
+    demand(0 <= unit < 4, "F7")
+    if kind == 10:
+        return f"Timestamp({UNITS[unit]}, {str(bool(table.text(1))).lower()})"
+    if kind == 18:
+        return f"Duration({UNITS[unit]})"
+    demand(table.scalar(1, 4, 32) == 8 * TIMES[f"Time({UNITS[unit]})"], "F7")
+    return f"Time({UNITS[unit]})"
 
 
 def read_field(field):

@@ -25,6 +25,19 @@ def integer(bits, signed):
 
 UTF8, BOOL, DECIMAL = ("Utf8", {}), ("Bool", {}), ("Decimal", {"precision": 38, "scale": 0})
 DATE, TIMESTAMP = ("Date", {"unit": "DAY"}), ("Timestamp", {"unit": "MICROSECOND"})
+UNITS = {"Second": "SECOND", "Millisecond": "MILLISECOND", "Microsecond": "MICROSECOND", "Nanosecond": "NANOSECOND"}
+
+
+def timestamp(unit, zone=None):
+    return "Timestamp", {"unit": UNITS[unit], **({} if zone is None else {"timezone": zone})}
+
+
+def time(unit, bits=None):
+    return "Time", {"unit": UNITS[unit], "bitWidth": bits or (32 if unit in ("Second", "Millisecond") else 64)}
+
+
+def duration(unit):
+    return "Duration", {"unit": UNITS[unit]}
 
 
 def field(name, of, nullable=True, **more):

@@ -1,8 +1,8 @@
 """Queries, and what the rules answer to each: `sentence`, or the fault's text.
 
-The grammar below is the printed one, but that a string which is a date is called `date`, and one which is a timestamp
-`moment`: each stands where any string may, and the one behind the word DATE, the other behind TIMESTAMP. TIMESTAMP is a word
-right before a string, and a name elsewhere. The grammar is read as it stands and run by Earley's recogniser over the tokens of the
+The grammar below is the printed one, but that a string which is a date is called `date`, one which is a timestamp `moment`,
+and one which is a time of a day `clock`: each stands where any string may, and behind its word DATE, TIMESTAMP or TIME.
+TIMESTAMP and TIME are words right before a string, and names elsewhere. The grammar is read as it stands and run by Earley's recogniser over the tokens of the
 lexer beside this file, so that the offending token is the first one with which no sentence of the grammar goes on. The
 limits are read off the recogniser's items. Nothing is shared with the crates.
 """
@@ -24,7 +24,7 @@ conj    = factor {AND factor}
 factor  = NOT factor | test
 test    = primary [IS [NOT] (TRUE | FALSE | UNKNOWN)]
 primary = "(" pred ")" | operand compare operand | operand [NOT] BETWEEN operand AND operand | operand [NOT] IN "(" operand {"," operand} ")" | operand IS [NOT] NULL
-operand = column | ["+" | "-"] digits | string | date | moment | TRUE | FALSE | DATE date | TIMESTAMP moment
+operand = column | ["+" | "-"] digits | string | date | moment | clock | TRUE | FALSE | DATE date | TIMESTAMP moment | TIME clock
 column  = name ["." name]
 compare = "=" | "<>" | "!=" | "<" | "<=" | ">" | ">="
 """
@@ -75,7 +75,7 @@ class Grammar:
                     symbols.append(name)
             elif word.startswith('"'):
                 symbols.append(("t", word.strip('"')))
-            elif word.isupper() or word in ("name", "digits", "string", "date", "moment"):
+            elif word.isupper() or word in ("name", "digits", "string", "date", "moment", "clock"):
                 symbols.append(("t", word))
             else:
                 symbols.append(word)
@@ -95,19 +95,29 @@ def is_date(piece):
 
 
 def is_moment(piece):
-    """Whether a string's token is the text of a timestamp: a date, a space, a clock, and then a point and digits or nothing."""
-    parts = re.fullmatch(r"'([0-9]{4})-([0-9]{2})-([0-9]{2}) ([0-9]{2}):([0-9]{2}):([0-9]{2})(?:[.][0-9]{1,6}0{0,3})?'", piece)
+    """Whether a string's token is the text of a timestamp: a date, a space, a clock, a point and digits or nothing, a Z or nothing."""
+    parts = re.fullmatch(r"'([0-9]{4})-([0-9]{2})-([0-9]{2}) ([0-9]{2}):([0-9]{2}):([0-9]{2})(?:[.][0-9]{1,21})?Z?'", piece)
     try:
         return bool(parts and datetime.datetime(*map(int, parts.groups())))
     except ValueError:
         return False
 
 
+def is_clock(piece):
+    """Whether a string's token is the text of a time of a day: a clock, and then a point and digits or nothing."""
+    parts = re.fullmatch(r"'([0-9]{2}):([0-9]{2}):([0-9]{2})(?:[.][0-9]{1,21})?'", piece)
+    try:
+        return bool(parts and [datetime.time(*map(int, parts.groups()))])
+    except ValueError:
+        return False
+
+
 def worded(tokens):
-    """The tokens, in which a name TIMESTAMP is a word where a string follows."""
+    """The tokens, in which a name TIMESTAMP or TIME is a word where a string follows."""
     for token, behind in zip(tokens, [*tokens[1:], (None, 0, "", "")]):
-        is_word = token[3] == "Name" and token[2].upper() == "TIMESTAMP" and behind[3] == "String"
-        yield ("TIMESTAMP", *token[1:3], "Keyword(Timestamp)") if is_word else token
+        word = token[2].upper()
+        is_word = token[3] == "Name" and word in ("TIMESTAMP", "TIME") and behind[3] == "String"
+        yield (word, *token[1:3], f"Keyword({word.title()})") if is_word else token
 
 
 def tokens_of(query):
@@ -130,6 +140,8 @@ def tokens_of(query):
             called = "date"
         elif kind == "String" and is_moment(piece):
             called = "moment"
+        elif kind == "String" and is_clock(piece):
+            called = "clock"
         tokens.append((called, int(start), piece, kind))
     return list(worded(tokens))
 
@@ -389,6 +401,17 @@ DATES = [
 ]
 
 AT = "SELECT a FROM t WHERE a = TIMESTAMP "
+OF_A_DAY = "SELECT a FROM t WHERE a = TIME "
+TIMES = [
+    OF_A_DAY + "'12:00:00'", OF_A_DAY + "'00:00:00.000000000000000000001'", OF_A_DAY + "'23:59:59.9'", "select a from t where a<time'12:00:00'", "SELECT a FROM t WHERE Time '12:00:00' < a",
+    "SELECT a FROM t WHERE a IN (TIME '12:00:00', TIME '12:00:01', TIMESTAMP '2024-05-01 12:00:00')", "SELECT time FROM t", "SELECT a AS TIME FROM time", "SELECT a FROM t WHERE time = '12:00:00'", OF_A_DAY[:-1],
+    OF_A_DAY + "''", OF_A_DAY + "'24:00:00'", OF_A_DAY + "'12:00'", OF_A_DAY + "'12:00:60'", OF_A_DAY + "'12:00:00Z'", OF_A_DAY + "'12:00:00.'", OF_A_DAY + "'12:00:00.0000000000000000000001'",
+    "SELECT a FROM t WHERE TIME '12:00:00' BETWEEN a AND b", "SELECT a FROM t WHERE TIMESTAMP '2024-05-01 12:00:00' NOT BETWEEN a AND TIMESTAMP '2024-05-01 12:00:00.5Z'",
+    "SELECT a FROM t WHERE TIME '12:00:00' NOT IN (a, b)", "SELECT a FROM t WHERE TIMESTAMP '2024-05-01 12:00:00' IN (TIMESTAMP '2024-05-01 12:00:00', a)", "SELECT a FROM t WHERE TIME IN (TIME)",
+    OF_A_DAY + "'2024-05-01 12:00:00'", OF_A_DAY + "5", "SELECT TIME '12:00:00' FROM t", "SELECT a FROM t TIME ''", AT + "'2024-05-01 12:00:00.25Z'", AT + "'2024-05-01 12:00:00ZZ'",
+    AT + "'2024-05-01 12:00:00.000000000000000000001'", AT + "'2024-05-01 12:00:00.0000000000000000000001'", AT + "'2024-05-01 12:00:00.000000000000000000000Z'",
+]
+
 TIMESTAMPS = [
     # sentences
     AT + "'2024-05-01 12:00:00'", AT + "'2024-05-01 12:00:00.25'", AT + "'1969-12-31 23:59:59.999999'", AT + "'0001-01-01 00:00:00'", AT + "'9999-12-31 23:59:59.999999'", AT + "'2024-02-29 00:00:00.0'",
@@ -499,4 +522,4 @@ def changed(count):
 
 
 def queries():
-    return list(dict.fromkeys(SENTENCES + OTHERS + DATES + TIMESTAMPS + list(limits()) + list(changed(400))))
+    return list(dict.fromkeys(SENTENCES + OTHERS + DATES + TIMESTAMPS + TIMES + list(limits()) + list(changed(400))))

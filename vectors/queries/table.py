@@ -25,6 +25,7 @@ days    a nullable column d of dates, and a number k
 history a column d of dates and a number i, in two batches of two rows
 moments a nullable column t of timestamps, a column d of dates, and a number k
 clocks  a column t of timestamps and a number i, in two batches of two rows
+ticks   columns of timestamps s, m and n, of a time c and of a duration e, each of another unit, and a number k
 """
 import datetime
 import json
@@ -37,7 +38,8 @@ sys.path.append(str(HERE.parent / "arrow"))
 import layout
 from cases import INTS
 from reader import Reader
-from trees import BOOL, DATE, DECIMAL, TIMESTAMP, UTF8, batch, bits, dictionary, encoding, field, integer, schema, texts, validity
+from trees import BOOL, DATE, DECIMAL, TIMESTAMP, UTF8, batch, bits, dictionary, duration, encoding, field, integer, schema, texts
+from trees import time, timestamp, validity
 
 MOST = 10**38 - 1  # of a decimal of 38 digits
 WHOLE = [(("i" if signed else "u") + str(bits), integer(bits, signed)) for _, bits, signed, *_ in INTS]
@@ -84,7 +86,7 @@ def column(of, values, slots, under="a"):
         return *nulls, *texts_of(values, under)
     if of is BOOL:
         return *nulls, bits([value in (True, None) for value in values])
-    return *nulls, numbers({"Date": 4, "Timestamp": 8}.get(of[0]) or of[1].get("bitWidth", 128) // 8, values)
+    return *nulls, numbers({"Date": 4, "Timestamp": 8, "Duration": 8}.get(of[0]) or of[1].get("bitWidth", 128) // 8, values)
 
 
 def fields(columns):
@@ -197,12 +199,19 @@ MOMENTS = [micros("2024-05-01 12:00:00.250000"), micros("0001-01-01 00:00:00") -
            micros("2024-05-01 12:00:00"), micros("9999-12-31 23:59:59.999999")]
 
 
+# The seconds of `ticks`: the last but one of 1969, noon of 2024-05-01, and the second after the midnight that follows.
+TICKS = [-2, 1714564800, 1714608001]
+
+
 def for_timestamps():
     """Timestamps from before the year 1 to the last of 9999, and a table of two puts."""
     i64 = integer(64, True)
     yield few_rows("moments", ("t", TIMESTAMP, MOMENTS), ("d", DATE, [19844, 0, 1, 2, 3, 4]), ("k", i64, [1, 2, 3, 4, 5, 6]))
     for texts, rows in [(["2024-05-01 08:00:00", "2024-05-01 09:30:00"], [1, 2]), (["2024-05-01 12:00:00.250000", "2024-05-02 08:00:00"], [3, 4])]:
         yield few_rows("clocks", ("t", TIMESTAMP, [micros(text) for text in texts]), ("i", i64, rows))
+    yield few_rows("ticks", ("s", timestamp("Second"), TICKS), ("m", timestamp("Millisecond", "UTC"), [1000 * tick for tick in TICKS]),
+                   ("n", timestamp("Nanosecond"), [10**9 * tick + 1 for tick in TICKS]),
+                   ("c", time("Millisecond"), [1000 * (tick % 86400) for tick in TICKS]), ("e", duration("Second"), TICKS), ("k", i64, [1, 2, 3]))
 
 
 def for_skipping():

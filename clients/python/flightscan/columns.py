@@ -10,7 +10,7 @@ from typing import Any
 import numpy as np
 
 from .errors import DataError, fault
-from .schema import DAY, MOMENT, NUMBER, TEXT, TRUTH, Field
+from .schema import CLOCKS, DAY, MOMENTS, NUMBER, PER_SECOND, SPANS, TEXT, TRUTH, ZONED, Field
 
 Array = np.ndarray[Any, np.dtype[Any]]
 EPOCH = datetime.date(1970, 1, 1).toordinal()
@@ -93,17 +93,53 @@ class Days(Slots):
 
 
 class Timestamps(Slots):
-    """A column of timestamps: `values` is a view of the body, of dtype datetime64[us]. `mask` alone says what is null: to numpy
-    the least number of 64 bits is NaT."""
+    """A column of timestamps: `values` is a view of the body, of dtype datetime64 in the unit of its type; with a zone they are
+    those of UTC. `mask` alone says what is null: to numpy the least number of 64 bits is NaT."""
 
     @property
     def values(self) -> Array:
-        return self.slots.view("<M8[us]")
+        return self.slots.view(f"<M8[{self.field.type.unit}]")
 
     def objects(self) -> list[Any]:
-        """Times without a zone; outside the years 1 to 9999 the number of microseconds since 1970-01-01."""
+        """Times, in UTC where the type has a zone; outside the years 1 to 9999, and of nanoseconds, the number of units since
+        1970-01-01."""
         found = [LEAST if one is None else one for one in self.values.tolist()]
-        return found if self.mask is None else [None if null else one for one, null in zip(found, self.mask.tolist())]
+        if self.field.type in ZONED.values():
+            found = [one if isinstance(one, int) else one.replace(tzinfo=datetime.timezone.utc) for one in found]
+        return with_nulls(found, self.mask)
+
+
+class Spans(Slots):
+    """A column of durations: `values` are of dtype timedelta64 in the unit of its type, and `mask` alone says what is null."""
+
+    @cached_property
+    def values(self) -> Array:
+        return self.slots.astype("<i8", copy=False).view(f"<m8[{self.field.type.unit}]")
+
+    def objects(self) -> list[Any]:
+        """Spans of time; of nanoseconds, and beyond what `timedelta` holds, their number."""
+        return with_nulls([LEAST if one is None else one for one in self.values.tolist()], self.mask)
+
+
+class Clocks(Spans):
+    """A column of times of a day: `values` are of dtype timedelta64 since the day began."""
+
+    def objects(self) -> list[Any]:
+        """Times; of nanoseconds, and where it is none of a day, the number of units."""
+        per_second = PER_SECOND[self.field.type.unit]
+        return with_nulls([clock_of(number, per_second) for number in self.slots.tolist()], self.mask)
+
+
+def clock_of(number: int, per_second: int) -> Any:
+    """The time of a day of a number of its unit, if it is one."""
+    if per_second > 1_000_000 or not 0 <= number < 86_400 * per_second:
+        return number
+    seconds, rest = divmod(number, per_second)
+    return datetime.time(seconds // 3_600, seconds // 60 % 60, seconds % 60, rest * (1_000_000 // per_second))
+
+
+def with_nulls(found: list[Any], mask: Array | None) -> list[Any]:
+    return found if mask is None else [None if null else one for one, null in zip(found, mask.tolist())]
 
 
 class Decimals(Slots):
@@ -241,5 +277,7 @@ def as_objects(found: list[Any]) -> Array:
     return made
 
 
-KINDS: dict[str, type[Column]] = {TEXT.name: Texts, TRUTH.name: Truths, DAY.name: Days, MOMENT.name: Timestamps,
-                                NUMBER.name: Decimals}
+KINDS: dict[str, type[Column]] = {
+    TEXT.name: Texts, TRUTH.name: Truths, DAY.name: Days, NUMBER.name: Decimals,
+    **{one.name: Timestamps for one in (*MOMENTS.values(), *ZONED.values())},
+    **{one.name: Clocks for one in CLOCKS.values()}, **{one.name: Spans for one in SPANS.values()}}

@@ -14,8 +14,10 @@ from .errors import InterfaceError, fault
 from .flatbuffers import Block, Table
 
 V5, SCHEMA, DICTIONARY_BATCH, RECORD_BATCH = 4, 1, 2, 3  # the version of metadata, and the kinds of messages
-INT, UTF8, BOOL, DECIMAL, DATE, TIMESTAMP = 2, 5, 6, 7, 8, 10  # the kinds of types
-DAYS, MICROSECONDS, DIGITS = 0, 2, 38
+INT, UTF8, BOOL, DECIMAL, DATE, TIME, TIMESTAMP, DURATION = 2, 5, 6, 7, 8, 9, 10, 18  # the kinds of types
+DAYS, DIGITS = 0, 38
+UNITS = ("s", "ms", "us", "ns")  # of times, by their numbers
+PER_SECOND = {unit: 1_000**number for number, unit in enumerate(UNITS)}
 MOST_COLUMNS, LONGEST_NAME = 64, 64
 SLOT_OF_A_DECIMAL = np.dtype([("low", "<u8"), ("high", "<i8")])
 CONTINUATION = b"\xff\xff\xff\xff"
@@ -30,6 +32,7 @@ class DataType:
 
     name: str
     dtype: np.dtype[Any] | None = None
+    unit: str | None = None  # of a timestamp, a time or a duration, as numpy calls it
 
     @property
     def is_dictionary(self) -> bool:
@@ -55,8 +58,18 @@ INTEGER_DTYPES = [np.dtype(f"<{kind}{size}") for kind in "iu" for size in (1, 2,
 INTEGERS = {dtype.name: DataType(dtype.name, dtype) for dtype in INTEGER_DTYPES}
 TEXT, TRUTH = DataType("utf8"), DataType("bool")
 DAY, NUMBER = DataType("date", np.dtype("<i4")), DataType("decimal", SLOT_OF_A_DECIMAL)
-MOMENT = DataType("timestamp", np.dtype("<i8"))
-NAMED = {**INTEGERS, **{one.name: one for one in (TEXT, TRUTH, DAY, MOMENT, NUMBER)}}
+
+
+def times_named(word: str, *sizes: int) -> dict[str, DataType]:
+    """The types of times of a word, by their units. Microseconds have the word alone."""
+    return {unit: DataType(word if unit == "us" else f"{word}_{unit}", np.dtype(f"<i{size}"), unit)
+            for unit, size in zip(UNITS, sizes)}
+
+
+MOMENTS, ZONED = times_named("timestamp", 8, 8, 8, 8), times_named("timestamptz", 8, 8, 8, 8)
+CLOCKS, SPANS = times_named("time", 4, 4, 8, 8), times_named("duration", 8, 8, 8, 8)
+TIMES = [one for kind in (MOMENTS, ZONED, CLOCKS, SPANS) for one in kind.values()]
+NAMED = {**INTEGERS, **{one.name: one for one in (TEXT, TRUTH, DAY, NUMBER, *TIMES)}}
 
 
 def dictionary_of(index: np.dtype[Any] | str = "<i4") -> DataType:
@@ -159,7 +172,7 @@ def integer_of(table: Table) -> np.dtype[Any]:
 def type_of(field: Table, name: str) -> DataType:
     """The type of a Field's values."""
     kind = field.scalar(2, 1) & 255 if field.has(2) else there(None, f"type of column {name}")
-    if kind not in (INT, UTF8, BOOL, DECIMAL, DATE, TIMESTAMP):
+    if kind not in (INT, UTF8, BOOL, DECIMAL, DATE, TIME, TIMESTAMP, DURATION):
         raise fault(7, f"column {name}: type kind {kind}")
     table = there(field.table(3), f"type of column {name}")
     if kind == INT:
@@ -167,11 +180,24 @@ def type_of(field: Table, name: str) -> DataType:
         return INTEGERS[dtype.name]
     if kind == DATE and table.scalar(0, 2, 1) != DAYS:
         raise fault(7, f"column {name}: a date that is not in days")
-    if kind == TIMESTAMP and (table.scalar(0, 2) != MICROSECONDS or table.scalar(1, 4) != 0):
-        raise fault(7, f"column {name}: a timestamp that is not in microseconds, or that has a zone")
+    if kind in (TIME, TIMESTAMP, DURATION):
+        return time_type(kind, table, name)
     if kind == DECIMAL and (table.scalar(0, 4), table.scalar(1, 4), table.scalar(2, 4, 128)) != (DIGITS, 0, 128):
         raise fault(7, f"column {name}: a decimal other than decimal128(38, 0)")
-    return {UTF8: TEXT, BOOL: TRUTH, DECIMAL: NUMBER, DATE: DAY, TIMESTAMP: MOMENT}[kind]
+    return {UTF8: TEXT, BOOL: TRUTH, DECIMAL: NUMBER, DATE: DAY}[kind]
+
+
+def time_type(kind: int, table: Table, name: str) -> DataType:
+    """The type of timestamps, times or durations. Of a zone it counts that there is one."""
+    number = table.scalar(0, 2, 0 if kind == TIMESTAMP else 1)
+    if not 0 <= number < len(UNITS):
+        raise fault(7, f"column {name}: times of another unit")
+    unit = UNITS[number]
+    if kind == TIMESTAMP:
+        return (ZONED if table.text(1) else MOMENTS)[unit]
+    if kind == TIME and table.scalar(1, 4, 32) != (32 if unit in ("s", "ms") else 64):
+        raise fault(7, f"column {name}: times of another width")
+    return (CLOCKS if kind == TIME else SPANS)[unit]
 
 
 def field_of(table: Table) -> Field:
@@ -237,12 +263,22 @@ def integer_table(dtype: np.dtype[Any]) -> Block:
 def type_table(of: DataType) -> tuple[int, Block]:
     if of.is_integer and of.dtype is not None:
         return INT, integer_table(of.dtype)
+    if of.unit is not None:
+        return times_table(of, (2, UNITS.index(of.unit)))
     return {
         TRUTH: (BOOL, flatbuffers.table()),
         NUMBER: (DECIMAL, flatbuffers.table((4, DIGITS), (4, 0), (4, 128))),
         DAY: (DATE, flatbuffers.table((2, DAYS))),
-        MOMENT: (TIMESTAMP, flatbuffers.table((2, MICROSECONDS))),
     }.get(of, (UTF8, flatbuffers.table()))
+
+
+def times_table(of: DataType, unit: tuple[int, int]) -> tuple[int, Block]:
+    """The table of timestamps, times or durations. A zone is UTC."""
+    if of in ZONED.values():
+        return TIMESTAMP, flatbuffers.table(unit, flatbuffers.text("UTC"))
+    if of in CLOCKS.values():
+        return TIME, flatbuffers.table(unit, (4, 32 if of.unit in ("s", "ms") else 64))
+    return (TIMESTAMP if of in MOMENTS.values() else DURATION), flatbuffers.table(unit)
 
 
 def field_table(field: Field) -> Block:

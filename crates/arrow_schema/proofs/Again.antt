@@ -114,7 +114,7 @@ encodes table (Dictionary encoding) is reads = record {
 
 -- ---- fields
 
-short_slots : (field : Field) → length field.name ≤ 64 → length (children (field_slots field)) ≤ 240
+short_slots : (field : Field) → length field.name ≤ 64 → length (children (field_slots field)) ≤ 250
 short_slots field short =
     let kids = tables_part [] in
     let rest = Offset kids ∷ [] in
@@ -141,7 +141,7 @@ whole_field : (field : Field) → IsWhole (field_part field)
 unfolding field_part
 whole_field field = whole_table (field_slots field) (whole_slots field)
 
-short_field : (field : Field) → length field.name ≤ 64 → length (field_part field).bytes ≤ 320
+short_field : (field : Field) → length field.name ≤ 64 → length (field_part field).bytes ≤ 330
 unfolding field_part
 short_field field short = let a = short_slots field short in let s = short_table (field_slots field) in omega arith
 
@@ -183,7 +183,7 @@ field_again field bytes at is s =
 
 -- ---- schemas
 
-short_fields : (fields : List Field) → AllByRecursion IsField fields → length (children (map Offset (map field_part fields))) ≤ 320 * length fields
+short_fields : (fields : List Field) → AllByRecursion IsField fields → length (children (map Offset (map field_part fields))) ≤ 330 * length fields
 short_fields [] are = omega arith
 short_fields (field ∷ more) are =
     let one = are.0 in

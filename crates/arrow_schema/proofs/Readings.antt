@@ -7,7 +7,7 @@ use Rattle.scan_base.specs.Reading.{◌>>=◌, demand, wanted}
 use Rattle.flatbuf.specs.Layout.{TableAt, VectorAt, IsBytes, IsReached, IsTable, IsVector, HasScalar, HasTable, HasVector, HasText, HasElement}
 use Rattle.flatbuf.specs.Place.{scalar_of, table_of, vector_of, text_of, element_of}
 use Rattle.flatbuf.proofs.Readings.{seen_finds, seen_scalar, seen_table, seen_vector, seen_text, seen_element}
-use Rattle.arrow_schema.specs.TypeTables.{meaning_of}
+use Rattle.arrow_schema.specs.Meanings.{meaning_of}
 use Rattle.arrow_schema.specs.Fields.{table_wanted, vector_wanted}
 
 -- ---- steps of a reading

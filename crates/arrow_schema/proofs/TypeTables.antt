@@ -1,23 +1,30 @@
 -- The table of each type is read as it is written, and as what it says.
-use Rattle.std.proofs.Common.{◌≡◌, ℕ, ◌≤◌, ◌<◌, ◌==◌, ◌&&◌, not, Bool, true, false, List, [], length, Result, Ok, refl, arith, sym, subst}
-use Rattle.std.proofs.lemmas.Bool.{and_parts, eqb-true}
+use Rattle.std.proofs.Common.{◌≡◌, ℕ, ◌≤◌, ◌<◌, ◌==◌, ◌&&◌, not, Bool, true, false, List, [], ◌∷◌, codes, length, Option, Some, None, IsUtf8, Result, Ok, refl, ap, append-nil, arith, rules, sym, subst}
+use Rattle.std.proofs.lemmas.Bool.{and_parts, eq-eqb, eqb-true}
+use Rattle.std.proofs.lemmas.Str.{IsUtf8-from_ascii}
 use Rattle.scan_base.specs.declared.fault.Fault.{Fault}
 use Rattle.scan_base.specs.declared.fault.Fault.TheVariants.{UnsupportedArrow}
 use Rattle.scan_base.specs.Reading.{◌>>=◌, demand}
 use Rattle.flatbuf.specs.Layout.{TableAt, IsBytes, HasScalar, Stands}
-use Rattle.flatbuf.specs.Place.{scalar_of}
-use Rattle.flatbuf.specs.Block.{IsWhole, AreWhole, table_part}
+use Rattle.flatbuf.specs.Place.{field_of, scalar_of, text_of}
+use Rattle.flatbuf.specs.Block.{Given, Number as Scalar, Offset, IsWhole, AreWhole, table_part, text_part}
+use Rattle.flatbuf.specs.Fits.{FitsTable}
 use Rattle.flatbuf.specs.WrittenTables.{table_at}
 use Rattle.flatbuf.proofs.Written.{table_reads}
-use Rattle.flatbuf.proofs.Lengths.{whole_table, short_table, fits_table}
+use Rattle.flatbuf.proofs.Lengths.{whole_table, whole_text, short_table, short_text, fits_table}
+use Rattle.flatbuf.proofs.Led.{led_text}
 use Rattle.arrow_types.specs.declared.data_type.IntegerType.{IntegerType}
 use Rattle.arrow_types.specs.declared.data_type.IntegerType.TheVariants.{Int8, Int16, Int32, Int64, UInt8, UInt16, UInt32, UInt64}
-use Rattle.arrow_types.specs.declared.data_type.NumberType.TheVariants.{Integer, Decimal, Date, Timestamp}
+use Rattle.arrow_types.specs.declared.data_type.NumberType.TheVariants.{Integer, Decimal, Date, Timestamp, Time, Duration}
+use Rattle.arrow_types.specs.declared.data_type.TimeUnit.{TimeUnit}
+use Rattle.arrow_types.specs.declared.data_type.TimeUnit.TheVariants.{Second, Millisecond, Microsecond, Nanosecond}
 use Rattle.arrow_types.specs.declared.data_type.DataType.{DataType}
 use Rattle.arrow_types.specs.declared.data_type.DataType.TheVariants.{Number, Utf8, Bool as Flags, Dictionary}
 use Rattle.arrow_types.specs.DataType.{bit_width, is_signed}
-use Rattle.arrow_schema.specs.TypeTables.{meaning_of, flag, SaysInteger, SaysDecimal, SaysDate, SaysType, signed_types, unsigned_types, integer_type, integer_of, integer_slots, integer_part, decimal_of, date_of, timestamp_of, type_readings, type_written, type_number, type_part, type_of}
-use Rattle.arrow_schema.proofs.Readings.{bind_ok, demand_ok, HoldOf, meaning_told, says_scalar, reads_scalar}
+use Rattle.arrow_schema.specs.Meanings.{meaning_of}
+use Rattle.arrow_schema.specs.TimeTables.{SaysTimestamp, SaysTime, SaysDuration, unit_number, time_units, is_zone, timestamp_of, timestamp_slots, time_bits, time_of, duration_of}
+use Rattle.arrow_schema.specs.TypeTables.{flag, SaysInteger, SaysDecimal, SaysDate, SaysType, signed_types, unsigned_types, integer_type, integer_of, integer_slots, integer_part, decimal_of, date_of, type_readings, type_written, type_number, type_part, type_of}
+use Rattle.arrow_schema.proofs.Readings.{bind_ok, demand_ok, HoldOf, meaning_told, says_scalar, reads_scalar, says_text, reads_text}
 
 -- ---- Int
 
@@ -137,15 +144,69 @@ date_row table t is e =
       record { unit = subst (λ (n : ℕ). HasScalar 2 table 0 1 n) (eqb-true a.0 0 (demand_ok (a.0 == 0) UnsupportedArrow b.0 b.1)) (says_scalar 2 table 0 1 a.0 is a.1) },
     )
 
+-- a number is that of its unit
+abbrev IsUnit : ℕ → TimeUnit → Type 0
+IsUnit number unit = number ≡ unit_number unit
+
+unit_is : (number : ℕ) (unit : TimeUnit) → meaning_of time_units number ≡ Ok unit → number ≡ unit_number unit
+unit_is number unit e = meaning_told IsUnit time_units number unit (refl, (refl, (refl, (refl, tt)))) e
+
+unit_again : (unit : TimeUnit) → meaning_of time_units (unit_number unit) ≡ Ok unit
+unit_again Second = refl
+unit_again Millisecond = refl
+unit_again Microsecond = refl
+unit_again Nanosecond = refl
+
+low_unit : (unit : TimeUnit) → unit_number unit ≤ 3
+low_unit Second = omega arith
+low_unit Millisecond = omega arith
+low_unit Microsecond = omega arith
+low_unit Nanosecond = omega arith
+
+low_bits : (unit : TimeUnit) → time_bits unit ≤ 64
+low_bits Second = omega arith
+low_bits Millisecond = omega arith
+low_bits Microsecond = omega arith
+low_bits Nanosecond = omega arith
+
+-- the unit of a table, and what is said of it
+says_unit : (table : TableAt) (default number : ℕ) (unit : TimeUnit) → IsBytes table.bytes → scalar_of 2 table 0 default ≡ Ok number → meaning_of time_units number ≡ Ok unit →
+    HasScalar 2 table 0 default (unit_number unit)
+says_unit table default number unit is e f = subst (λ (n : ℕ). HasScalar 2 table 0 default n) (unit_is number unit f) (says_scalar 2 table 0 default number is e)
+
 timestamp_row : IsTold 10 timestamp_of
 unfolding timestamp_of
 timestamp_row table t is e =
     let a = bind_ok (scalar_of 2 table 0 0) _ t e in
-    let b = bind_ok (demand (a.0 == 2) UnsupportedArrow) _ t a.2 in
-    let c = bind_ok (scalar_of 4 table 1 0) _ t b.2 in
-    let d = bind_ok (demand (c.0 == 0) UnsupportedArrow) _ t c.2 in
-    let f : Number Timestamp ≡ t = (let last = d.2 in cc) in
-    rw (← f) (refl, (subst (HasScalar 2 table 0 0) (eqb-true a.0 2 (demand_ok (a.0 == 2) UnsupportedArrow b.0 b.1)) (says_scalar 2 table 0 0 a.0 is a.1), subst (HasScalar 4 table 1 0) (eqb-true c.0 0 (demand_ok (c.0 == 0) UnsupportedArrow d.0 d.1)) (says_scalar 4 table 1 0 c.0 is c.1)))
+    let b = bind_ok (meaning_of time_units a.0) _ t a.2 in
+    let c = bind_ok (text_of table 1) _ t b.2 in
+    let last = c.2 in
+    let f : Number (Timestamp b.0 (is_zone c.0)) ≡ t = cc in
+    rw (← f) (refl, record { counted = says_unit table 0 a.0 b.0 is a.1 b.1; zone = c.0; named = says_text table 1 c.0 is c.1; is = refl })
+
+time_row : IsTold 9 time_of
+unfolding time_of
+time_row table t is e =
+    let a = bind_ok (scalar_of 2 table 0 1) _ t e in
+    let b = bind_ok (meaning_of time_units a.0) _ t a.2 in
+    let c = bind_ok (scalar_of 4 table 1 32) _ t b.2 in
+    let d = bind_ok (demand (c.0 == time_bits b.0) UnsupportedArrow) _ t c.2 in
+    let same = eqb-true c.0 (time_bits b.0) (demand_ok (c.0 == time_bits b.0) UnsupportedArrow d.0 d.1) in
+    let last = d.2 in
+    let f : Number (Time b.0) ≡ t = cc in
+    rw (← f) (
+      refl,
+      record { counted = says_unit table 1 a.0 b.0 is a.1 b.1; width = subst (λ (n : ℕ). HasScalar 4 table 1 32 n) same (says_scalar 4 table 1 32 c.0 is c.1) },
+    )
+
+duration_row : IsTold 18 duration_of
+unfolding duration_of
+duration_row table t is e =
+    let a = bind_ok (scalar_of 2 table 0 1) _ t e in
+    let b = bind_ok (meaning_of time_units a.0) _ t a.2 in
+    let last = b.2 in
+    let f : Number (Duration b.0) ≡ t = cc in
+    rw (← f) (refl, says_unit table 1 a.0 b.0 is a.1 b.1)
 
 utf8_row : IsTold 5 (λ table. Ok Utf8)
 utf8_row table t is e = let f : Utf8 ≡ t = cc in rw (← f) (refl, tt)
@@ -154,7 +215,7 @@ flags_row : IsTold 6 (λ table. Ok Flags)
 flags_row table t is e = let f : Flags ≡ t = cc in rw (← f) (refl, tt)
 
 told_rows : HoldOf IsTold type_readings
-told_rows = (integer_row, (utf8_row, (flags_row, (decimal_row, (date_row, (timestamp_row, tt))))))
+told_rows = (integer_row, (utf8_row, (flags_row, (decimal_row, (date_row, (time_row, (timestamp_row, (duration_row, tt))))))))
 
 pub type_told : (kind : ℕ) (table : Result TableAt Fault) (t : DataType) → type_of kind table ≡ Ok t → (found : TableAt) × (table ≡ Ok found) × (IsBytes found.bytes → (kind ≡ type_number t) × SaysType t found)
 type_told kind table t e =
@@ -172,7 +233,7 @@ values t = t
 -- a type's table is short, and reads as the type where it is written and where it says the type
 pub record Row (t : DataType) : Type 0 where
   pub whole : AreWhole (type_written t).1
-  pub short : length (type_part t).bytes ≤ 50
+  pub short : length (type_part t).bytes ≤ 60
   pub reading : TableAt → Result DataType Fault
   pub known : meaning_of type_readings (type_number t) ≡ Ok reading
   pub again : (bytes : List ℕ) (at : ℕ) → Stands (type_part t).bytes bytes at → reading (table_at bytes at (type_part t)) ≡ Ok (values t)
@@ -207,14 +268,117 @@ date_read : (table : TableAt) → IsBytes table.bytes → SaysDate table → dat
 unfolding date_of
 date_read table is says = rw (reads_scalar 2 table 0 1 0 is says.unit) refl
 
-timestamp_again : (bytes : List ℕ) (at : ℕ) → Stands (type_part (Number Timestamp)).bytes bytes at → timestamp_of (table_at bytes at (type_part (Number Timestamp))) ≡ Ok (Number Timestamp)
-unfolding type_part timestamp_of scalar_of
-timestamp_again bytes at s =
-    let reads = table_reads (type_written (Number Timestamp)).1 bytes at (fits_table (type_written (Number Timestamp)).1 (omega arith) (omega arith)) tt s in
-    rw (reads 0 2 0 (omega arith) (omega arith), reads 1) refl
+absent_text : (t : TableAt) (slot : ℕ) → field_of t slot ≡ Ok None → text_of t slot ≡ Ok None
+unfolding text_of
+absent_text t slot e = rw e refl
+
+-- the table of a timestamp
+
+zone_text : IsUtf8 (codes "UTC")
+zone_text = IsUtf8-from_ascii (codes "UTC") (search rules)
+
+whole_timestamp : (unit : TimeUnit) (zoned : Bool) → AreWhole (timestamp_slots unit zoned)
+whole_timestamp unit false = tt
+whole_timestamp unit true = (whole_text (codes "UTC"), tt)
+
+short_timestamp : (unit : TimeUnit) (zoned : Bool) → length (table_part (timestamp_slots unit zoned)).bytes ≤ 60
+short_timestamp unit false = let s = short_table (timestamp_slots unit false) in omega arith
+short_timestamp unit true =
+    let s = short_table (timestamp_slots unit true) in
+    let a = short_text (codes "UTC") in
+    let b = ap length (append-nil (text_part (codes "UTC")).bytes) in
+    omega arith
+
+pub fits_zoneless : (number : ℕ) → FitsTable (Scalar number ∷ [])
+fits_zoneless number = fits_table (Scalar number ∷ []) (omega arith) (omega arith)
+
+pub fits_zoned : (number : ℕ) → FitsTable (Scalar number ∷ Offset (text_part (codes "UTC")) ∷ [])
+fits_zoned number =
+    let a = short_text (codes "UTC") in
+    let b = ap length (append-nil (text_part (codes "UTC")).bytes) in
+    fits_table (Scalar number ∷ Offset (text_part (codes "UTC")) ∷ []) (omega arith) (omega arith)
+
+pub ruleset zones = (fits_zoneless, fits_zoned)
+
+fits_timestamp : (unit : TimeUnit) (zoned : Bool) → FitsTable (timestamp_slots unit zoned)
+fits_timestamp unit false = fits_zoneless (unit_number unit)
+fits_timestamp unit true = fits_zoned (unit_number unit)
+
+zone_again : (unit : TimeUnit) (zoned : Bool) (bytes : List ℕ) (at : ℕ) → Stands (table_part (timestamp_slots unit zoned)).bytes bytes at →
+    (zone : Option (List ℕ)) × (text_of (table_at bytes at (table_part (timestamp_slots unit zoned))) 1 ≡ Ok zone) × (is_zone zone ≡ zoned)
+zone_again unit false bytes at s =
+    let slots = timestamp_slots unit false in
+    (None, absent_text (table_at bytes at (table_part slots)) 1 (table_reads slots bytes at (fits_timestamp unit false) (whole_timestamp unit false) s 1), refl)
+zone_again unit true bytes at s =
+    let slots = timestamp_slots unit true in
+    let t = table_at bytes at (table_part slots) in
+    let led = led_text t 1 (codes "UTC") zone_text (omega arith) (table_reads slots bytes at (fits_timestamp unit true) (whole_timestamp unit true) s 1) in
+    (Some (codes "UTC"), led.0, refl)
+
+unit_there : (unit : TimeUnit) (zoned : Bool) (bytes : List ℕ) (at : ℕ) → Stands (table_part (timestamp_slots unit zoned)).bytes bytes at →
+    scalar_of 2 (table_at bytes at (table_part (timestamp_slots unit zoned))) 0 0 ≡ Ok (unit_number unit)
+unit_there unit false bytes at s =
+    let low = low_unit unit in
+    table_reads (timestamp_slots unit false) bytes at (fits_timestamp unit false) (whole_timestamp unit false) s 0 2 0 (omega arith) (omega arith)
+unit_there unit true bytes at s =
+    let low = low_unit unit in
+    table_reads (timestamp_slots unit true) bytes at (fits_timestamp unit true) (whole_timestamp unit true) s 0 2 0 (omega arith) (omega arith)
+
+timestamp_again : (unit : TimeUnit) (zoned : Bool) (bytes : List ℕ) (at : ℕ) → Stands (table_part (timestamp_slots unit zoned)).bytes bytes at →
+    timestamp_of (table_at bytes at (table_part (timestamp_slots unit zoned))) ≡ Ok (Number (Timestamp unit zoned))
+unfolding timestamp_of
+timestamp_again unit zoned bytes at s =
+    let zone = zone_again unit zoned bytes at s in
+    rw (unit_there unit zoned bytes at s, unit_again unit, zone.1, zone.2) refl
+
+timestamp_read : (unit : TimeUnit) (zoned : Bool) (table : TableAt) → IsBytes table.bytes → SaysTimestamp table unit zoned → timestamp_of table ≡ Ok (Number (Timestamp unit zoned))
+unfolding timestamp_of
+timestamp_read unit zoned table is says =
+    rw (reads_scalar 2 table 0 0 (unit_number unit) is says.counted, unit_again unit, reads_text table 1 says.zone is says.named, says.is) refl
+
+-- the table of a time
+
+abbrev time_slots : TimeUnit → List Given
+time_slots unit = Scalar (unit_number unit) ∷ Scalar (time_bits unit) ∷ []
+
+time_again : (unit : TimeUnit) (bytes : List ℕ) (at : ℕ) → Stands (table_part (time_slots unit)).bytes bytes at → time_of (table_at bytes at (table_part (time_slots unit))) ≡ Ok (Number (Time unit))
+unfolding time_of
+time_again unit bytes at s =
+    let slots = time_slots unit in
+    let t = table_at bytes at (table_part slots) in
+    let low = low_unit unit in
+    let few = low_bits unit in
+    let reads = table_reads slots bytes at (fits_table slots (omega arith) (omega arith)) tt s in
+    let number : scalar_of 2 t 0 1 ≡ Ok (unit_number unit) = reads 0 2 1 (omega arith) (omega arith) in
+    let bits : scalar_of 4 t 1 32 ≡ Ok (time_bits unit) = reads 1 4 32 (omega arith) (omega arith) in
+    rw (number, unit_again unit, bits, eq-eqb (time_bits unit) (time_bits unit) refl) refl
+
+time_read : (unit : TimeUnit) (table : TableAt) → IsBytes table.bytes → SaysTime table unit → time_of table ≡ Ok (Number (Time unit))
+unfolding time_of
+time_read unit table is says =
+    rw (reads_scalar 2 table 0 1 (unit_number unit) is says.counted, unit_again unit, reads_scalar 4 table 1 32 (time_bits unit) is says.width, eq-eqb (time_bits unit) (time_bits unit) refl) refl
+
+-- the table of a duration
+
+abbrev duration_slots : TimeUnit → List Given
+duration_slots unit = Scalar (unit_number unit) ∷ []
+
+duration_again : (unit : TimeUnit) (bytes : List ℕ) (at : ℕ) → Stands (table_part (duration_slots unit)).bytes bytes at →
+    duration_of (table_at bytes at (table_part (duration_slots unit))) ≡ Ok (Number (Duration unit))
+unfolding duration_of
+duration_again unit bytes at s =
+    let slots = duration_slots unit in
+    let t = table_at bytes at (table_part slots) in
+    let low = low_unit unit in
+    let number : scalar_of 2 t 0 1 ≡ Ok (unit_number unit) = table_reads slots bytes at (fits_table slots (omega arith) (omega arith)) tt s 0 2 1 (omega arith) (omega arith) in
+    rw (number, unit_again unit) refl
+
+duration_read : (unit : TimeUnit) (table : TableAt) → IsBytes table.bytes → SaysDuration table unit → duration_of table ≡ Ok (Number (Duration unit))
+unfolding duration_of
+duration_read unit table is says = rw (reads_scalar 2 table 0 1 (unit_number unit) is says, unit_again unit) refl
 
 pub row : (t : DataType) → Row t
-unfolding type_part integer_part timestamp_of
+unfolding type_part integer_part
 row (Number (Integer integer)) = record {
   whole = tt;
   short = (let s = short_integer integer in omega arith);
@@ -225,7 +389,16 @@ row (Number (Integer integer)) = record {
 }
 row (Number Decimal) = record { whole = tt; short = (let s = short_table (type_written (Number Decimal)).1 in omega arith); reading = decimal_of; known = refl; again = decimal_again; read = decimal_read }
 row (Number Date) = record { whole = tt; short = (let s = short_table (type_written (Number Date)).1 in omega arith); reading = date_of; known = refl; again = date_again; read = date_read }
-row (Number Timestamp) = record { whole = tt; short = (let s = short_table (type_written (Number Timestamp)).1 in omega arith); reading = timestamp_of; known = refl; again = timestamp_again; read = λ table is says. rw (reads_scalar 2 table 0 0 2 is says.0, reads_scalar 4 table 1 0 0 is says.1) refl }
+row (Number (Timestamp unit zoned)) = record {
+  whole = whole_timestamp unit zoned;
+  short = short_timestamp unit zoned;
+  reading = timestamp_of;
+  known = refl;
+  again = timestamp_again unit zoned;
+  read = timestamp_read unit zoned;
+}
+row (Number (Time unit)) = record { whole = tt; short = (let s = short_table (time_slots unit) in omega arith); reading = time_of; known = refl; again = time_again unit; read = time_read unit }
+row (Number (Duration unit)) = record { whole = tt; short = (let s = short_table (duration_slots unit) in omega arith); reading = duration_of; known = refl; again = duration_again unit; read = duration_read unit }
 row Utf8 = record { whole = tt; short = (let s = short_table [] in omega arith); reading = λ table. Ok Utf8; known = refl; again = λ bytes at s. refl; read = λ table is says. refl }
 row Flags = record { whole = tt; short = (let s = short_table [] in omega arith); reading = λ table. Ok Flags; known = refl; again = λ bytes at s. refl; read = λ table is says. refl }
 row (Dictionary encoding) = record { whole = tt; short = (let s = short_table [] in omega arith); reading = λ table. Ok Utf8; known = refl; again = λ bytes at s. refl; read = λ table is says. absurd says }
@@ -235,7 +408,7 @@ abbrev IsKind : ℕ → (TableAt → Result DataType Fault) → Type 0
 IsKind kind reading = (1 ≤ kind) × (kind < 256)
 
 pub is_kind : (t : DataType) → (1 ≤ type_number t) × (type_number t < 256)
-is_kind t = meaning_told IsKind type_readings (type_number t) (row t).reading ((omega arith, omega arith), ((omega arith, omega arith), ((omega arith, omega arith), ((omega arith, omega arith), ((omega arith, omega arith), ((omega arith, omega arith), tt)))))) (row t).known
+is_kind t = meaning_told IsKind type_readings (type_number t) (row t).reading ((omega arith, omega arith), ((omega arith, omega arith), ((omega arith, omega arith), ((omega arith, omega arith), ((omega arith, omega arith), ((omega arith, omega arith), ((omega arith, omega arith), ((omega arith, omega arith), tt)))))))) (row t).known
 
 pub whole_type : (t : DataType) → IsWhole (type_part t)
 unfolding type_part

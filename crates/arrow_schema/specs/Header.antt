@@ -15,7 +15,7 @@ use Rattle.arrow_types.specs.declared.schema.Schema.{Schema}
 use Rattle.arrow_types.specs.Schema.{same_dictionary}
 use Rattle.arrow_schema.specs.declared.header.HeaderKind.{HeaderKind}
 use Rattle.arrow_schema.specs.declared.header.HeaderKind.TheVariants as header
-use Rattle.arrow_schema.specs.TypeTables.{meaning_of}
+use Rattle.arrow_schema.specs.Meanings.{meaning_of}
 use Rattle.arrow_schema.specs.Fields.{vector_wanted, field_in}
 unfoldable pub use Rattle.arrow_schema.specs.Fields.{table_wanted}
 

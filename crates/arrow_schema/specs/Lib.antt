@@ -2,6 +2,8 @@ pub mod Fields
 pub mod Header
 pub mod Message
 pub mod Says
+pub mod Meanings
+pub mod TimeTables
 pub mod TypeTables
 pub mod MessageView
 pub mod WrittenHeader

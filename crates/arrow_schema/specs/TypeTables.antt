@@ -1,7 +1,7 @@
 -- The table of each type in a schema, in the words of Arrow's `Schema.fbs`: what it says, how it is
 -- read, and how it is written. Each list below has one row for a type.
 use Rattle.std.specs.Prelude.{◌≡◌, ℕ, ◌==◌, ◌&&◌, not, Bool, true, false, List, [], ◌∷◌}
-use Rattle.std.specs.Prelude.{Result, Ok, Err, if◌then◌else◌}
+use Rattle.std.specs.Prelude.{Result, Ok}
 use Rattle.scan_base.specs.declared.fault.Fault.{Fault}
 use Rattle.scan_base.specs.declared.fault.Fault.TheVariants.{UnsupportedArrow}
 use Rattle.scan_base.specs.Reading.{◌>>=◌, demand}
@@ -13,16 +13,15 @@ use Rattle.arrow_types.specs.declared.data_type.IntegerType.TheVariants.{Int8, I
 use Rattle.arrow_types.specs.declared.data_type.IntegerType.TheVariants.{UInt8, UInt16, UInt32}
 use Rattle.arrow_types.specs.declared.data_type.IntegerType.TheVariants.{UInt64}
 use Rattle.arrow_types.specs.declared.data_type.NumberType.TheVariants.{Integer, Decimal, Date}
-use Rattle.arrow_types.specs.declared.data_type.NumberType.TheVariants.{Timestamp}
+use Rattle.arrow_types.specs.declared.data_type.NumberType.TheVariants.{Timestamp, Time, Duration}
 use Rattle.arrow_types.specs.declared.data_type.DataType.{DataType}
 use Rattle.arrow_types.specs.declared.data_type.DataType.TheVariants.{Number, Utf8, Bool as Flags}
 use Rattle.arrow_types.specs.declared.data_type.DataType.TheVariants.{Dictionary}
 use Rattle.arrow_types.specs.DataType.{bit_width, is_signed}
-
--- what a number stands for, among these
-abbrev pub meaning_of : {A : Type 0} → List (ℕ × A) → ℕ → Result A Fault
-meaning_of [] number = Err UnsupportedArrow
-meaning_of (row ∷ rows) number = if number == row.0 then Ok row.1 else meaning_of rows number
+use Rattle.arrow_schema.specs.Meanings.{meaning_of}
+use Rattle.arrow_schema.specs.TimeTables.{SaysTimestamp, SaysTime, SaysDuration}
+use Rattle.arrow_schema.specs.TimeTables.{timestamp_of, time_of, duration_of}
+use Rattle.arrow_schema.specs.TimeTables.{unit_number, timestamp_slots, time_bits}
 
 -- a bool is true where its byte is not 0
 abbrev pub HasFlag : TableAt → ℕ → Bool → Type 0
@@ -85,7 +84,7 @@ decimal_of table = do
   _ ← demand ((precision == 38) && (scale == 0) && (bits == 128)) UnsupportedArrow
   Ok (Number Decimal)
 
--- ---- Date, Timestamp
+-- ---- Date
 
 -- a Date table: its unit is DAY (0), where the default is MILLISECOND (1)
 pub record SaysDate (table : TableAt) : Type 0 where
@@ -98,15 +97,6 @@ date_of table = do
   _ ← demand (unit == 0) UnsupportedArrow
   Ok (Number Date)
 
--- what a Timestamp table says: its unit is MICROSECOND (2), and no offset leads to a zone
-unfoldable pub timestamp_of : TableAt → Result DataType Fault
-timestamp_of table = do
-  unit ← scalar_of 2 table 0 0
-  _ ← demand (unit == 2) UnsupportedArrow
-  zone ← scalar_of 4 table 1 0
-  _ ← demand (zone == 0) UnsupportedArrow
-  Ok (Number Timestamp)
-
 -- ---- the rows
 
 -- what the table of a type says; no type's table says a dictionary
@@ -114,7 +104,9 @@ abbrev pub SaysType : DataType → TableAt → Type 0
 SaysType (Number (Integer integer)) table = SaysInteger table integer
 SaysType (Number Decimal) table = SaysDecimal table
 SaysType (Number Date) table = SaysDate table
-SaysType (Number Timestamp) table = HasScalar 2 table 0 0 2 × HasScalar 4 table 1 0 0
+SaysType (Number (Timestamp unit zoned)) table = SaysTimestamp table unit zoned
+SaysType (Number (Time unit)) table = SaysTime table unit
+SaysType (Number (Duration unit)) table = SaysDuration table unit
 SaysType Utf8 table = Unit {0}
 SaysType Flags table = Unit {0}
 SaysType (Dictionary encoding) table = ⊥
@@ -126,7 +118,9 @@ type_readings = (2, λ table. integer_of table >>= λ integer. Ok (Number (Integ
     ∷ (6, λ table. Ok Flags)
     ∷ (7, decimal_of)
     ∷ (8, date_of)
+    ∷ (9, time_of)
     ∷ (10, timestamp_of)
+    ∷ (18, duration_of)
     ∷ []
 
 -- how a type is written: the number of its kind, and the slots of its table. Those of a dictionary
@@ -135,7 +129,9 @@ abbrev pub type_written : DataType → ℕ × List Given
 type_written (Number (Integer integer)) = (2, integer_slots integer)
 type_written (Number Decimal) = (7, Scalar 38 ∷ Scalar 0 ∷ Scalar 128 ∷ [])
 type_written (Number Date) = (8, Scalar 0 ∷ [])
-type_written (Number Timestamp) = (10, Scalar 2 ∷ [])
+type_written (Number (Timestamp unit zoned)) = (10, timestamp_slots unit zoned)
+type_written (Number (Time unit)) = (9, Scalar (unit_number unit) ∷ Scalar (time_bits unit) ∷ [])
+type_written (Number (Duration unit)) = (18, Scalar (unit_number unit) ∷ [])
 type_written Utf8 = (5, [])
 type_written Flags = (6, [])
 type_written (Dictionary encoding) = (5, [])

@@ -1,15 +1,20 @@
 //! The table of each type in a schema. A type has one row where tables are read, and one where they
 //! are written.
 
-ghost use Rattle.std.specs.Prelude.{◌≡◌, IfOk};
+ghost use Rattle.std.specs.Prelude.{◌≡◌, IfOk, option_map};
 ghost use Rattle.scan_base.specs.Reading.{Gives};
+ghost use Rattle.flatbuf.specs.Block.{table_part};
 ghost use Rattle.arrow_types.specs.Schema.{IsType};
 ghost use Rattle.arrow_schema.specs.Fields.{table_wanted};
 ghost use Rattle.arrow_schema.specs.TypeTables.{integer_type, integer_of, decimal_of, date_of};
+ghost use Rattle.arrow_schema.specs.Meanings.{meaning_of};
+ghost use Rattle.arrow_schema.specs.TimeTables.{is_zone, time_units, timestamp_of};
+ghost use Rattle.arrow_schema.specs.TimeTables.{time_bits, time_of, timestamp_slots, unit_number};
+ghost use Rattle.arrow_schema.specs.TimeTables.{duration_of};
 ghost use Rattle.arrow_schema.specs.TypeTables.{type_of, integer_part, type_number, type_part};
 
 use crate::header::table_wanted;
-use arrow_types::{DataType, IntegerType, NumberType};
+use arrow_types::{DataType, IntegerType, NumberType, TimeUnit};
 use flatbuf::{Block, Builder, Slot, Table, Width};
 use scan_base::Fault;
 use std::alloc::AllocError;
@@ -65,9 +70,73 @@ fn date(table: &Table<'_>) -> Result<DataType, Fault>
     Ok(DataType::Number(NumberType::Date))
 }
 
+// A unit of times.
+fn time_unit(number: u64) -> Result<TimeUnit, Fault>
+    ensures { Gives (λ unit. unit) result (meaning_of time_units number) }
+{
+    match number {
+        0 => Ok(TimeUnit::Second),
+        1 => Ok(TimeUnit::Millisecond),
+        2 => Ok(TimeUnit::Microsecond),
+        3 => Ok(TimeUnit::Nanosecond),
+        _ => Err(Fault::UnsupportedArrow),
+    }
+}
+
+// Whether there is a zone. An empty name is none.
+fn is_zone(zone: Option<&str>) -> bool
+    ensures { result ≡ is_zone (option_map (λ name. name.now) zone.entry) }
+{
+    match zone {
+        Some(name) => !name.is_empty(),
+        None => false,
+    }
+}
+
+// A timestamp. Of a zone it is kept that there is one.
+#[tactic(auto, unfolding(crate::specs::TimeTables::timestamp_of))]
+fn timestamp(table: &Table<'_>) -> Result<DataType, Fault>
+    ensures value { Gives (λ timestamp. timestamp) result (timestamp_of table.now) }
+    ensures valid { IfOk result IsType }
+{
+    let unit = time_unit(table.scalar(0, Width::Two, 0)?)?;
+    let zone = table.text(1)?;
+    Ok(DataType::Number(NumberType::Timestamp(unit, is_zone(zone))))
+}
+
+// A time of a day, in the bits of its unit.
+#[tactic(auto, unfolding(crate::specs::TimeTables::time_of))]
+fn time(table: &Table<'_>) -> Result<DataType, Fault>
+    ensures value { Gives (λ time. time) result (time_of table.now) }
+    ensures valid { IfOk result IsType }
+{
+    let unit = time_unit(table.scalar(0, Width::Two, 1)?)?;
+    let bits = table.scalar(1, Width::Four, 32)?;
+    if bits != time_bits(unit) {
+        return Err(Fault::UnsupportedArrow);
+    }
+    Ok(DataType::Number(NumberType::Time(unit)))
+}
+
+// A duration.
+#[tactic(auto, unfolding(crate::specs::TimeTables::duration_of))]
+fn duration(table: &Table<'_>) -> Result<DataType, Fault>
+    ensures value { Gives (λ duration. duration) result (duration_of table.now) }
+    ensures valid { IfOk result IsType }
+{
+    let unit = time_unit(table.scalar(0, Width::Two, 1)?)?;
+    Ok(DataType::Number(NumberType::Duration(unit)))
+}
+
+// The bits of a time of a day.
+fn time_bits(unit: TimeUnit) -> u64
+    ensures { result ≡ time_bits unit }
+{
+    u64::from(unit.time_integer().bit_width())
+}
+
 /// The type of a field's values, by the number of its kind. It refuses an unknown kind before an
 /// absent table.
-#[tactic(auto, unfolding(crate::specs::TypeTables::timestamp_of))]
 pub(crate) fn type_from(kind: u64, field: &Table<'_>) -> Result<DataType, Fault>
     ensures value { Gives (λ data_type. data_type) result
         (type_of kind (table_wanted field.now 3)) }
@@ -86,13 +155,9 @@ pub(crate) fn type_from(kind: u64, field: &Table<'_>) -> Result<DataType, Fault>
         }
         7 => decimal(&table?),
         8 => date(&table?),
-        10 => {
-            let table = table?;
-            if table.scalar(0, Width::Two, 0)? != 2 || table.scalar(1, Width::Four, 0)? != 0 {
-                return Err(Fault::UnsupportedArrow);
-            }
-            Ok(DataType::Number(NumberType::Timestamp))
-        }
+        9 => time(&table?),
+        10 => timestamp(&table?),
+        18 => duration(&table?),
         _ => Err(Fault::UnsupportedArrow),
     }
 }
@@ -105,6 +170,32 @@ pub(crate) fn integer_block(builder: &Builder, integer: IntegerType) -> Result<B
         Slot::Number(u64::from(integer.bit_width())),
         Slot::Number(u64::from(integer.is_signed())),
     ])
+}
+
+// The number of a unit of times.
+fn unit_number(unit: TimeUnit) -> u64
+    ensures { result ≡ unit_number unit }
+{
+    match unit {
+        TimeUnit::Second => 0,
+        TimeUnit::Millisecond => 1,
+        TimeUnit::Microsecond => 2,
+        TimeUnit::Nanosecond => 3,
+    }
+}
+
+// The table of a timestamp. A zone is UTC.
+#[tactic(auto, using(crate::proofs::TypeTables::zones))]
+fn timestamp_block(builder: &Builder, unit: TimeUnit, zoned: bool) -> Result<Block, AllocError>
+    ensures { IfOk result (λ block. block ≡ table_part (timestamp_slots unit zoned)) }
+{
+    let number = Slot::Number(unit_number(unit));
+    if zoned {
+        let zone = builder.text("UTC")?;
+        builder.table(&[number, Slot::Offset(&zone)])
+    } else {
+        builder.table(&[number])
+    }
 }
 
 /// The number of a type's kind, and its table.
@@ -121,6 +212,18 @@ pub(crate) fn type_block(builder: &Builder, data_type: DataType) -> Result<(u64,
             Ok((7, builder.table(&slots)?))
         }
         DataType::Number(NumberType::Date) => Ok((8, builder.table(&[Slot::Number(0)])?)),
-        DataType::Number(NumberType::Timestamp) => Ok((10, builder.table(&[Slot::Number(2)])?)),
+        DataType::Number(NumberType::Timestamp(unit, zoned)) => {
+            Ok((10, timestamp_block(builder, unit, zoned)?))
+        }
+        DataType::Number(NumberType::Time(unit)) => {
+            let slots = [
+                Slot::Number(unit_number(unit)),
+                Slot::Number(time_bits(unit)),
+            ];
+            Ok((9, builder.table(&slots)?))
+        }
+        DataType::Number(NumberType::Duration(unit)) => {
+            Ok((18, builder.table(&[Slot::Number(unit_number(unit))])?))
+        }
     }
 }

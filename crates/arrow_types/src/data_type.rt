@@ -1,8 +1,10 @@
 //! The types of columns.
 
-ghost use Rattle.std.specs.Prelude.{◌≡◌};
+ghost use Rattle.std.specs.Prelude.{◌≡◌, ◌^◌, ◌<ℤ◌, pos};
+ghost use Rattle.std.specs.Int.{int_div_euclid, int_rem_euclid};
 ghost use Rattle.arrow_types.specs.Answer.{answered_at, copied_type};
-ghost use Rattle.arrow_types.specs.DataType.{bit_width, cell_of, is_signed, same_number};
+ghost use Rattle.arrow_types.specs.DataType.{bit_width, cell_of, is_signed, per_second};
+ghost use Rattle.arrow_types.specs.DataType.{same_number, time_integer, zeptos_in};
 
 /// The whole numbers of fixed width.
 #[derive(Clone, Copy, Debug, PartialEq, Eq)]
@@ -25,15 +27,38 @@ pub struct DictionaryEncoding {
     pub index: IntegerType,
 }
 
+// How many zeptoseconds the units have.
+const SECOND: i128 = 1_000_000_000_000_000_000_000;
+
+const MILLISECOND: i128 = 1_000_000_000_000_000_000;
+
+const MICROSECOND: i128 = 1_000_000_000_000_000;
+
+const NANOSECOND: i128 = 1_000_000_000_000;
+
+/// What times are counted in.
+#[derive(Clone, Copy, Debug, PartialEq, Eq)]
+pub enum TimeUnit {
+    Second,
+    Millisecond,
+    Microsecond,
+    Nanosecond,
+}
+
 /// The types whose values are whole numbers, in whose order they stand. A decimal is one of 38
 /// digits with none after the point. A date is a number of whole days from 1970-01-01 on.
-/// A timestamp is one of microseconds.
 #[derive(Clone, Copy, Debug, PartialEq, Eq)]
 pub enum NumberType {
     Integer(IntegerType),
     Decimal,
     Date,
-    Timestamp,
+    /// How many of the unit have passed since 1970-01-01 00:00:00, and whether the type has a zone:
+    /// then that is said of UTC.
+    Timestamp(TimeUnit, bool),
+    /// How many of the unit have passed since a day began.
+    Time(TimeUnit),
+    /// How many of the unit have passed.
+    Duration(TimeUnit),
 }
 
 /// How a number lies in a slot: as an integer of fixed width, or in 16 bytes with a sign.
@@ -78,6 +103,55 @@ impl IntegerType {
     }
 }
 
+impl TimeUnit {
+    /// How many of this unit a second has.
+    pub fn per_second(self) -> u32
+        ensures { result ≡ per_second self }
+    {
+        match self {
+            TimeUnit::Second => 1,
+            TimeUnit::Millisecond => 1_000,
+            TimeUnit::Microsecond => 1_000_000,
+            TimeUnit::Nanosecond => 1_000_000_000,
+        }
+    }
+
+    /// The numbers that the times of a day lie in.
+    pub fn time_integer(self) -> IntegerType
+        ensures { result ≡ time_integer self }
+    {
+        match self {
+            TimeUnit::Second | TimeUnit::Millisecond => IntegerType::Int32,
+            TimeUnit::Microsecond | TimeUnit::Nanosecond => IntegerType::Int64,
+        }
+    }
+
+    /// How many of this unit a number of zeptoseconds is, rounded down, and how many are left. A
+    /// second has 10^21 of them.
+    pub fn parts(self, zeptos: i128) -> (i128, i128)
+        ensures whole { result.0 ≡ int_div_euclid zeptos (pos (zeptos_in self)) }
+        ensures rest { result.1 ≡ int_rem_euclid zeptos (pos (zeptos_in self)) }
+        ensures small { result.0 <ℤ pos (2 ^ 100) }
+    {
+        match self {
+            TimeUnit::Second => (zeptos.div_euclid(SECOND), zeptos.rem_euclid(SECOND)),
+            TimeUnit::Millisecond => {
+                (
+                    zeptos.div_euclid(MILLISECOND),
+                    zeptos.rem_euclid(MILLISECOND),
+                )
+            }
+            TimeUnit::Microsecond => {
+                (
+                    zeptos.div_euclid(MICROSECOND),
+                    zeptos.rem_euclid(MICROSECOND),
+                )
+            }
+            TimeUnit::Nanosecond => (zeptos.div_euclid(NANOSECOND), zeptos.rem_euclid(NANOSECOND)),
+        }
+    }
+}
+
 impl NumberType {
     /// How a number of this type lies in a slot. Only this says it: what a number means plays no
     /// part below the doors at which it is read or written.
@@ -88,7 +162,9 @@ impl NumberType {
             NumberType::Integer(integer) => Cell::Integer(integer),
             NumberType::Decimal => Cell::Wide,
             NumberType::Date => Cell::Integer(IntegerType::Int32),
-            NumberType::Timestamp => Cell::Integer(IntegerType::Int64),
+            NumberType::Timestamp(_, _) => Cell::Integer(IntegerType::Int64),
+            NumberType::Time(unit) => Cell::Integer(unit.time_integer()),
+            NumberType::Duration(_) => Cell::Integer(IntegerType::Int64),
         }
     }
 
@@ -102,7 +178,15 @@ impl NumberType {
             }
             (NumberType::Decimal, NumberType::Decimal) => true,
             (NumberType::Date, NumberType::Date) => true,
-            (NumberType::Timestamp, NumberType::Timestamp) => true,
+            (NumberType::Timestamp(one, zoned), NumberType::Timestamp(other, too)) => {
+                one.per_second() == other.per_second() && zoned == too
+            }
+            (NumberType::Time(one), NumberType::Time(other)) => {
+                one.per_second() == other.per_second()
+            }
+            (NumberType::Duration(one), NumberType::Duration(other)) => {
+                one.per_second() == other.per_second()
+            }
             (_, _) => false,
         }
     }

@@ -20,12 +20,13 @@ use Rattle.fault_hints.specs.declared.refused_types.ColumnRead.{ColumnRead}
 abbrev pub kind_names : List (ℕ × List ℕ)
 kind_names =
     (1, codes "null") ∷ (2, codes "integer of another width") ∷ (3, codes "floating point")
-    ∷ (4, codes "binary") ∷ (8, codes "date64") ∷ (9, codes "time")
-    ∷ (10, codes "timestamp of another unit or zone") ∷ (11, codes "interval")
+    ∷ (4, codes "binary") ∷ (8, codes "date64") ∷ (9, codes "time of another width")
+    ∷ (10, codes "timestamp of another unit") ∷ (11, codes "interval")
     ∷ (12, codes "list") ∷ (13, codes "struct") ∷ (14, codes "union")
     ∷ (15, codes "fixed size binary") ∷ (16, codes "fixed size list") ∷ (17, codes "map")
-    ∷ (18, codes "duration") ∷ (19, codes "large binary") ∷ (20, codes "large utf8")
-    ∷ (21, codes "large list") ∷ (23, codes "binary view") ∷ (24, codes "utf8 view") ∷ []
+    ∷ (18, codes "duration of another unit") ∷ (19, codes "large binary")
+    ∷ (20, codes "large utf8") ∷ (21, codes "large list") ∷ (23, codes "binary view")
+    ∷ (24, codes "utf8 view") ∷ []
 
 -- the name of a kind among these
 abbrev pub name_among : List (ℕ × List ℕ) → ℕ → List ℕ

@@ -13,7 +13,9 @@ use Rattle.arrow_types.specs.declared.data_type.NumberType.TheVariants.{Integer}
 use Rattle.arrow_types.specs.declared.data_type.DataType.{DataType}
 use Rattle.arrow_types.specs.declared.data_type.DataType.TheVariants.{Number, Utf8, Bool as Flags, Dictionary}
 use Rattle.arrow_types.specs.Schema.{same_dictionary}
-use Rattle.arrow_schema.specs.TypeTables.{meaning_of, signed_types, unsigned_types, integer_type, integer_of, decimal_of, date_of, timestamp_of, type_readings}
+use Rattle.arrow_schema.specs.Meanings.{meaning_of}
+use Rattle.arrow_schema.specs.TimeTables.{time_units, time_bits, time_of, timestamp_of, duration_of}
+use Rattle.arrow_schema.specs.TypeTables.{signed_types, unsigned_types, integer_type, integer_of, decimal_of, date_of, type_readings}
 use Rattle.arrow_schema.proofs.Readings.{HoldOf}
 use Rattle.arrow_schema.specs.Fields.{table_wanted, vector_wanted, name_of, value_type_of, is_bare, childless, index_of, dictionary_of, encoded, field_in}
 use Rattle.arrow_schema.specs.Header.{MessageAt, header_of, body_length_of, field_at, fields_of, schema_in}
@@ -150,13 +152,26 @@ date table =
     only_then IsOther (scalar_of 2 table 0 1) _ (scalar 2 table 0 1)
     (λ unit. only_then IsOther (demand (unit == 0) UnsupportedArrow) _ (only_demand IsOther (unit == 0) UnsupportedArrow unsupported) (λ _. tt))
 
--- a slot that has the one number that its type may have, and what is read after it
-fixed : {A : Type 0} (width : ℕ) (table : TableAt) (slot default n : ℕ) (next : Result A Fault) → Only IsOther next → Only IsOther (scalar_of width table slot default >>= λ found. demand (found == n) UnsupportedArrow >>= λ _. next)
-fixed width table slot default n next rest = only_then IsOther (scalar_of width table slot default) _ (scalar width table slot default) (λ found. only_then IsOther (demand (found == n) UnsupportedArrow) _ (only_demand IsOther (found == n) UnsupportedArrow unsupported) (λ _. rest))
-
 timestamp : (table : TableAt) → Only IsOther (timestamp_of table)
 unfolding timestamp_of
-timestamp table = fixed 2 table 0 0 2 _ (fixed 4 table 1 0 0 _ tt)
+timestamp table =
+    only_then IsOther (scalar_of 2 table 0 0) _ (scalar 2 table 0 0)
+    (λ number. only_then IsOther (meaning_of time_units number) _ (meaning time_units number)
+    (λ unit. only_then IsOther (text_of table 1) _ (text table 1) (λ zone. tt)))
+
+time : (table : TableAt) → Only IsOther (time_of table)
+unfolding time_of
+time table =
+    only_then IsOther (scalar_of 2 table 0 1) _ (scalar 2 table 0 1)
+    (λ number. only_then IsOther (meaning_of time_units number) _ (meaning time_units number)
+    (λ unit. only_then IsOther (scalar_of 4 table 1 32) _ (scalar 4 table 1 32)
+    (λ bits. only_then IsOther (demand (bits == time_bits unit) UnsupportedArrow) _ (only_demand IsOther (bits == time_bits unit) UnsupportedArrow unsupported) (λ _. tt))))
+
+duration : (table : TableAt) → Only IsOther (duration_of table)
+unfolding duration_of
+duration table =
+    only_then IsOther (scalar_of 2 table 0 1) _ (scalar 2 table 0 1)
+    (λ number. only_then IsOther (meaning_of time_units number) _ (meaning time_units number) (λ unit. tt))
 
 -- what is read after a value, or after the rest
 chosen : {A B : Type 0} (here : Bool) (x : A) (rest : Result A Fault) (next : A → Result B Fault) → Only IsOther (next x) → Only IsOther (rest >>= next) → Only IsOther ((if here then Ok x else rest) >>= next)
@@ -176,7 +191,7 @@ value_type table =
     (λ _. only_then IsOther (scalar_of 1 table 2 0) _ (scalar 1 table 2 0)
     (λ number. meant type_readings number (λ (reading : TableAt → Result DataType Fault). table_wanted table 3 >>= reading) (
       read (λ found. integer_of found >>= λ integer. Ok (Number (Integer integer))) (λ found. only_then IsOther (integer_of found) _ (integer found) (λ integer. tt)),
-      (read (λ found. Ok Utf8) (λ found. tt), (read (λ found. Ok Flags) (λ found. tt), (read decimal_of decimal, (read date_of date, (read timestamp_of timestamp, tt))))),
+      (read (λ found. Ok Utf8) (λ found. tt), (read (λ found. Ok Flags) (λ found. tt), (read decimal_of decimal, (read date_of date, (read time_of time, (read timestamp_of timestamp, (read duration_of duration, tt))))))),
     ))))
   where
     read : (reading : TableAt → Result DataType Fault) → ((found : TableAt) → Only IsOther (reading found)) → Only IsOther (table_wanted table 3 >>= reading)

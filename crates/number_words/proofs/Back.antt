@@ -1,5 +1,5 @@
 -- What is printed of a number reads back.
-use Rattle.std.proofs.Common.{◌≡◌, ◌==◌, ◌<◌, ◌^◌, ℕ, suc, ℤ, pos, negsuc, neg_ℤ, Bool, true, false, List, Option, Some, None, length, slice_index, IsTrue, if◌then◌else◌, refl, ap, ◌∙◌, arith, rules}
+use Rattle.std.proofs.Common.{◌≡◌, ◌==◌, ◌<◌, ◌^◌, ℕ, suc, ℤ, pos, negsuc, neg_ℤ, Bool, true, false, Option, Some, None, length, slice_index, IsTrue, if◌then◌else◌, refl, ap, ◌∙◌, arith, rules}
 use Rattle.std.specs.Prelude.{nat_lt, not, option_map, unsigned_abs}
 use Rattle.std.specs.Char.{is_ascii_digit}
 use Rattle.std.specs.Fmt.{decimal, signed_decimal}
@@ -12,14 +12,13 @@ use Rattle.std.proofs.lemmas.Fmt.{decimal_is_IsNumeral_wide}
 use Rattle.std.proofs.lemmas.Str.Parse.{IsNumeralModel, not_in_digits, numerals_by_value}
 use Rattle.arrow_types.specs.declared.data_type.Cell.{Cell}
 use Rattle.arrow_types.specs.declared.data_type.NumberType.{NumberType}
-use Rattle.arrow_types.specs.declared.data_type.NumberType.TheVariants.{Integer, Decimal, Date, Timestamp}
+use Rattle.arrow_types.specs.declared.data_type.NumberType.TheVariants.{Integer, Decimal, Date, Timestamp, Time, Duration}
 use Rattle.arrow_types.specs.DataType.{cell_of}
 use Rattle.sql_text.specs.Values.{number_of}
 use Rattle.number_words.specs.DateText.{DayReadsBack}
-use Rattle.number_words.specs.Moments.{day_at}
 use Rattle.number_words.specs.WholeNumbers.{holds, kept_in, decimal_in}
-use Rattle.number_words.specs.NumberTexts.{ReadsBack, is_sayable}
-use Rattle.number_words.proofs.MomentTexts.{timestamp_back}
+use Rattle.number_words.specs.NumberTexts.{ReadsBack, day_number, is_sayable}
+use Rattle.number_words.proofs.MomentTexts.{time_reads, timestamp_back}
 use Rattle.number_words.proofs.Parts.{both}
 
 own : IsNumeralModel (λ ds. list_all is_ascii_digit ds ≡ true) (digits_value 10)
@@ -50,8 +49,14 @@ number_back (negsuc n) low = ap (option_map neg_ℤ) (digits_back (suc n) low)
 kept : (cell : Cell) (number : ℤ) (found : Option ℤ) → IsTrue (holds cell number) → found ≡ Some number → kept_in cell found ≡ Some number
 kept cell number found held is = ap (kept_in cell) is ∙ ap (λ (b : Bool). if b then Some number else None) held
 
-pub reads_back : (kind : NumberType) (number : ℤ) → DayReadsBack number → DayReadsBack (day_at number) → ReadsBack kind number
-reads_back (Integer integer) number day moment fits = let parts = both _ _ fits in kept (cell_of (Integer integer)) number _ parts.0 (number_back number parts.1)
-reads_back Decimal number day moment fits = let parts = both _ _ fits in kept (cell_of Decimal) number _ parts.0 (number_back number parts.1)
-reads_back Date number day moment fits = let parts = both (holds (cell_of Date) number) (is_sayable Date number) fits in rw parts.1 (kept (cell_of Date) number _ parts.0 (day parts.1))
-reads_back Timestamp number day moment fits = let parts = both (holds (cell_of Timestamp) number) (is_sayable Timestamp number) fits in rw parts.1 (kept (cell_of Timestamp) number _ parts.0 (timestamp_back number moment parts.1))
+pub reads_back : (kind : NumberType) (number : ℤ) → DayReadsBack (day_number kind number) → ReadsBack kind number
+reads_back (Integer integer) number day fits = let parts = both _ _ fits in kept (cell_of (Integer integer)) number _ parts.0 (number_back number parts.1)
+reads_back Decimal number day fits = let parts = both _ _ fits in kept (cell_of Decimal) number _ parts.0 (number_back number parts.1)
+reads_back (Duration unit) number day fits = let parts = both _ _ fits in kept (cell_of (Duration unit)) number _ parts.0 (number_back number parts.1)
+reads_back Date number day fits = let parts = both (holds (cell_of Date) number) (is_sayable Date number) fits in rw parts.1 (kept (cell_of Date) number _ parts.0 (day parts.1))
+reads_back (Timestamp unit zoned) number day fits =
+    let parts = both (holds (cell_of (Timestamp unit zoned)) number) (is_sayable (Timestamp unit zoned) number) fits in
+    rw parts.1 (kept (cell_of (Timestamp unit zoned)) number _ parts.0 (timestamp_back unit zoned number day parts.1))
+reads_back (Time unit) number day fits =
+    let parts = both (holds (cell_of (Time unit)) number) (is_sayable (Time unit) number) fits in
+    rw parts.1 (kept (cell_of (Time unit)) number _ parts.0 (time_reads unit number parts.1))

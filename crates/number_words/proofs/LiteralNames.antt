@@ -1,5 +1,5 @@
 -- Names stay texts of a byte or more among tokens with the words of literals.
-use Rattle.std.proofs.Common.{◌≡◌, ℕ, Bool, true, false, if◌then◌else◌, List, [], ◌∷◌, codes}
+use Rattle.std.proofs.Common.{ℕ, Bool, true, false, if◌then◌else◌, List, [], ◌∷◌, codes}
 use Rattle.std.specs.Prelude.{All}
 use Rattle.std.specs.Str.{str_eq_ignore_ascii_case}
 use Rattle.std.proofs.lemmas.List.Elements.{All-nil, All-cons, All-head, All-tail}
@@ -14,14 +14,15 @@ abbrev token : TokenKind → ℕ → List ℕ → Lexeme
 token k start text = record { kind = k; start = start; text = text }
 
 -- a name that is no word of a literal is the name
-still_name : (word_too : Bool) (start : ℕ) (text : List ℕ) → SaysText (token kind.Name start text) →
-    SaysText (token (if word_too then kind.Keyword word.Timestamp else kind.Name) start text)
-still_name true start text says = λ n. cc
-still_name false start text says = says
+still_name : (stamp time : Bool) (start : ℕ) (text : List ℕ) → SaysText (token kind.Name start text) →
+    SaysText (token (if stamp then kind.Keyword word.Timestamp else (if time then kind.Keyword word.Time else kind.Name)) start text)
+still_name true time start text says = λ n. cc
+still_name false true start text says = λ n. cc
+still_name false false start text says = says
 
 still_says : (k : TokenKind) (start : ℕ) (text : List ℕ) (string : Bool) → SaysText (token k start text) →
     SaysText (token (kind_before k text string) start text)
-still_says kind.Name start text true says = still_name (str_eq_ignore_ascii_case text (codes "TIMESTAMP")) start text says
+still_says kind.Name start text true says = still_name (str_eq_ignore_ascii_case text (codes "TIMESTAMP")) (str_eq_ignore_ascii_case text (codes "TIME")) start text says
 still_says kind.Name start text false says = says
 still_says (kind.Keyword w) start text string says = says
 still_says (kind.Symbol s) start text string says = says

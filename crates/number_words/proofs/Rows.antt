@@ -1,15 +1,17 @@
 -- Worked rows.
-use Rattle.std.proofs.Common.{◌≡◌, Bool, if◌then◌else◌, List, ◌++◌, ℕ, ℤ, Option, refl, sym, ap, ◌∙◌, codes, Some, None, pos, negsuc}
+use Rattle.std.proofs.Common.{◌≡◌, Bool, true, false, if◌then◌else◌, List, ◌++◌, ℕ, ℤ, Option, refl, sym, ap, ◌∙◌, codes, Some, None, pos, negsuc}
 use Rattle.std.specs.Prelude.{unwrap_or}
 use Rattle.std.specs.Fmt.{digits, signed_decimal}
 use Rattle.jiff_core.specs.Calendar.{days_from_civil, day_count, days_of_years, days_of_months}
 use Rattle.number_words.specs.Dates.{day_in}
 use Rattle.arrow_types.specs.declared.data_type.IntegerType.TheVariants.{Int8, Int16, Int32}
 use Rattle.arrow_types.specs.declared.data_type.Cell.TheVariants as cell
-use Rattle.arrow_types.specs.declared.data_type.NumberType.TheVariants.{Integer, Decimal, Date, Timestamp}
+use Rattle.arrow_types.specs.declared.data_type.NumberType.TheVariants.{Integer, Decimal, Date, Timestamp, Time, Duration}
+use Rattle.arrow_types.specs.declared.data_type.TimeUnit.TheVariants.{Second, Millisecond, Microsecond, Nanosecond}
 use Rattle.sql_text.specs.Values.{number_of}
 use Rattle.number_words.specs.DateText.{date_of}
-use Rattle.number_words.specs.Moments.{clock_in, fraction_in, moment_in, timestamp_text}
+use Rattle.number_words.specs.Moments.{clock_in, fraction_in, moment_in, time_in}
+use Rattle.number_words.specs.MomentText.{timestamp_text}
 use Rattle.number_words.specs.WholeNumbers.{kept_in}
 use Rattle.number_words.specs.NumberTexts.{form_of, literal_text, number_read, shown, worded}
 use Rattle.number_words.proofs.Texts.{texts_are_dates}
@@ -139,39 +141,86 @@ moment_day : day_in (codes "2024-05-01") ≡ Some (pos 19844)
 unfolding days_from_civil day_count days_of_years days_of_months
 moment_day = refl
 
-moment_read : number_read Timestamp (codes "2024-05-01 12:00:00.25") ≡ Some (pos 1714564800250000)
+seconds_read : number_read (Timestamp Second false) (codes "2024-05-01 12:00:00") ≡ Some (pos 1714564800)
+unfolding days_from_civil day_count days_of_years days_of_months moment_in clock_in fraction_in
+seconds_read = refl
+
+millis_read : number_read (Timestamp Millisecond false) (codes "2024-05-01 12:00:00.25") ≡ Some (pos 1714564800250)
+unfolding days_from_civil day_count days_of_years days_of_months moment_in clock_in fraction_in
+millis_read = refl
+
+moment_read : number_read (Timestamp Microsecond false) (codes "2024-05-01 12:00:00.25") ≡ Some (pos 1714564800250000)
 unfolding days_from_civil day_count days_of_years days_of_months moment_in clock_in fraction_in
 moment_read = refl
 
-whole_second : number_read Timestamp (codes "2024-05-01 12:00:00") ≡ Some (pos 1714564800000000)
+nanos_read : number_read (Timestamp Nanosecond false) (codes "2024-05-01 12:00:00.250000001") ≡ Some (pos 1714564800250000001)
 unfolding days_from_civil day_count days_of_years days_of_months moment_in clock_in fraction_in
-whole_second = refl
+nanos_read = refl
 
-before_1970 : number_read Timestamp (codes "1969-12-31 23:59:59.999999") ≡ Some (negsuc 0)
+before_1970 : number_read (Timestamp Microsecond true) (codes "1969-12-31 23:59:59.999999Z") ≡ Some (negsuc 0)
 unfolding days_from_civil day_count days_of_years days_of_months moment_in clock_in fraction_in
 before_1970 = refl
 
-moment_shown : shown Timestamp (pos 1714564800250000) ≡ codes "2024-05-01 12:00:00.250000"
+moment_shown : shown (Timestamp Microsecond true) (pos 1714564800250000) ≡ codes "2024-05-01 12:00:00.250000Z"
 moment_shown =
     let law = texts_are_dates (codes "2024-05-01") (pos 19844) moment_day in
-    let form : form_of Timestamp (pos 1714564800250000) ≡ Some (codes "2024-05-01 12:00:00.250000")
-    = ap (λ (test : Bool). if test then Some (timestamp_text (pos 1714564800250000)) else None) law.0
-    ∙ ap (λ (date : List ℕ). Some (date ++ codes " 12:00:00.250000")) (sym law.1) in
+    let form : form_of (Timestamp Microsecond true) (pos 1714564800250000) ≡ Some (codes "2024-05-01 12:00:00.250000Z")
+    = ap (λ (test : Bool). if test then Some (timestamp_text Microsecond true (pos 1714564800250000)) else None) law.0
+    ∙ ap (λ (date : List ℕ). Some (date ++ codes " 12:00:00.250000Z")) (sym law.1) in
     ap (λ (o : Option (List ℕ)). unwrap_or o (signed_decimal (pos 1714564800250000))) form
 
--- a microsecond has no parts, a point is before a digit, a day ends before 24:00:00
-nanosecond : number_read Timestamp (codes "2024-05-01 12:00:00.0000001") ≡ None
+-- a second has no parts, a zone is said, a point is before a digit, a day ends before 24:00:00
+part_of_a_second : number_read (Timestamp Second false) (codes "2024-05-01 12:00:00.25") ≡ None
+unfolding days_from_civil day_count days_of_years days_of_months moment_in clock_in fraction_in
+part_of_a_second = refl
+
+nanosecond : number_read (Timestamp Microsecond false) (codes "2024-05-01 12:00:00.0000001") ≡ None
 unfolding days_from_civil day_count days_of_years days_of_months moment_in clock_in fraction_in
 nanosecond = refl
 
-no_digit : number_read Timestamp (codes "2024-05-01 12:00:00.") ≡ None
+no_zone : number_read (Timestamp Second true) (codes "2024-05-01 12:00:00") ≡ None
+unfolding moment_in
+no_zone = refl
+
+a_zone : number_read (Timestamp Second false) (codes "2024-05-01 12:00:00Z") ≡ None
+unfolding days_from_civil day_count days_of_years days_of_months moment_in clock_in fraction_in
+a_zone = refl
+
+no_digit : number_read (Timestamp Microsecond false) (codes "2024-05-01 12:00:00.") ≡ None
 unfolding days_from_civil day_count days_of_years days_of_months moment_in clock_in fraction_in
 no_digit = refl
 
-hour_24 : number_read Timestamp (codes "2024-05-01 24:00:00") ≡ None
+hour_24 : number_read (Timestamp Microsecond false) (codes "2024-05-01 24:00:00") ≡ None
 unfolding days_from_civil day_count days_of_years days_of_months moment_in clock_in fraction_in
 hour_24 = refl
 
-letter_between : number_read Timestamp (codes "2024-05-01T12:00:00") ≡ None
+letter_between : number_read (Timestamp Microsecond false) (codes "2024-05-01T12:00:00") ≡ None
 unfolding moment_in
 letter_between = refl
+
+-- nanoseconds in 64 bits end in the year 2262
+far_nanos : number_read (Timestamp Nanosecond false) (codes "2300-01-01 00:00:00") ≡ None
+unfolding days_from_civil day_count days_of_years days_of_months moment_in clock_in fraction_in
+far_nanos = refl
+
+-- ---- times of a day
+
+time_is : number_read (Time Millisecond) (codes "23:59:59.5") ≡ Some (pos 86399500)
+unfolding time_in clock_in fraction_in
+time_is = refl
+
+time_of_24 : number_read (Time Second) (codes "24:00:00") ≡ None
+unfolding time_in clock_in fraction_in
+time_of_24 = refl
+
+time_shown : literal_text (Time Nanosecond) (pos 43200250000000) ≡ codes "TIME '12:00:00.250000000'"
+time_shown = refl
+
+-- no time of a day is its number
+past_the_day : shown (Time Second) (pos 86400) ≡ codes "86400"
+unfolding digits
+past_the_day = refl
+
+duration_shown : literal_text (Duration Second) (negsuc 89) ≡ codes "-90"
+unfolding digits
+duration_shown = refl

@@ -2,5 +2,6 @@ pub mod Dates
 pub mod DateText
 pub mod LiteralWords
 pub mod Moments
+pub mod MomentText
 pub mod WholeNumbers
 pub mod NumberTexts

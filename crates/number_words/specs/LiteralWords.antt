@@ -1,4 +1,5 @@
--- TIMESTAMP, in any case, is a word of the grammar where a string follows, and a name elsewhere.
+-- TIMESTAMP and TIME, in any case, are words of the grammar where a string follows, and names
+-- elsewhere.
 use Rattle.std.specs.Prelude.{Bool, true, false, List, [], ◌∷◌, ℕ, codes, if◌then◌else◌, Result, Ok}
 use Rattle.std.specs.Str.{str_eq_ignore_ascii_case}
 use Rattle.scan_base.specs.declared.fault.Fault.{Fault}
@@ -18,11 +19,16 @@ begins_with_string (token ∷ more) = is_a_string token.kind
     is_a_string kind.String = true
     is_a_string other = false
 
+-- what a name is before a string
+abbrev pub kind_of_name : List ℕ → TokenKind
+kind_of_name text =
+    if str_eq_ignore_ascii_case text (codes "TIMESTAMP") then kind.Keyword word.Timestamp
+    else (if str_eq_ignore_ascii_case text (codes "TIME") then kind.Keyword word.Time
+    else kind.Name)
+
 -- what a token is, where a string follows or not
 abbrev pub kind_before : TokenKind → List ℕ → Bool → TokenKind
-kind_before kind.Name text true =
-    if str_eq_ignore_ascii_case text (codes "TIMESTAMP") then kind.Keyword word.Timestamp
-    else kind.Name
+kind_before kind.Name text true = kind_of_name text
 kind_before other text string = other
 
 -- tokens, with the words of literals

@@ -1,15 +1,18 @@
--- Moments as texts: yyyy-mm-dd hh:mm:ss, and digits after a point. The clock has no leap seconds.
-use Rattle.std.specs.Prelude.{ℕ, ◌+◌, ◌-◌, ◌*◌, ◌/◌, ◌%◌, ◌==◌, ◌&&◌, Bool, true, nat_le, nat_lt}
-use Rattle.std.specs.Prelude.{if◌then◌else◌, List, [], ◌∷◌, ◌++◌, length, take, drop, slice_index}
+-- What texts say of moments: yyyy-mm-dd hh:mm:ss, digits after a point, and Z for UTC. The clock
+-- has no leap seconds.
+use Rattle.std.specs.Prelude.{ℕ, ◌+◌, ◌-◌, ◌*◌, ◌==◌, ◌&&◌, Bool, true, false, nat_le, nat_lt}
+use Rattle.std.specs.Prelude.{if◌then◌else◌, List, [], ◌∷◌, length, take, drop, slice_index}
 use Rattle.std.specs.Prelude.{slice_range, ℤ, pos, ◌+ℤ◌, ◌*ℤ◌, unsigned_abs, Option, Some, None}
 use Rattle.std.specs.Char.{is_ascii_digit}
 use Rattle.std.specs.Int.{int_div_euclid, int_rem_euclid}
 use Rattle.std.specs.List.{list_all}
 use Rattle.std.specs.Str.{byte}
+use Rattle.arrow_types.specs.declared.data_type.TimeUnit.{TimeUnit}
+use Rattle.arrow_types.specs.declared.data_type.TimeUnit.TheVariants.{Second, Millisecond}
+use Rattle.arrow_types.specs.declared.data_type.TimeUnit.TheVariants.{Microsecond, Nanosecond}
 use Rattle.number_words.specs.Dates.{day_in, two_digits, two_stand}
-use Rattle.number_words.specs.DateText.{date_of, has_date, in_two_digits}
 
--- ---- what is read
+-- ---- nanoseconds
 
 -- a text of eight bytes: two digits, :, two digits, : and two digits
 abbrev pub is_clock_form : List ℕ → Bool
@@ -57,51 +60,85 @@ moment_of _ _ _ = None
 abbrev pub has_time : List ℕ → Bool
 has_time text = nat_le 19 (length text) && (slice_index text 10 == byte " ")
 
--- the same to the moment that a text says: a date, a space, a clock and a fraction
+-- the nanoseconds from 1970-01-01 00:00:00 to the moment that a text says: a date, a space, a clock
+-- and a fraction
 unfoldable pub moment_in : List ℕ → Option ℤ
 moment_in text = if has_time text
     then moment_of (day_in (take 10 text)) (clock_in (slice_range text 11 19))
     (fraction_in (drop 19 text)) else None
 
--- ---- what is printed
+-- whether a text ends with Z
+abbrev pub ends_with_zone : List ℕ → Bool
+ends_with_zone text = nat_le 1 (length text) && (slice_index text (length text - 1) == byte "Z")
 
--- a number below 1000 in three digits
-abbrev pub in_three_digits : ℕ → List ℕ
-in_three_digits number = (byte "0" + number / 100) ∷ in_two_digits (number % 100)
+-- the moment of a text with a zone, Z for UTC, or of one without
+abbrev pub stamp_in : Bool → List ℕ → Option ℤ
+stamp_in false text = moment_in text
+stamp_in true text =
+    if ends_with_zone text then moment_in (take (length text - 1) text) else None
 
--- the seconds of a day as hh:mm:ss
-abbrev pub clock_text : ℕ → List ℕ
-clock_text seconds = in_two_digits (seconds / 3600) ++ (byte ":"
-    ∷ (in_two_digits (seconds / 60 % 60) ++ (byte ":" ∷ in_two_digits (seconds % 60))))
+-- the nanoseconds since a day began that a text says: a clock and a fraction
+unfoldable pub time_in : List ℕ → Option ℤ
+time_in text = if nat_le 8 (length text)
+    then moment_of (Some (pos 0)) (clock_in (take 8 text)) (fraction_in (drop 8 text)) else None
 
--- the microseconds of a second as a point and six digits
-abbrev pub fraction_text : ℕ → List ℕ
-fraction_text micros =
-    byte "." ∷ (in_three_digits (micros / 1000) ++ in_three_digits (micros % 1000))
+-- ---- units
 
--- ---- timestamps, in microseconds
+-- how many nanoseconds a unit has
+abbrev pub nanos_in : TimeUnit → ℕ
+nanos_in Second = 1000000000
+nanos_in Millisecond = 1000000
+nanos_in Microsecond = 1000
+nanos_in Nanosecond = 1
 
--- the day of a timestamp, and the time since that day began
-abbrev pub day_at : ℤ → ℤ
-day_at micros = int_div_euclid micros (pos 86400000000)
+-- how many of a size a number is, if it is a whole number of them
+abbrev pub whole_in : ℤ → ℤ → Option ℤ
+whole_in size number = if unsigned_abs (int_rem_euclid number size) == 0
+    then Some (int_div_euclid number size) else None
 
-abbrev pub time_at : ℤ → ℕ
-time_at micros = unsigned_abs (int_rem_euclid micros (pos 86400000000))
+-- a moment in a unit, if it is a whole number of it
+abbrev pub in_unit : TimeUnit → Option ℤ → Option ℤ
+in_unit unit None = None
+in_unit unit (Some nanos) = whole_in (pos (nanos_in unit)) nanos
 
--- the time of a day as hh:mm:ss.ffffff
-abbrev pub time_text : ℕ → List ℕ
-time_text micros = clock_text (micros / 1000000) ++ fraction_text (micros % 1000000)
+-- the timestamp that a text says
+abbrev pub timestamp_in : TimeUnit → Bool → List ℕ → Option ℤ
+timestamp_in unit zoned text = in_unit unit (stamp_in zoned text)
 
--- a timestamp as a date, a space and a time
-abbrev pub timestamp_text : ℤ → List ℕ
-timestamp_text micros = date_of (day_at micros) ++ (byte " " ∷ time_text (time_at micros))
+-- the time of a day that a text says
+abbrev pub time_said : TimeUnit → List ℕ → Option ℤ
+time_said unit text = in_unit unit (time_in text)
 
--- the same, where its day is of the years 1 to 9999
-abbrev pub timestamp_within : ℤ → Option (List ℕ)
-timestamp_within micros = if has_date (day_at micros) then Some (timestamp_text micros) else None
+-- ---- literals, in zeptoseconds, of which a nanosecond has 10^12
 
--- a moment in microseconds, if it is a whole number of them
-abbrev pub in_micros : Option ℤ → Option ℤ
-in_micros None = None
-in_micros (Some nanos) = if unsigned_abs (int_rem_euclid nanos (pos 1000)) == 0
-    then Some (int_div_euclid nanos (pos 1000)) else None
+-- no byte, or one and up to 12 digits
+abbrev pub is_more_form : List ℕ → Bool
+is_more_form [] = true
+is_more_form (first ∷ digits) = nat_le (length digits) 12 && list_all is_ascii_digit digits
+
+-- the zeptoseconds that the digits after the ninth of a fraction say, in a text from the ninth on
+unfoldable pub more_in : List ℕ → Option ℕ
+more_in text = if is_more_form text then Some (1000000000 * three_digits text 1
+    + (1000000 * three_digits text 4 + (1000 * three_digits text 7 + three_digits text 10)))
+    else None
+
+-- the zeptoseconds of nanoseconds and more
+abbrev pub zeptos_of : Option ℤ → Option ℕ → Option ℤ
+zeptos_of (Some nanos) (Some more) = Some (nanos *ℤ pos 1000000000000 +ℤ pos more)
+zeptos_of _ _ = None
+
+-- the zeptoseconds from 1970-01-01 00:00:00 to the moment that a text says: the first 29 bytes have
+-- up to nine digits of its fraction
+abbrev pub moment_zeptos : List ℕ → Option ℤ
+moment_zeptos text = if nat_le (length text) 29 then zeptos_of (moment_in text) (Some 0)
+    else zeptos_of (moment_in (take 29 text)) (more_in (drop 28 text))
+
+-- the zeptoseconds from then to the moment that the text of a literal says, which may end with Z
+abbrev pub zeptos_said : List ℕ → Option ℤ
+zeptos_said text = if ends_with_zone text then moment_zeptos (take (length text - 1) text)
+    else moment_zeptos text
+
+-- the zeptoseconds since a day began that a text says: the first 18 bytes have up to nine digits
+abbrev pub time_zeptos : List ℕ → Option ℤ
+time_zeptos text = if nat_le (length text) 18 then zeptos_of (time_in text) (Some 0)
+    else zeptos_of (time_in (take 18 text)) (more_in (drop 17 text))

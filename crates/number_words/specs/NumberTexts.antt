@@ -1,5 +1,6 @@
 -- How numbers of a type are written and read.
-use Rattle.std.specs.Prelude.{◌≡◌, ℕ, ◌^◌, ◌&&◌, Bool, nat_lt, List, [], ◌∷◌, ◌++◌, codes, IsTrue}
+use Rattle.std.specs.Prelude.{◌≡◌, ℕ, ◌^◌, ◌&&◌, Bool, true, false, nat_lt, List, [], ◌∷◌, ◌++◌}
+use Rattle.std.specs.Prelude.{codes, IsTrue}
 use Rattle.std.specs.Prelude.{ℤ, unsigned_abs, Option, Some, None, option_map, unwrap_or}
 use Rattle.std.specs.Fmt.{signed_decimal}
 use Rattle.arrow_types.specs.declared.data_type.IntegerType.TheVariants.{Int8, Int16, Int32, Int64}
@@ -7,11 +8,14 @@ use Rattle.arrow_types.specs.declared.data_type.IntegerType.TheVariants.{UInt8, 
 use Rattle.arrow_types.specs.declared.data_type.IntegerType.TheVariants.{UInt64}
 use Rattle.arrow_types.specs.declared.data_type.NumberType.{NumberType}
 use Rattle.arrow_types.specs.declared.data_type.NumberType.TheVariants.{Integer, Decimal, Date}
-use Rattle.arrow_types.specs.declared.data_type.NumberType.TheVariants.{Timestamp}
+use Rattle.arrow_types.specs.declared.data_type.NumberType.TheVariants.{Timestamp, Time, Duration}
+use Rattle.arrow_types.specs.declared.data_type.TimeUnit.TheVariants.{Second, Millisecond}
+use Rattle.arrow_types.specs.declared.data_type.TimeUnit.TheVariants.{Microsecond, Nanosecond}
 use Rattle.arrow_types.specs.DataType.{cell_of}
 use Rattle.number_words.specs.Dates.{day_in}
 use Rattle.number_words.specs.DateText.{date_within, has_date}
-use Rattle.number_words.specs.Moments.{day_at, in_micros, moment_in, timestamp_within}
+use Rattle.number_words.specs.Moments.{time_said, timestamp_in}
+use Rattle.number_words.specs.MomentText.{day_at, is_time, time_within, timestamp_within}
 use Rattle.number_words.specs.WholeNumbers.{holds, kept_in, decimal_in}
 
 -- ---- words
@@ -28,30 +32,50 @@ word (Integer UInt32) = codes "uint32"
 word (Integer UInt64) = codes "uint64"
 word Decimal = codes "decimal"
 word Date = codes "date"
-word Timestamp = codes "timestamp"
+word (Timestamp Second false) = codes "timestamp_s"
+word (Timestamp Millisecond false) = codes "timestamp_ms"
+word (Timestamp Microsecond false) = codes "timestamp"
+word (Timestamp Nanosecond false) = codes "timestamp_ns"
+word (Timestamp Second true) = codes "timestamptz_s"
+word (Timestamp Millisecond true) = codes "timestamptz_ms"
+word (Timestamp Microsecond true) = codes "timestamptz"
+word (Timestamp Nanosecond true) = codes "timestamptz_ns"
+word (Time Second) = codes "time_s"
+word (Time Millisecond) = codes "time_ms"
+word (Time Microsecond) = codes "time"
+word (Time Nanosecond) = codes "time_ns"
+word (Duration Second) = codes "duration_s"
+word (Duration Millisecond) = codes "duration_ms"
+word (Duration Microsecond) = codes "duration"
+word (Duration Nanosecond) = codes "duration_ns"
 
 -- how a column of a text is spelled, with the words of all types, for people
 abbrev pub spelling_line : List ℕ
-spelling_line =
-    codes "'a:int8, b:utf8?': int8..int64, uint8..uint64, decimal, date, timestamp, bool or utf8\n"
+spelling_line = codes "'a:int8, b:utf8?': int8..int64, uint8..uint64, decimal, date, "
+    ++ codes "timestamp[tz][_s|_ms|_ns], time[..], duration[..], bool or utf8\n"
 
--- the word before a literal of a type; an integer and a decimal have none
+-- the word before a literal of a type; an integer, a decimal and a duration have none
 abbrev pub keyword : NumberType → Option (List ℕ)
 keyword Date = Some (codes "DATE")
-keyword Timestamp = Some (codes "TIMESTAMP")
+keyword (Timestamp unit zoned) = Some (codes "TIMESTAMP")
+keyword (Time unit) = Some (codes "TIME")
 keyword _ = None
 
 -- the types that a text may be of, in the order in which they are tried
 abbrev pub types_tried : List NumberType
-types_tried = Integer Int64 ∷ Decimal ∷ Date ∷ Timestamp ∷ []
+types_tried = Integer Int64 ∷ Decimal ∷ Date
+    ∷ Timestamp Microsecond false ∷ Timestamp Nanosecond false
+    ∷ Timestamp Microsecond true ∷ Timestamp Nanosecond true
+    ∷ Time Microsecond ∷ Time Nanosecond ∷ []
 
 -- ---- what is printed
 
 -- what a type has for a number in the place of its decimal: a date, and a timestamp, in the years
--- 1 to 9999
+-- 1 to 9999, and a time of a day
 abbrev pub form_of : NumberType → ℤ → Option (List ℕ)
 form_of Date day = date_within day
-form_of Timestamp micros = timestamp_within micros
+form_of (Timestamp unit zoned) number = timestamp_within unit zoned number
+form_of (Time unit) number = time_within unit number
 form_of _ number = None
 
 -- what is printed of a number: its form, or else its decimal
@@ -71,10 +95,11 @@ literal_text kind number =
 
 -- ---- what is read
 
--- the number that a text says: a day, microseconds, or a whole number
+-- the number that a text says: a day, a moment or a time in its unit, or a whole number
 abbrev pub number_said : NumberType → List ℕ → Option ℤ
 number_said Date text = day_in text
-number_said Timestamp text = in_micros (moment_in text)
+number_said (Timestamp unit zoned) text = timestamp_in unit zoned text
+number_said (Time unit) text = time_said unit text
 number_said _ text = decimal_in text
 
 -- the number that a text says, if a cell of the type holds it
@@ -83,11 +108,17 @@ number_read kind text = kept_in (cell_of kind) (number_said kind text)
 
 -- ---- laws
 
--- whether a text may say the number: it lies in the years 1 to 9999, or is below 10^38
+-- whether a text may say the number: it lies in the years 1 to 9999 or in a day, or is below 10^38
 abbrev pub is_sayable : NumberType → ℤ → Bool
 is_sayable Date day = has_date day
-is_sayable Timestamp micros = has_date (day_at micros)
+is_sayable (Timestamp unit zoned) number = has_date (day_at unit number)
+is_sayable (Time unit) number = is_time unit number
 is_sayable _ number = nat_lt (unsigned_abs number) (10 ^ 38)
+
+-- the day of a number: that of a timestamp, and the number of any other type
+abbrev pub day_number : NumberType → ℤ → ℤ
+day_number (Timestamp unit zoned) number = day_at unit number
+day_number _ day = day
 
 -- what is printed of a number that fits its type and that a text may say reads as that number
 abbrev pub ReadsBack : NumberType → ℤ → Type 0

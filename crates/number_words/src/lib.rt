@@ -12,6 +12,7 @@ mod words;
 
 pub use crate::calendar::day_in;
 pub use crate::literal_words::tokens;
+pub use crate::moment::{time_zeptos, zeptos_said};
 pub use crate::number_text::NumberText;
 pub use crate::reading::read;
 pub use crate::words::{TYPES_TRIED, keyword, spelling_line, type_named, word};

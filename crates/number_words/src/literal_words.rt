@@ -5,15 +5,15 @@ ghost use Rattle.scan_base.specs.declared.fault.Fault.TheVariants.{LimitReached}
 ghost use Rattle.scan_base.specs.Limits.{most_query_bytes};
 ghost use Rattle.scan_base.specs.Reading.{GivesUnlessMemory, RefusesFirst, demand};
 ghost use Rattle.sql_text.specs.Calls.{SaysText, lexeme_of};
-ghost use Rattle.number_words.specs.LiteralWords.{begins_with_string, kind_before, with_words};
-ghost use Rattle.number_words.specs.LiteralWords.{worded_tokens_in};
+ghost use Rattle.number_words.specs.LiteralWords.{begins_with_string, kind_before, kind_of_name};
+ghost use Rattle.number_words.specs.LiteralWords.{with_words, worded_tokens_in};
 
 use scan_base::Fault;
 use sql_text::{Keyword, Token, TokenKind};
 use std::alloc::{AllocError, Global};
 
-/// The tokens of a query, in their order, in which a name `TIMESTAMP`, in any case, is a word of
-/// the grammar where a string follows.
+/// The tokens of a query, in their order, in which a name `TIMESTAMP` or `TIME`, in any case, is a
+/// word of the grammar where a string follows.
 ///
 /// # Errors
 ///
@@ -32,7 +32,7 @@ pub fn tokens(alloc: Global, sql: &str) -> Result<Vec<Token<'_>>, Fault>
     Ok(tokens)
 }
 
-// The tokens, in which a name TIMESTAMP is a word where a string follows.
+// The tokens, in which a name TIMESTAMP or TIME is a word where a string follows.
 fn with_words<'t>(alloc: Global, tokens: &[Token<'t>]) -> Result<Vec<Token<'t>>, AllocError>
     ensures { IfOk result (λ found. map lexeme_of found.items
         ≡ with_words (map lexeme_of tokens.now)) }
@@ -65,13 +65,20 @@ fn kind_before(kind: TokenKind, text: &str, string: bool) -> TokenKind
     ensures { result ≡ kind_before kind text.now string }
 {
     match (kind, string) {
-        (TokenKind::Name, true) => {
-            if text.eq_ignore_ascii_case("TIMESTAMP") {
-                TokenKind::Keyword(Keyword::Timestamp)
-            } else {
-                TokenKind::Name
-            }
-        }
+        (TokenKind::Name, true) => kind_of_name(text),
         (other, _) => other,
+    }
+}
+
+// What a name is before a string.
+fn kind_of_name(text: &str) -> TokenKind
+    ensures { result ≡ kind_of_name text.now }
+{
+    if text.eq_ignore_ascii_case("TIMESTAMP") {
+        TokenKind::Keyword(Keyword::Timestamp)
+    } else if text.eq_ignore_ascii_case("TIME") {
+        TokenKind::Keyword(Keyword::Time)
+    } else {
+        TokenKind::Name
     }
 }

@@ -6,7 +6,7 @@ ghost use Rattle.number_words.specs.NumberTexts.{form_of, literal_text, shown, w
 
 use crate::calendar::{FORM_BYTES, date_of};
 use crate::keyword;
-use crate::moment::timestamp_of;
+use crate::moment::{time_of, timestamp_of};
 use arrayvec::ArrayString;
 use arrow_types::NumberType;
 use itoa::Buffer;
@@ -58,8 +58,9 @@ fn form_of(kind: NumberType, number: i128) -> Option<ArrayString<FORM_BYTES>>
 {
     match kind {
         NumberType::Date => date_of(number),
-        NumberType::Timestamp => timestamp_of(number),
-        NumberType::Integer(_) | NumberType::Decimal => None,
+        NumberType::Timestamp(unit, zoned) => timestamp_of(unit, zoned, number),
+        NumberType::Time(unit) => time_of(unit, number),
+        NumberType::Integer(_) | NumberType::Decimal | NumberType::Duration(_) => None,
     }
 }
 
@@ -77,7 +78,7 @@ fn worded(word: &str, kind: NumberType, number: i128) -> ArrayString<56>
 // A form in quotes, after a word.
 fn in_quotes(word: &str, form: &str) -> ArrayString<56>
     requires word { length word.now ≤ 12 }
-    requires form { length form.now ≤ 26 }
+    requires form { length form.now ≤ 30 }
     ensures { result.bytes ≡ word.now ++ (codes " '" ++ (form.now ++ codes "'")) }
 {
     let mut text = ArrayString::new();

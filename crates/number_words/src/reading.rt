@@ -7,7 +7,7 @@ ghost use Rattle.number_words.specs.NumberTexts.{number_read, number_said};
 ghost use Rattle.number_words.specs.WholeNumbers.{holds};
 
 use crate::day_in;
-use crate::moment::micros_in;
+use crate::moment::{time_said, timestamp_in};
 use crate::whole_number::{decimal_in, kept_in};
 use arrow_types::NumberType;
 
@@ -19,14 +19,15 @@ pub fn read(kind: NumberType, text: &str) -> Option<i128>
     kept_in(kind.cell(), number_said(kind, text))
 }
 
-// The number that a text says: a day, microseconds, or a whole number.
+// The number that a text says: a day, a moment or a time in its unit, or a whole number.
 fn number_said(kind: NumberType, text: &str) -> Option<i128>
     ensures { result ≡ number_said kind text.now }
 {
     match kind {
         NumberType::Date => day_said(text),
-        NumberType::Timestamp => micros_in(text),
-        NumberType::Integer(_) | NumberType::Decimal => decimal_in(text),
+        NumberType::Timestamp(unit, zoned) => timestamp_in(unit, zoned, text),
+        NumberType::Time(unit) => time_said(unit, text),
+        NumberType::Integer(_) | NumberType::Decimal | NumberType::Duration(_) => decimal_in(text),
     }
 }
 

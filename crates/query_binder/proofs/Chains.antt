@@ -15,6 +15,8 @@ use Rattle.query_binder.specs.declared.chain.ChainLink.{ChainLink}
 use Rattle.query_binder.specs.Chain.{LinkAt, link_of, connected, first_predicate, links_of}
 use Rattle.scan_base.specs.declared.predicate.Operand.{Operand}
 use Rattle.typed_plan.specs.NumberedPredicates.{predicate_bind}
+use Rattle.typed_plan.specs.Scope.{Scope}
+use Rattle.typed_plan.specs.SettledLiterals.{settled}
 
 -- how many operators a predicate has
 abbrev pub operators : {C : Type 0} → Pred C → ℕ
@@ -52,27 +54,28 @@ chained_nearest p (far ∷ sides) side =
     ap (λ left. connected far.connective left far.predicate) (chained_nearest p sides side)
 
 -- a fault of what comes first is the chain's
-pub first_fault : (f : Term → Result Class Fault) (p : Pred Term) (sides : List LinkAt) (fault : Fault) →
-    predicate_fault f p ≡ Some fault → predicate_fault f (chained p sides) ≡ Some fault
-first_fault f p [] fault e = e
-first_fault f p (side ∷ sides) fault e = connected_fault side.connective (first_fault f p sides fault e)
+pub first_fault : (scope : Scope) (f : Term → Result Class Fault) (p : Pred Term) (sides : List LinkAt) (fault : Fault) →
+    predicate_fault f (settled scope p) ≡ Some fault → predicate_fault f (settled scope (chained p sides)) ≡ Some fault
+first_fault scope f p [] fault e = e
+first_fault scope f p (side ∷ sides) fault e = connected_fault side.connective (first_fault scope f p sides fault e)
   where
-    connected_fault : (connective : Connective) → predicate_fault f (chained p sides) ≡ Some fault →
-        predicate_fault f (connected connective (chained p sides) side.predicate) ≡ Some fault
-    connected_fault And e = ap (λ first. first then predicate_fault f side.predicate) e
-    connected_fault Or e = ap (λ first. first then predicate_fault f side.predicate) e
+    connected_fault : (connective : Connective) → predicate_fault f (settled scope (chained p sides)) ≡ Some fault →
+        predicate_fault f (settled scope (connected connective (chained p sides) side.predicate)) ≡ Some fault
+    connected_fault And e = ap (λ first. first then predicate_fault f (settled scope side.predicate)) e
+    connected_fault Or e = ap (λ first. first then predicate_fault f (settled scope side.predicate)) e
 
 -- without a fault of what comes first, the side's is the first
-pub side_fault : (f : Term → Result Class Fault) (p q : Pred Term) (connective : Connective) →
-    predicate_fault f p ≡ None →
-    predicate_fault f (connected connective p q) ≡ predicate_fault f q
-side_fault f p q And e = ap (λ first. first then predicate_fault f q) e
-side_fault f p q Or e = ap (λ first. first then predicate_fault f q) e
+pub side_fault : (scope : Scope) (f : Term → Result Class Fault) (p q : Pred Term) (connective : Connective) →
+    predicate_fault f (settled scope p) ≡ None →
+    predicate_fault f (settled scope (connected connective p q)) ≡ predicate_fault f (settled scope q)
+side_fault scope f p q And e = ap (λ first. first then predicate_fault f (settled scope q)) e
+side_fault scope f p q Or e = ap (λ first. first then predicate_fault f (settled scope q)) e
 
-pub connected_map : {C : Type 0} (g : Term → Operand C) (p q : Pred Term) (connective : Connective) →
-    predicate_bind g (connected connective p q) ≡ connected connective (predicate_bind g p) (predicate_bind g q)
-connected_map g p q And = refl
-connected_map g p q Or = refl
+pub connected_map : {C : Type 0} (scope : Scope) (g : Term → Operand C) (p q : Pred Term) (connective : Connective) →
+    predicate_bind g (settled scope (connected connective p q))
+    ≡ connected connective (predicate_bind g (settled scope p)) (predicate_bind g (settled scope q))
+connected_map scope g p q And = refl
+connected_map scope g p q Or = refl
 
 pub connected_operators : (p q : Pred Term) (connective : Connective) →
     operators (connected connective p q) ≡ 1 + (operators p + operators q)
@@ -96,10 +99,11 @@ first_operators (membership negated operand items) = omega arith
 first_operators (null_test negated operand) = omega arith
 first_operators (constant truth) = omega arith
 
-pub chain_fault : (f : Term → Result Class Fault) (p whole : Pred Term) (sides : List LinkAt)
+pub chain_fault : (scope : Scope) (f : Term → Result Class Fault) (p whole : Pred Term) (sides : List LinkAt)
     (fault : Fault) →
-    chained p sides ≡ whole → predicate_fault f p ≡ Some fault → predicate_fault f whole ≡ Some fault
-chain_fault f p whole sides fault is e = ap (predicate_fault f) (sym is) ∙ first_fault f p sides fault e
+    chained p sides ≡ whole → predicate_fault f (settled scope p) ≡ Some fault → predicate_fault f (settled scope whole) ≡ Some fault
+chain_fault scope f p whole sides fault is e =
+    ap (λ (q : Pred Term). predicate_fault f (settled scope q)) (sym is) ∙ first_fault scope f p sides fault e
 
 -- a predicate and a side, taken apart
 pub started : (side : ChainLink) (left : Pred Term) (fresh pushed all : List ChainLink) → fresh ≡ [] →
@@ -133,10 +137,10 @@ side_operators done q left right connective outer sides is =
       connected_operators left right outer,
     )
 
-pub bound_more : {C : Type 0} (g : Term → Operand C) (connective : Connective) (done q : Pred Term)
+pub bound_more : {C : Type 0} (scope : Scope) (g : Term → Operand C) (connective : Connective) (done q : Pred Term)
     (whole left right : Pred C) →
-    whole ≡ connected connective left right → left ≡ predicate_bind g done → right ≡ predicate_bind g q →
-    whole ≡ predicate_bind g (connected connective done q)
-bound_more g connective done q whole left right is l r =
-    is ∙ ap (λ p. connected connective p right) l ∙ ap (λ p. connected connective (predicate_bind g done) p) r
-    ∙ sym (connected_map g done q connective)
+    whole ≡ connected connective left right → left ≡ predicate_bind g (settled scope done) → right ≡ predicate_bind g (settled scope q) →
+    whole ≡ predicate_bind g (settled scope (connected connective done q))
+bound_more scope g connective done q whole left right is l r =
+    is ∙ ap (λ p. connected connective p right) l ∙ ap (λ p. connected connective (predicate_bind g (settled scope done)) p) r
+    ∙ sym (connected_map scope g done q connective)

@@ -1,7 +1,6 @@
 -- The tree that FROM names is well typed, and has the types of the columns of its places.
 use Rattle.std.proofs.Common.{◌≡◌, ℕ, Bool, true, false, not, if◌then◌else◌, List, [], ◌∷◌, ◌++◌, length}
 use Rattle.std.proofs.Common.{nat_lt, None, Result, Ok, Err, refl, sym, ap, subst, ◌∙◌}
-use denote.Enum.Bare.{same_true, true_same}
 use Rattle.std.specs.List.{list_all}
 use Rattle.std.proofs.lemmas.Bool.{and_from}
 use Rattle.std.proofs.lemmas.List.{length-map, map-append}
@@ -13,7 +12,6 @@ use Rattle.sql_query.specs.declared.query.Join.{Join}
 use Rattle.sql_query.specs.declared.query.Place.{Place}
 use Rattle.table_versions.specs.Database.{Database}
 use Rattle.typed_plan.specs.declared.class.Class.{Class}
-use Rattle.typed_plan.specs.contracts.class.Class.{the_type}
 use Rattle.typed_plan.specs.Class.{same_class}
 use Rattle.query_binder.specs.NameRules.{crosses, equality_fault, joins_fault}
 use Rattle.typed_plan.specs.Faults.{◌then◌, must, first_in, compare_fault}
@@ -24,6 +22,7 @@ use Rattle.query_binder.specs.PlannedTree.{place_tree, join_key, keys_of, joins_
 use Rattle.typed_plan.specs.Scope.{Scope, numbered}
 use Rattle.typed_plan.specs.TypedPlans.{tree_types, key_class, key_fault, spans, IsTypedTree}
 use Rattle.typed_plan.proofs.ClassFollows.{compare_follows}
+use Rattle.typed_plan.proofs.SameClass.{same_class_is, same_class_self}
 use Rattle.query_binder.proofs.ScopeTypes.{type_in, scope_types, key_follows, place_types}
 use Rattle.typed_plan.proofs.TypedNames.{then_none}
 
@@ -34,8 +33,8 @@ must_none false fault e = cc
 -- two classes that agree do so in either order
 compare_turned : (a b : Result Class Fault) → compare_fault a b ≡ None → compare_fault b a ≡ None
 compare_turned (Ok a) (Ok b) e =
-    let one : a ≡ b = same_true the_type tt a b (must_none (same_class a b) TypeClash e) in
-    ap (λ same. must same TypeClash) (true_same the_type b a (sym one))
+    let one : a ≡ b = same_class_is a b (must_none (same_class a b) TypeClash e) in
+    subst (λ (z : Class). must (same_class z a) TypeClash ≡ None) one (ap (λ same. must same TypeClash) (same_class_self a))
 compare_turned (Ok a) (Err fault) e = cc
 compare_turned (Err fault) b e = cc
 

@@ -23,6 +23,7 @@ use Rattle.table_versions.specs.Table.{Row}
 use Rattle.table_versions.specs.Database.{Database}
 use Rattle.typed_plan.specs.declared.plan.JoinKey.{JoinKey}
 use Rattle.typed_plan.specs.Scope.{Scope, numbered, term_operand}
+use Rattle.typed_plan.specs.SettledLiterals.{settled}
 use Rattle.typed_plan.specs.JoinedRows.{place_columns, place_rows, scope_of, fits_on, extensions, rows_after, rows_between}
 use Rattle.typed_plan.specs.JoinedRows.{meets_where, kept_rows}
 use Rattle.typed_plan.specs.NumberedPredicates.{predicate_bind}
@@ -129,8 +130,8 @@ where_are : (scope : Scope) (filtering : Option (Pred Term)) (tree : Tree) (data
     ≡ filter (meets_where scope filtering) (tree_rows tree database cut)
 where_are scope None tree database cut = sym (filter-all (tree_rows tree database cut))
 where_are scope (Some predicate) tree database cut =
-    filter_agree (is_true (predicate_bind (term_operand scope) predicate)) (meets_where scope (Some predicate))
-    (λ row. ap keeps (truth_of-bind (cell_in row) (term_operand scope) predicate)) (tree_rows tree database cut)
+    filter_agree (is_true (predicate_bind (term_operand scope) (settled scope predicate))) (meets_where scope (Some predicate))
+    (λ row. ap keeps (truth_of-bind (cell_in row) (term_operand scope) (settled scope predicate))) (tree_rows tree database cut)
 
 -- the tree gives the rows of FROM and WHERE
 pub rows_are : (query : Sentence) (database : Database) (a b : ℕ) →

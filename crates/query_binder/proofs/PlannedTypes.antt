@@ -19,6 +19,7 @@ use Rattle.typed_plan.specs.NumberedPredicates.{predicate_bind}
 use Rattle.typed_plan.specs.Plan.{Tree}
 use Rattle.query_binder.specs.PlannedTree.{place_tree, joins_tree, from_tree, numbered_filter, where_kept, output_for, plan_for}
 use Rattle.typed_plan.specs.Scope.{Scope, column_of, term_operand}
+use Rattle.typed_plan.specs.SettledLiterals.{settled}
 use Rattle.typed_plan.specs.TypedPlans.{class_of_number, is_place, output_types, HasOutput, is_grouping, IsTyped}
 use Rattle.typed_plan.proofs.ClassFollows.{bound_follows}
 use Rattle.query_binder.proofs.PlannedJoins.{must_none, HasTypes, joins_typed}
@@ -31,9 +32,9 @@ where_typed : (scope : Scope) (tree : Tree) (filtering : Option (Pred Term)) →
     filter_fault scope filtering ≡ None → HasTypes scope (where_kept (numbered_filter scope filtering) tree)
 where_typed scope tree None has e = has
 where_typed scope tree (Some predicate) has e =
-    let numbers = predicate_bind (term_operand scope) predicate in
+    let numbers = predicate_bind (term_operand scope) (settled scope predicate) in
     let follows = bound_follows (class_of_term scope) (class_of_number (scope_types scope)) (term_operand scope)
-    bound_class value_bound (term_follows scope) predicate e in
+    bound_class value_bound (term_follows scope) (settled scope predicate) e in
     record {
       types = has.types;
       typed = (

@@ -10,6 +10,7 @@ use Rattle.typed_plan.specs.declared.class.Class.TheVariants.{Number}
 use Rattle.typed_plan.specs.Class.{type_class, literal_class, can_sum}
 use Rattle.typed_plan.specs.Faults.{predicate_fault}
 use Rattle.typed_plan.specs.Scope.{Scope, ScopeColumn, column_of}
+use Rattle.typed_plan.specs.SettledLiterals.{settled}
 
 -- the class of the column of a number
 abbrev pub class_at : Option ScopeColumn → Class
@@ -35,7 +36,8 @@ abbrev pub class_of_term : Scope → Term → Result Class Fault
 class_of_term scope (term.Name name) = class_of_name scope name
 class_of_term scope (term.Literal literal) = Ok (literal_class literal)
 
--- the fault of WHERE's predicate, where there is one
+-- the fault of WHERE's predicate, where there is one, with its literals next to columns
 abbrev pub filter_fault : Scope → Option (Pred Term) → Option Fault
 filter_fault scope None = None
-filter_fault scope (Some predicate) = predicate_fault (class_of_term scope) predicate
+filter_fault scope (Some predicate) =
+    predicate_fault (class_of_term scope) (settled scope predicate)

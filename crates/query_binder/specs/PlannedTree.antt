@@ -23,6 +23,7 @@ use Rattle.typed_plan.specs.declared.plan.JoinKey.{JoinKey}
 use Rattle.typed_plan.specs.declared.plan.Output.{Output}
 use Rattle.typed_plan.specs.declared.plan.Output.TheVariants.{Project, Groups}
 use Rattle.typed_plan.specs.Scope.{Scope, numbered, term_operand}
+use Rattle.typed_plan.specs.SettledLiterals.{settled}
 use Rattle.typed_plan.specs.JoinedRows.{place_columns, scope_of}
 use Rattle.typed_plan.specs.NumberedPredicates.{predicate_bind}
 use Rattle.typed_plan.specs.Plan.{Tree, scan, filtered, joined, PlanAt}
@@ -67,7 +68,8 @@ from_tree query database =
 -- WHERE, over numbers of columns
 abbrev pub numbered_filter : Scope → Option (Pred Term) → Option (Pred ℕ)
 numbered_filter scope None = None
-numbered_filter scope (Some predicate) = Some (predicate_bind (term_operand scope) predicate)
+numbered_filter scope (Some predicate) =
+    Some (predicate_bind (term_operand scope) (settled scope predicate))
 
 -- a tree with a filter above it, where there is one
 abbrev pub where_kept : Option (Pred ℕ) → Tree → Tree

@@ -164,7 +164,7 @@ fn bind_equality(scope: &Scope<'_>, seam: usize, equality: &Equality) -> Result<
     let left = scope.column_of(&equality.left)?;
     let right = scope.column_of(&equality.right)?;
     let class = Class::of_type(scope.field(left).data_type);
-    if class != Class::of_type(scope.field(right).data_type) {
+    if !class.is_same(Class::of_type(scope.field(right).data_type)) {
         return Err(Fault::TypeClash);
     }
     key_across(seam, left, right)

@@ -6,6 +6,7 @@ pub mod binding;
 mod chain;
 mod group_by;
 mod joining;
+mod literals;
 mod places;
 mod predicate;
 mod scope;

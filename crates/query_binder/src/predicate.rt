@@ -2,17 +2,25 @@
 
 ghost use Rattle.std.specs.Prelude.{◌≡◌, IfOk, Ok, map};
 ghost use Rattle.scan_base.specs.Predicate.{truth_test, comparing, between, membership, null_test};
+ghost use Rattle.scan_base.specs.Predicate.{conjunction};
 ghost use Rattle.scan_base.specs.View.{pred_of};
 ghost use Rattle.typed_plan.specs.Class.{literal_value};
+ghost use Rattle.scan_base.specs.declared.comparison.Comparison.TheVariants.{LessOrEqual};
+ghost use Rattle.scan_base.specs.declared.comparison.Comparison.TheVariants.{GreaterOrEqual};
 ghost use Rattle.typed_plan.specs.Scope.{term_operand};
+ghost use Rattle.typed_plan.specs.SettledLiterals.{settled_item as settled, settled_range};
 ghost use Rattle.typed_plan.specs.Faults.{operand_class, compare_fault, items_fault, fault_in};
 ghost use Rattle.query_binder.specs.NameClasses.{class_of_name, class_of_term};
 ghost use Rattle.typed_plan.specs.NumberedPredicates.{operand_bind};
 ghost use Rattle.query_binder.specs.Chain.{connected};
-ghost use Rattle.query_binder.specs.Outcome.{Binds, BindsPredicate};
+ghost use Rattle.query_binder.specs.Outcome.{Binds, BindsSettled, BindsPredicate};
 
 use crate::chain::{ChainLink, Connective, first_of};
+use crate::literals::{
+    first_type, is_untyped, operand_by, settled_item, settled_operand, settled_or, turned,
+};
 use crate::scope::Scope;
+use arrow_types::DataType;
 use scan_base::{Comparison, Fault, Items, Operand, Predicate, Truth, Value};
 use sql_query::{ColumnName, Literal, Term};
 use std::alloc::{AllocError, Global};
@@ -49,7 +57,7 @@ fn operand_class(scope: &Scope<'_>, operand: &Operand<Term>) -> Result<Class, Fa
 fn agree(class: Class, other: Result<Class, Fault>) -> Result<(), Fault>
     ensures { fault_in result ≡ compare_fault (Ok class) other }
 {
-    if class == other? {
+    if class.is_same(other?) {
         Ok(())
     } else {
         Err(Fault::TypeClash)
@@ -64,6 +72,7 @@ fn bind_literal(literal: &Literal) -> Result<Value, AllocError>
         Literal::Text(text) => Ok(Value::Text(text.clone()?)),
         Literal::Truth(flag) => Ok(Value::Bool(*flag)),
         Literal::Number(_, number) => Ok(Value::Int(*number)),
+        Literal::Timestamp(zeptos) | Literal::Time(zeptos) => Ok(Value::Int(*zeptos)),
     }
 }
 
@@ -88,19 +97,32 @@ fn number_operand(scope: &Scope<'_>, operand: &Operand<Term>) -> Result<Operand<
     }
 }
 
+// What the items of an IN are compared with: an operand, its class, and the type of the first
+// column among the items.
+#[derive(Clone, Copy)]
+struct LeftSide<'a> {
+    class: Class,
+    beside: Option<DataType>,
+    operand: &'a Operand<Term>,
+}
+
 // The items whose classes agree with an operand's.
 fn number_items(
     alloc: Global,
     scope: &Scope<'_>,
-    class: Class,
+    left: LeftSide<'_>,
     items: &[Operand<Term>],
 ) -> Result<Items<Operand<usize>>, Fault>
-    ensures { Binds (items_fault (class_of_term scope.now) (Ok class) items.now)
-        (λ bound. bound ≡ map (operand_bind (term_operand scope.now)) items.now) result }
+    ensures { Binds (items_fault (class_of_term scope.now) (Ok left.entry.class)
+        (map (settled scope.now left.entry.beside left.entry.operand.now) items.now))
+        (λ bound. bound ≡ map (operand_bind (term_operand scope.now))
+        (map (settled scope.now left.entry.beside left.entry.operand.now) items.now)) result }
 {
     let mut bound = Items::new(alloc);
     for item in items {
-        agree(class, operand_class(scope, item))?;
+        let settled = settled_item(scope, left.beside, left.operand, item);
+        let item = settled_or(&settled, item);
+        agree(left.class, operand_class(scope, item))?;
         bound.push(number_operand(scope, item)?)?;
     }
     Ok(bound)
@@ -115,6 +137,10 @@ fn number_comparison(
 ) -> Result<Predicate<usize>, Fault>
     ensures { BindsPredicate scope.now (comparing comparison left.now right.now) result }
 {
+    let left_settled = settled_operand(scope, turned(comparison), right, left);
+    let right_settled = settled_operand(scope, comparison, left, right);
+    let left = settled_or(&left_settled, left);
+    let right = settled_or(&right_settled, right);
     agree(operand_class(scope, left)?, operand_class(scope, right))?;
     Ok(Predicate::Compare {
         comparison,
@@ -123,25 +149,68 @@ fn number_comparison(
     })
 }
 
-// `operand BETWEEN low AND high`: the operand, then each end's name and class.
-fn number_between(
-    scope: &Scope<'_>,
+// The parts of `operand BETWEEN low AND high`.
+#[derive(Clone, Copy)]
+struct RangeTest<'a> {
     negated: bool,
-    operand: &Operand<Term>,
-    low: &Operand<Term>,
-    high: &Operand<Term>,
-) -> Result<Predicate<usize>, Fault>
-    ensures { BindsPredicate scope.now (between negated operand.now low.now high.now) result }
+    operand: &'a Operand<Term>,
+    low: &'a Operand<Term>,
+    high: &'a Operand<Term>,
+}
+
+// `operand BETWEEN low AND high`, where the operand is a column or has a type.
+fn number_range(scope: &Scope<'_>, test: RangeTest<'_>) -> Result<Predicate<usize>, Fault>
+    ensures { BindsSettled scope.now (settled_range scope.now test.entry.negated
+        test.entry.operand.now test.entry.low.now test.entry.high.now) result }
 {
-    let class = operand_class(scope, operand)?;
+    let low_settled = settled_operand(scope, Comparison::GreaterOrEqual, test.operand, test.low);
+    let high_settled = settled_operand(scope, Comparison::LessOrEqual, test.operand, test.high);
+    let low = settled_or(&low_settled, test.low);
+    let high = settled_or(&high_settled, test.high);
+    let class = operand_class(scope, test.operand)?;
     agree(class, operand_class(scope, low))?;
     agree(class, operand_class(scope, high))?;
     Ok(Predicate::Between {
-        negated,
-        operand: number_operand(scope, operand)?,
+        negated: test.negated,
+        operand: number_operand(scope, test.operand)?,
         low: number_operand(scope, low)?,
         high: number_operand(scope, high)?,
     })
+}
+
+// `operand >= low AND operand <= high`.
+fn number_ends(
+    alloc: Global,
+    scope: &Scope<'_>,
+    test: RangeTest<'_>,
+) -> Result<Predicate<usize>, Fault>
+    ensures { BindsPredicate scope.now (conjunction
+        (comparing GreaterOrEqual test.entry.operand.now test.entry.low.now)
+        (comparing LessOrEqual test.entry.operand.now test.entry.high.now)) result }
+{
+    let low = number_comparison(scope, Comparison::GreaterOrEqual, test.operand, test.low)?;
+    let high = number_comparison(scope, Comparison::LessOrEqual, test.operand, test.high)?;
+    Ok(Connective::And.connect(alloc, low, high)?)
+}
+
+// `operand BETWEEN low AND high`: the operand, then each end's name and class.
+fn number_between(
+    alloc: Global,
+    scope: &Scope<'_>,
+    test: RangeTest<'_>,
+) -> Result<Predicate<usize>, Fault>
+    ensures { BindsPredicate scope.now (between test.entry.negated test.entry.operand.now
+        test.entry.low.now test.entry.high.now) result }
+{
+    if !is_untyped(test.operand) {
+        return number_range(scope, test);
+    }
+    let ends = number_ends(alloc, scope, test)?;
+    if test.negated {
+        Ok(Predicate::Not(Box::new(alloc, ends)?))
+    } else {
+        Ok(ends)
+    }
 }
 
 // `operand IN (items)`: the operand, then each item's name and class.
@@ -154,11 +223,19 @@ fn number_in(
 ) -> Result<Predicate<usize>, Fault>
     ensures { BindsPredicate scope.now (membership negated operand.now items.now) result }
 {
-    let class = operand_class(scope, operand)?;
-    let items = number_items(alloc, scope, class, items)?;
+    let beside = first_type(scope, items);
+    let settled = operand_by(beside, operand);
+    let left = settled_or(&settled, operand);
+    let class = operand_class(scope, left)?;
+    let side = LeftSide {
+        class,
+        beside,
+        operand,
+    };
+    let items = number_items(alloc, scope, side, items)?;
     Ok(Predicate::In {
         negated,
-        operand: number_operand(scope, operand)?,
+        operand: number_operand(scope, left)?,
         items,
     })
 }
@@ -205,7 +282,15 @@ pub(crate) fn number_predicate(
             operand,
             low,
             high,
-        } => number_between(scope, *negated, operand, low, high),
+        } => {
+            let test = RangeTest {
+                negated: *negated,
+                operand,
+                low,
+                high,
+            };
+            number_between(alloc, scope, test)
+        }
         Predicate::In {
             negated,
             operand,

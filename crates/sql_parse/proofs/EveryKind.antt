@@ -22,7 +22,7 @@ kinds =
     kind.Symbol symbol.Equal ∷ kind.Symbol symbol.NotEqual ∷ kind.Symbol symbol.Less ∷
     kind.Symbol symbol.LessOrEqual ∷ kind.Symbol symbol.Greater ∷ kind.Symbol symbol.GreaterOrEqual ∷
     kind.Symbol symbol.Plus ∷ kind.Symbol symbol.Minus ∷ kind.Symbol symbol.Solidus ∷
-    kind.Symbol symbol.Percent ∷ kind.Symbol symbol.Concatenation ∷ kind.Keyword word.Timestamp ∷ []
+    kind.Symbol symbol.Percent ∷ kind.Symbol symbol.Concatenation ∷ kind.Keyword word.Timestamp ∷ kind.Keyword word.Time ∷ []
 
 -- what may follow a factor
 abbrev pub follows_factor : TokenKind → Bool

@@ -47,6 +47,7 @@ word_everywhere p h word.Count = holds_at p kinds 19 (kind.Keyword word.Count) h
 word_everywhere p h word.Sum = holds_at p kinds 20 (kind.Keyword word.Sum) h refl
 word_everywhere p h word.Date = holds_at p kinds 21 (kind.Keyword word.Date) h refl
 word_everywhere p h word.Timestamp = holds_at p kinds 44 (kind.Keyword word.Timestamp) h refl
+word_everywhere p h word.Time = holds_at p kinds 45 (kind.Keyword word.Time) h refl
 
 symbol_everywhere : (p : TokenKind → Bool) → list_all p kinds ≡ true → (s : Symbol) → p (kind.Symbol s) ≡ true
 symbol_everywhere p h symbol.LeftParenthesis = holds_at p kinds 27 (kind.Symbol symbol.LeftParenthesis) h refl

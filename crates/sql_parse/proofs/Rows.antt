@@ -20,11 +20,11 @@ use Rattle.number_words.specs.LiteralWords.{worded_tokens_in as tokens_in}
 use Rattle.sql_text.specs.Values.{number_of, unquoted}
 use Rattle.sql_text.specs.Words.{word_kind}
 use Rattle.jiff_core.specs.Calendar.{days_from_civil, day_count, days_of_years, days_of_months}
-use Rattle.number_words.specs.Moments.{clock_in, fraction_in, moment_in}
+use Rattle.number_words.specs.Moments.{clock_in, fraction_in, moment_in, more_in, time_in}
 use Rattle.grammar.specs.Reading.{begins, token, reads, read}
 use Rattle.grammar.specs.Sentence.{Begins, Offends}
 use Rattle.sql_query.specs.declared.query.ColumnName.{ColumnName}
-use Rattle.arrow_types.specs.declared.data_type.NumberType.TheVariants.{Decimal, Date, Timestamp}
+use Rattle.arrow_types.specs.declared.data_type.NumberType.TheVariants.{Decimal, Date}
 use Rattle.sql_query.specs.declared.query.Literal.{Literal}
 use Rattle.sql_query.specs.declared.query.Literal.TheVariants as literals
 use Rattle.sql_query.specs.declared.query.Term.{Term}
@@ -40,7 +40,7 @@ use Rattle.sql_parse.specs.QuerySteps.{whole_at, ended}
 use Rattle.sql_parse.specs.FactoredGrammar.{compared, nulled, ranged, among, tail, forms, primary, test, factor_by_operand}
 use Rattle.sql_parse.specs.Limits.{counted, is_past, is_long_name, passes}
 use Rattle.sql_parse.specs.Parse.{IsSentence, IsShallow, fault_or, Refuses, Answered, Parsed}
-use Rattle.sql_parse.specs.Productions.{name, column, minus, digits, date, number, string, literal, operand}
+use Rattle.sql_parse.specs.Productions.{name, column, minus, digits, plain_literal, number, string, literal, operand}
 use Rattle.sql_parse.specs.Productions.{compare, negated}
 use Rattle.sql_parse.specs.PredicateProductions.{conj}
 use Rattle.sql_parse.specs.PredicateProductions.{pred, truth_value}
@@ -85,7 +85,7 @@ answer_of end (Ok lexemes) = answered end (map mark_of lexemes) (outcome (map ma
 
 answer : List ℕ → Result Sentence Fault
 unfolding plain_tokens_in tokens_in tokens_from tokens_within front_at mark_front pair single word_kind number_of unquoted same_word
-    same_symbol begins token seen counted is_past is_long_name passes name column minus digits date number string literal operand
+    same_symbol begins token seen counted is_past is_long_name passes name column minus digits plain_literal number string literal operand
     compare negated conj pred truth_value alias selection item list place equal join group filter source ending query
     compared nulled ranged among tail forms primary test factor_by_operand
 answer text = answer_of (length text) (tokens_in text)
@@ -387,9 +387,20 @@ unfolding answer days_from_civil day_count days_of_years days_of_months
 a_date = worked refl
 
 a_timestamp : Means (codes "SELECT a FROM t WHERE a = TIMESTAMP '1994-01-01 00:00:00.5'")
-    (Ok (filtered (comparing Equal a (literally (literals.Number Timestamp (pos 757382400500000))))))
+    (Ok (filtered (comparing Equal a (literally (literals.Timestamp (pos 757382400500000000000000000000))))))
 unfolding answer days_from_civil day_count days_of_years days_of_months clock_in fraction_in moment_in
 a_timestamp = worked refl
+
+-- one zeptosecond, and a zone
+a_part_of_a_nanosecond : Means (codes "SELECT a FROM t WHERE a = TIMESTAMP '1970-01-01 00:00:00.000000000000000000001Z'")
+    (Ok (filtered (comparing Equal a (literally (literals.Timestamp (pos 1))))))
+unfolding answer days_from_civil day_count days_of_years days_of_months clock_in fraction_in moment_in more_in
+a_part_of_a_nanosecond = worked refl
+
+a_time : Means (codes "SELECT a FROM t WHERE a = time '00:00:01.5'")
+    (Ok (filtered (comparing Equal a (literally (literals.Time (pos 1500000000000000000000))))))
+unfolding answer clock_in fraction_in time_in
+a_time = worked refl
 
 a_truth : Means (codes "SELECT a FROM t WHERE a = TRUE") (Ok (filtered (comparing Equal a (literally (literals.Truth true)))))
 unfolding answer

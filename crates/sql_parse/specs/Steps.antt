@@ -1,8 +1,7 @@
 -- Inside: what the parser of names, numbers and operands answers, step by step.
-use Rattle.std.specs.Prelude.{ℕ, Bool, true, false, if◌then◌else◌, List, length, Option}
-use Rattle.std.specs.Prelude.{Some, None, Ok, Err, ℤ}
-use Rattle.arrow_types.specs.declared.data_type.NumberType.{NumberType}
-use Rattle.arrow_types.specs.declared.data_type.NumberType.TheVariants.{Decimal, Date, Timestamp}
+use Rattle.std.specs.Prelude.{ℕ, Bool, true, false, if◌then◌else◌, List, [], ◌∷◌, length}
+use Rattle.std.specs.Prelude.{Option, Some, None, Ok, Err, ℤ}
+use Rattle.arrow_types.specs.declared.data_type.NumberType.TheVariants.{Decimal}
 use Rattle.scan_base.specs.declared.comparison.Comparison.{Comparison}
 use Rattle.scan_base.specs.declared.comparison.Comparison.TheVariants as comparison
 use Rattle.scan_base.specs.declared.predicate.Operand.{Operand}
@@ -18,12 +17,11 @@ use Rattle.sql_query.specs.declared.query.Literal.TheVariants.{Text, Truth, Numb
 use Rattle.sql_query.specs.declared.query.Term.{Term}
 use Rattle.sql_query.specs.declared.query.Term.TheVariants as term
 use Rattle.sql_parse.specs.declared.refusal.Refusal.TheVariants as refusal
-use Rattle.number_words.specs.NumberTexts.{number_read}
 use Rattle.sql_text.specs.Words.{is_name}
 use Rattle.sql_parse.specs.Tokens.{Mark, is_word, is_symbol, is_string, is_digits, value_of}
 use Rattle.sql_parse.specs.Tokens.{number_in}
 use Rattle.sql_parse.specs.Answers.{Answer, seen, ◌>>=◌}
-use Rattle.sql_parse.specs.Productions.{column_name, signed}
+use Rattle.sql_parse.specs.Productions.{column_name, literal_said, literal_words, signed}
 
 unfoldable pub at : (TokenKind → Bool) → List Mark → Bool
 at p ts = begins p ts
@@ -54,15 +52,15 @@ minus_at ts =
         t ← token_at (is_symbol symbol.Plus) ts
         Ok (false, t.1)) else Ok (false, ts))
 
--- the number, where the tokens before and after it are these
-abbrev pub numbered : Option ℤ → List Mark → List Mark → Answer ℤ
-numbered None all rest = Err (refusal.Offends (length all))
-numbered (Some n) all rest = Ok (n, rest)
+-- what is said, where the tokens before and after it are these
+abbrev pub given : {A : Type 0} → Option A → List Mark → List Mark → Answer A
+given None all rest = Err (refusal.Offends (length all))
+given (Some x) all rest = Ok (x, rest)
 
 unfoldable pub digits_at : List Mark → Answer ℤ
 digits_at ts = do
   t ← token_at is_digits ts
-  numbered (number_in t.0) ts t.1
+  given (number_in t.0) ts t.1
 
 unfoldable pub number_at : List Mark → Answer ℤ
 number_at ts = do
@@ -70,18 +68,15 @@ number_at ts = do
   n ← digits_at m.1
   Ok (signed m.0 n.0, n.1)
 
-unfoldable pub number_after_at : Keyword → NumberType → List Mark → Answer Literal
-number_after_at before kind ts = do
+unfoldable pub literal_after_at : Keyword → List Mark → Answer Literal
+literal_after_at before ts = do
   w ← token_at (is_word before) ts
   t ← token_at is_string w.1
-  n ← numbered (number_read kind (value_of t.0)) w.1 t.1
-  Ok (Number kind n.0, n.1)
+  given (literal_said before (value_of t.0)) w.1 t.1
 
-unfoldable pub literal_at : List Mark → Answer Literal
-literal_at ts =
-    if at (is_word word.Date) ts then number_after_at word.Date Date ts
-    else (if at (is_word word.Timestamp) ts then number_after_at word.Timestamp Timestamp ts
-    else (if at is_string ts then (do
+unfoldable pub plain_literal_at : List Mark → Answer Literal
+plain_literal_at ts =
+    if at is_string ts then (do
       t ← token_at is_string ts
       Ok (Text (value_of t.0), t.1)) else (if at (is_word word.True) ts then (do
         t ← token_at (is_word word.True) ts
@@ -89,7 +84,20 @@ literal_at ts =
           t ← token_at (is_word word.False) ts
           Ok (Truth false, t.1)) else (do
             n ← number_at ts
-            Ok (Number Decimal n.0, n.1))))))
+            Ok (Number Decimal n.0, n.1))))
+
+-- the first of these words that comes next
+abbrev pub word_at : List (Keyword × List ℕ) → List Mark → Option Keyword
+word_at [] ts = None
+word_at (row ∷ rows) ts = if at (is_word row.0) ts then Some row.0 else word_at rows ts
+
+-- a literal that begins with this word, or with none
+abbrev pub literal_by : Option Keyword → List Mark → Answer Literal
+literal_by (Some before) ts = literal_after_at before ts
+literal_by None ts = plain_literal_at ts
+
+unfoldable pub literal_at : List Mark → Answer Literal
+literal_at ts = literal_by (word_at literal_words ts) ts
 
 unfoldable pub operand_at : List Mark → Answer (Operand Term)
 operand_at ts =

@@ -3,15 +3,16 @@
 ghost use Rattle.std.specs.Prelude.{◌≡◌, ◌<◌, ◌≤◌, ◌≤ℤ◌, pos, IfOk};
 ghost use Rattle.sql_parse.specs.Answers.{Gives};
 ghost use Rattle.sql_parse.specs.Calls.{unread, remaining};
+ghost use Rattle.sql_parse.specs.Productions.{literal_said, literal_words};
 ghost use Rattle.sql_parse.specs.Steps as steps;
 
 use crate::refusal::Refusal;
 use crate::tokens::{Class, Rest};
 use arrow_types::NumberType;
-use number_words::read;
+use number_words::{read, time_zeptos, zeptos_said};
 use scan_base::{Comparison, Operand, Text};
 use sql_query::{ColumnName, Literal, Term};
-use sql_text::{Keyword, Symbol};
+use sql_text::{Keyword, Symbol, TokenKind};
 use std::alloc::Global;
 
 // name
@@ -90,38 +91,62 @@ fn signed_number<'t>(tokens: Rest<'t>) -> Result<(i128, Rest<'t>), Refusal>
     Ok((if negative { -number } else { number }, rest))
 }
 
-// a word and a string, where the string is a number of the type
-#[tactic(auto, unfolding(crate::specs::Steps::number_after_at))]
-fn number_after<'t>(
+// a word and a string, where the string says a literal
+#[tactic(auto, unfolding(crate::specs::Steps::literal_after_at))]
+fn literal_after<'t>(
     alloc: Global,
     tokens: Rest<'t>,
     word: Keyword,
-    kind: NumberType,
 ) -> Result<(Literal, Rest<'t>), Refusal>
     ensures exact { Gives (λ x. (x.0, unread x.1)) result
-        (steps.number_after_at word kind (unread tokens.entry)) }
+        (steps.literal_after_at word (unread tokens.entry)) }
     ensures shorter { IfOk result (λ x. remaining x.1 < remaining tokens.entry) }
 {
     let (_, behind) = tokens.take(Class::Word(word))?;
     let (token, rest) = behind.take(Class::String)?;
     let text = token.value(alloc)?;
-    match read(kind, text.as_str()) {
-        Some(number) => Ok((Literal::Number(kind, number), rest)),
+    match literal_said(word, text.as_str()) {
+        Some(literal) => Ok((literal, rest)),
         None => Err(Refusal::Offends(behind.tokens.len())),
     }
 }
 
-// DATE string | TIMESTAMP string | string | TRUE | FALSE | number
-#[tactic(auto, unfolding(crate::specs::Steps::literal_at))]
-fn literal<'t>(alloc: Global, tokens: Rest<'t>) -> Result<(Literal, Rest<'t>), Refusal>
-    ensures exact { Gives (λ x. (x.0, unread x.1)) result (steps.literal_at (unread tokens.entry)) }
+// the literal that a string says after this word, if it says one
+fn literal_said(word: Keyword, text: &str) -> Option<Literal>
+    ensures { result ≡ literal_said word text.now }
+{
+    match word {
+        Keyword::Date => Some(Literal::Number(NumberType::Date, read(NumberType::Date, text)?)),
+        Keyword::Timestamp => Some(Literal::Timestamp(zeptos_said(text)?)),
+        Keyword::Time => Some(Literal::Time(time_zeptos(text)?)),
+        _ => None,
+    }
+}
+
+// the word that comes next, where it begins a literal
+#[tactic(auto, unfolding(crate::specs::Steps::at, grammar::specs::Reading::begins, crate::specs::Tokens::same_word))]
+fn literal_word<'t>(tokens: Rest<'t>) -> Option<Keyword>
+    ensures { result ≡ steps.word_at literal_words (unread tokens.entry) }
+{
+    match tokens.tokens {
+        [] => None,
+        [first, ..] => match first.kind {
+            TokenKind::Keyword(word @ (Keyword::Date | Keyword::Timestamp | Keyword::Time)) => {
+                Some(word)
+            }
+            _ => None,
+        },
+    }
+}
+
+// string | TRUE | FALSE | number
+#[tactic(auto, unfolding(crate::specs::Steps::plain_literal_at))]
+fn plain_literal<'t>(alloc: Global, tokens: Rest<'t>) -> Result<(Literal, Rest<'t>), Refusal>
+    ensures exact { Gives (λ x. (x.0, unread x.1)) result
+        (steps.plain_literal_at (unread tokens.entry)) }
     ensures shorter { IfOk result (λ x. remaining x.1 < remaining tokens.entry) }
 {
-    if tokens.at(Class::Word(Keyword::Date)) {
-        number_after(alloc, tokens, Keyword::Date, NumberType::Date)
-    } else if tokens.at(Class::Word(Keyword::Timestamp)) {
-        number_after(alloc, tokens, Keyword::Timestamp, NumberType::Timestamp)
-    } else if tokens.at(Class::String) {
+    if tokens.at(Class::String) {
         let (token, rest) = tokens.take(Class::String)?;
         Ok((Literal::Text(token.value(alloc)?), rest))
     } else if tokens.at(Class::Word(Keyword::True)) {
@@ -133,6 +158,18 @@ fn literal<'t>(alloc: Global, tokens: Rest<'t>) -> Result<(Literal, Rest<'t>), R
     } else {
         let (number, rest) = signed_number(tokens)?;
         Ok((Literal::Number(NumberType::Decimal, number), rest))
+    }
+}
+
+// DATE string | TIMESTAMP string | TIME string | string | TRUE | FALSE | number
+#[tactic(auto, unfolding(crate::specs::Steps::literal_at))]
+fn literal<'t>(alloc: Global, tokens: Rest<'t>) -> Result<(Literal, Rest<'t>), Refusal>
+    ensures exact { Gives (λ x. (x.0, unread x.1)) result (steps.literal_at (unread tokens.entry)) }
+    ensures shorter { IfOk result (λ x. remaining x.1 < remaining tokens.entry) }
+{
+    match literal_word(tokens) {
+        Some(word) => literal_after(alloc, tokens, word),
+        None => plain_literal(alloc, tokens),
     }
 }
 

@@ -33,6 +33,11 @@ pub enum Literal {
     /// A number of a type: of Decimal what a sign and digits say, of another type what the string
     /// after its word says.
     Number(NumberType, i128),
+    /// What the string after `TIMESTAMP` says, in zeptoseconds since 1970-01-01 00:00:00. A second
+    /// has 10^21. Next to a column it gets the column's type.
+    Timestamp(i128),
+    /// What the string after `TIME` says, in zeptoseconds since a day began.
+    Time(i128),
 }
 
 /// A side of a comparison as it is written.

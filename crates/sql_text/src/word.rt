@@ -33,6 +33,8 @@ pub enum Keyword {
     Date,
     /// `TIMESTAMP` before a string. No text is this word by itself.
     Timestamp,
+    /// `TIME`, likewise.
+    Time,
 }
 
 // A word and what it is.

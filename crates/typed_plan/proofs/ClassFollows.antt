@@ -1,6 +1,5 @@
 -- A predicate without a fault has none where other operands stand for what it names, if these have the classes that are kept.
-use Rattle.std.proofs.Common.{◌≡◌, Bool, true, false, List, [], ◌∷◌, map, None, Result, Ok, Err, refl, sym, ap, ◌∙◌}
-use denote.Enum.Bare.{same_true, true_same}
+use Rattle.std.proofs.Common.{◌≡◌, Bool, true, false, List, [], ◌∷◌, map, None, Result, Ok, Err, refl, sym, ap, subst, ◌∙◌}
 use Rattle.arrow_types.specs.declared.data_type.NumberType.{NumberType}
 use Rattle.arrow_types.specs.declared.data_type.NumberType.TheVariants as number
 use Rattle.scan_base.specs.declared.fault.Fault.{Fault}
@@ -10,12 +9,12 @@ use Rattle.scan_base.specs.declared.predicate.Operand.TheVariants as operand
 use Rattle.scan_base.specs.declared.value.Value.{Value}
 use Rattle.scan_base.specs.Predicate.{Pred, conjunction, disjunction, negation, truth_test, comparing, between}
 use Rattle.scan_base.specs.Predicate.{membership, null_test, constant}
-use Rattle.typed_plan.specs.contracts.class.Class.{the_type}
 use Rattle.typed_plan.specs.declared.class.Class.{Class}
 use Rattle.typed_plan.specs.declared.class.Class.TheVariants.{Number}
 use Rattle.typed_plan.specs.Class.{same_class, number_class, bound_class, value_class}
 use Rattle.typed_plan.specs.Faults.{◌then◌, must, fault_in, operand_class, compare_fault, items_fault, predicate_fault}
 use Rattle.typed_plan.specs.NumberedPredicates.{operand_bind, predicate_bind, predicate_map}
+use Rattle.typed_plan.proofs.SameClass.{same_class_is, same_class_self}
 use Rattle.typed_plan.proofs.TypedNames.{then_none}
 
 -- of a class that one says, the other says what is kept of it
@@ -40,8 +39,8 @@ must_hold false fault e = cc
 kept_same : (kept : Class → Class) (x y : Class) → must (same_class x y) TypeClash ≡ None →
     must (same_class (kept x) (kept y)) TypeClash ≡ None
 kept_same kept x y e =
-    let one : x ≡ y = same_true the_type tt x y (must_hold (same_class x y) TypeClash e) in
-    ap (λ same. must same TypeClash) (true_same the_type (kept x) (kept y) (ap kept one))
+    let one : x ≡ y = same_class_is x y (must_hold (same_class x y) TypeClash e) in
+    subst (λ (z : Class). must (same_class (kept x) (kept z)) TypeClash ≡ None) one (ap (λ same. must same TypeClash) (same_class_self (kept x)))
 
 pub compare_follows : (kept : Class → Class) (a b c d : Result Class Fault) → Follows kept a c → Follows kept b d →
     compare_fault a b ≡ None → compare_fault c d ≡ None

@@ -1,28 +1,33 @@
 -- The classes of values: only values of one class are compared. And the values of literals.
 use Rattle.std.specs.Prelude.{Bool, true, false}
-use denote.Enum.Bare.{sameb}
 use Rattle.arrow_types.specs.declared.data_type.DataType.{DataType}
 use Rattle.arrow_types.specs.declared.data_type.DataType.TheVariants as type
 use Rattle.arrow_types.specs.declared.data_type.NumberType.{NumberType}
 use Rattle.arrow_types.specs.declared.data_type.NumberType.TheVariants as number
+use Rattle.arrow_types.specs.DataType.{same_number}
 use Rattle.scan_base.specs.declared.value.Value.{Value}
 use Rattle.scan_base.specs.declared.value.Value.TheVariants as value
 use Rattle.sql_query.specs.declared.query.Literal.{Literal}
 use Rattle.sql_query.specs.declared.query.Literal.TheVariants as literal
-use Rattle.typed_plan.specs.contracts.class.Class.{the_type}
 use Rattle.typed_plan.specs.declared.class.Class.{Class}
-use Rattle.typed_plan.specs.declared.class.Class.TheVariants.{Number, Text, Truth, Date, Timestamp}
+use Rattle.typed_plan.specs.declared.class.Class.TheVariants.{Number, Text, Truth, Own, Moment}
+use Rattle.typed_plan.specs.declared.class.Class.TheVariants.{Clock}
 
 -- whether two classes are one
 abbrev pub same_class : Class → Class → Bool
-same_class a b = sameb the_type a b
+same_class Number Number = true
+same_class Text Text = true
+same_class Truth Truth = true
+same_class (Own one) (Own other) = same_number one other
+same_class Moment Moment = true
+same_class Clock Clock = true
+same_class _ _ = false
 
--- the class of the numbers of a column
+-- the class of the numbers of a column: each type that is no integer and no decimal is one
 abbrev pub number_class : NumberType → Class
 number_class (number.Integer integer) = Number
 number_class number.Decimal = Number
-number_class number.Date = Date
-number_class number.Timestamp = Timestamp
+number_class kind = Own kind
 
 -- the class of a column's values
 abbrev pub type_class : DataType → Class
@@ -36,17 +41,23 @@ abbrev pub literal_class : Literal → Class
 literal_class (literal.Text bytes) = Text
 literal_class (literal.Truth flag) = Truth
 literal_class (literal.Number kind number) = number_class kind
+literal_class (literal.Timestamp zeptos) = Moment
+literal_class (literal.Time zeptos) = Clock
 
--- the value of a literal: of a number the number, whatever its type
+-- the value of a literal: of a number the number, whatever its type, and of a timestamp or a time
+-- that stands next to no column of such the zeptoseconds
 abbrev pub literal_value : Literal → Value
 literal_value (literal.Text bytes) = value.Text bytes
 literal_value (literal.Truth flag) = value.Bool flag
 literal_value (literal.Number kind number) = value.Int number
+literal_value (literal.Timestamp zeptos) = value.Int zeptos
+literal_value (literal.Time zeptos) = value.Int zeptos
 
--- the class of a bound operand: a literal there is a value, so a date is a number
+-- the class of a bound operand: a literal there is a value, so a number of any type is one
 abbrev pub bound_class : Class → Class
-bound_class Date = Number
-bound_class Timestamp = Number
+bound_class (Own kind) = Number
+bound_class Moment = Number
+bound_class Clock = Number
 bound_class class = class
 
 -- the class of a value, which is no null

@@ -15,6 +15,7 @@ use Rattle.sql_query.specs.Sentence.{Sentence, place_name}
 use Rattle.table_versions.specs.Table.{Row, Table}
 use Rattle.table_versions.specs.Database.{Database, table_at}
 use Rattle.typed_plan.specs.Scope.{Scope, columns_in, named_cell, term_value}
+use Rattle.typed_plan.specs.SettledLiterals.{settled}
 
 -- the columns of a table, where it is there
 abbrev pub fields_in : Option Table → List Field
@@ -76,10 +77,11 @@ from_rows query database a b =
     rows_after database (place_columns database query.first) query.joins
     (rows_between a b (place_rows database query.first))
 
--- whether WHERE is true
+-- whether WHERE is true, with its literals next to columns
 abbrev pub meets_where : Scope → Option (Pred Term) → Row → Bool
 meets_where scope None row = true
-meets_where scope (Some predicate) row = keeps (truth_of (term_value scope row) predicate)
+meets_where scope (Some predicate) row =
+    keeps (truth_of (term_value scope row) (settled scope predicate))
 
 -- the joined rows for which WHERE is true, in order
 abbrev pub kept_rows : Sentence → Database → ℕ → ℕ → List Row

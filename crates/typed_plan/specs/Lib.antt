@@ -1,5 +1,6 @@
 pub mod Class
 pub mod Scope
+pub mod SettledLiterals
 pub mod JoinedRows
 pub mod GroupedRows
 pub mod Meaning

@@ -1,14 +1,15 @@
 //! Which values may be compared.
 
 ghost use Rattle.std.specs.Prelude.{◌≡◌};
-ghost use Rattle.typed_plan.specs.Class.{number_class, type_class, literal_class, value_class};
+ghost use Rattle.typed_plan.specs.Class.{number_class, type_class, literal_class, same_class};
+ghost use Rattle.typed_plan.specs.Class.{value_class};
 
 use arrow_types::{DataType, NumberType};
 use scan_base::Value;
 use sql_query::Literal;
 
 /// What a value is a value of. Only values of one class are compared.
-#[derive(Clone, Copy, PartialEq, Eq)]
+#[derive(Clone, Copy)]
 pub enum Class {
     /// Integers of every width, and decimals.
     Number,
@@ -16,10 +17,13 @@ pub enum Class {
     Text,
     /// Truth values.
     Truth,
-    /// Dates.
-    Date,
-    /// Timestamps.
-    Timestamp,
+    /// What is no integer and no decimal, each type for itself: dates, timestamps, times,
+    /// durations.
+    Own(NumberType),
+    /// Timestamps of literals that stand next to no column of timestamps.
+    Moment,
+    /// Times of literals that stand next to no column of times.
+    Clock,
 }
 
 impl Class {
@@ -40,8 +44,25 @@ impl Class {
     {
         match kind {
             NumberType::Integer(_) | NumberType::Decimal => Class::Number,
-            NumberType::Date => Class::Date,
-            NumberType::Timestamp => Class::Timestamp,
+            NumberType::Date
+            | NumberType::Timestamp(_, _)
+            | NumberType::Time(_)
+            | NumberType::Duration(_) => Class::Own(kind),
+        }
+    }
+
+    /// Whether two classes are one.
+    pub fn is_same(self, other: Class) -> bool
+        ensures { result ≡ same_class self other }
+    {
+        match (self, other) {
+            (Class::Number, Class::Number) => true,
+            (Class::Text, Class::Text) => true,
+            (Class::Truth, Class::Truth) => true,
+            (Class::Own(one), Class::Own(other)) => one.is_same(other),
+            (Class::Moment, Class::Moment) => true,
+            (Class::Clock, Class::Clock) => true,
+            (_, _) => false,
         }
     }
 
@@ -53,6 +74,8 @@ impl Class {
             Literal::Text(_) => Class::Text,
             Literal::Truth(_) => Class::Truth,
             Literal::Number(kind, _) => Class::of_number(*kind),
+            Literal::Timestamp(_) => Class::Moment,
+            Literal::Time(_) => Class::Clock,
         }
     }
 

@@ -7,8 +7,8 @@ ghost use Rattle.number_words.specs.DateText.{DayReadsBack, date_text, date_with
 use arrayvec::ArrayString;
 use jiff_core::civil::Date;
 
-/// The most bytes of a number's form: those of a timestamp.
-pub(crate) const FORM_BYTES: usize = 26;
+/// The most bytes of a number's form: those of a timestamp of nanoseconds with a zone.
+pub(crate) const FORM_BYTES: usize = 30;
 
 /// The date of a day as `yyyy-mm-dd`, where 1970-01-01 is 0. `None` outside the years 0001 to 9999.
 /// It takes no memory.
@@ -55,7 +55,7 @@ fn digits_of(year: u16, month: u8, day: u8) -> ArrayString<FORM_BYTES>
 /// Appends a number in two digits.
 pub(crate) fn push_two_digits(text: &mut ArrayString<FORM_BYTES>, number: u8)
     requires small { number < 100 }
-    requires room { array_string_len text.old + 2 ≤ 26 }
+    requires room { array_string_len text.old + 2 ≤ 30 }
     ensures { text.new.bytes ≡ text.old.bytes ++ in_two_digits number }
 {
     text.push(char::from(b'0' + number / 10));

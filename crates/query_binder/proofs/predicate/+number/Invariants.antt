@@ -7,6 +7,7 @@ use Rattle.query_binder.specs.NameClasses.{class_of_term}
 use Rattle.query_binder.specs.Chain.{connected, link_of}
 use Rattle.typed_plan.specs.NumberedPredicates.{predicate_bind}
 use Rattle.typed_plan.specs.Scope.{term_operand}
+use Rattle.typed_plan.specs.SettledLiterals.{settled}
 use Rattle.query_binder.proofs.Chains.{chained, operators}
 use Rattle.query_binder.proofs.predicate.+number.Given as goal
 
@@ -24,8 +25,8 @@ abbrev pub invariant-number_chain-loop-side : goal.invariant-number_chain-loop-s
 invariant-number_chain-loop-side l =
     (done : Pred Term)
     × (chained done (map link_of l.sides.items) ≡ connected l.fn.connective (pred_of l.left) (pred_of l.right))
-    × (predicate_fault (class_of_term l.scope) done ≡ None)
-    × (pred_of l.bound ≡ predicate_bind (term_operand l.scope) done)
+    × (predicate_fault (class_of_term l.scope) (settled l.scope done) ≡ None)
+    × (pred_of l.bound ≡ predicate_bind (term_operand l.scope) (settled l.scope done))
 
 abbrev pub decreases-number_chain-loop-side : goal.decreases-number_chain-loop-side
 decreases-number_chain-loop-side l = vec_len l.sides
