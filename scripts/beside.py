@@ -164,6 +164,7 @@ STEPS = [Script("pages", ["--check"], of_program=False), Script("session"), Scri
          Script("drive", ["--seconds", "10", "--connections", "16", "--large", "--workers", "1,4"]),
          Script("drive", ["--seconds", "5", "--connections", "16", "--keep", "5"]),
          Script("expiries", ["--puts", "2000"]), Script("expiries", ["--puts", "600", "--keep", "1"]),
+         Script("expiries", ["--puts", "600", "--drops"]),
          Script("descriptors", ["--seconds", "10"]),
          Gateway(), PythonClient("test_flightscan", "numpy"),
          PythonClient("many_servers", "numpy, pandas, dask.dataframe, distributed",

@@ -3,10 +3,11 @@
 
     python3 scripts/each_growth.py [--program PATH] [--workers W,..] [--only pipe|serve] [--from N] [--every N]
 
-The session has puts of three tables, of which one has 140,000 rows in three batches, so two workers share its fetches;
-infos in two parts with puts between, one that extends a table and one that replaces it; fetches of the parts, the later one
-first; a join, groups, a filter, a schema, the list of tables, and a put that is refused; and an expiry, a fetch below its floor
-and an expiry of what was never reached. `serve` gets the calls in turn over two connections. Of N allocations the one of number 1, 2, .. N is refused, where N is how many the session takes.
+The session has puts of three tables, of which one has 140,000 rows in three batches, so two workers share its fetches; infos in two
+parts with puts between, one that extends a table and one that replaces it; fetches of the parts, the later one first; a join,
+groups, a filter, a schema, the list of tables, and a put that is refused; an expiry, a fetch below its floor and an expiry of what
+was never reached; and two drops. `serve` gets the calls in turn over two connections. Of N allocations the one of number 1, 2, .. N
+is refused, where N is how many the session takes.
 
 Each answer has to be whole, or F21, which a fetch may have behind a beginning of its rows. A put is in the history exactly
 where its status is 0, and so is the floor of an expiry: what the answers behind them have to be is worked out from the statuses so
@@ -48,7 +49,7 @@ from random_calls.plain_model import Column, Comparison, Database, Literal, Name
 from random_calls.puts import ingest, messages_of  # noqa: E402
 from random_calls.refused import QUERY, TABLES  # noqa: E402
 from reader import Fault, Reader  # noqa: E402
-from served.cases import expiry_of  # noqa: E402
+from served.cases import drop_of, expiry_of  # noqa: E402
 
 SECONDS = 60  # that one run may take
 OUT_OF_MEMORY = (8, "F21 OutOfMemory")
@@ -183,6 +184,22 @@ def expire(version: int) -> Call:
     return Call(f"expiry below version {version}", expiry_of(version), may_be_refused(look))
 
 
+def drop(number: int, name: str) -> Call:
+    """The version without a table is made only where it is answered."""
+
+    def look(answer: wire.Answer, state: State) -> None:
+        if name not in state.versions[-1]:
+            Refusal("F9").look(answer)
+            return
+        state.versions.append({other: table for other, table in state.versions[-1].items() if other != name})
+        state.made += (number,)
+        same("the status of a drop", (0, ""), (answer.code, answer.text))
+        version = (len(state.versions) - 1).to_bytes(8, "big")
+        same("its version", [version], [wire.one_field(message, 1) for message in answer.messages])
+
+    return Call(f"drop of {name}", drop_of(name), may_be_refused(look))
+
+
 def look_at_beginning(answer: wire.Answer, columns: list[Column], rows: list[Row]) -> None:
     """Messages before F21 say a beginning of the rows."""
     reader = Reader()
@@ -281,7 +298,8 @@ def session() -> list[Call]:
         put(random, 6, put_of("t", "REPLACE", A_AND_S, texts), [5]),
         fetch(of["plain"], 1, 0, 2), fetch(of["join"], 3, 0, 3), fetch(of["few"], 4, 100, 139_000),
         put(random, 7, put_of("t", "REPLACE", A, [(7,)]), [1]), info(of["plain"]), schema(of["join"]),
-        expire(5), fetch(of["plain"], 1, 0, 2), fetch(of["plain"], 6, 0, 1), expire(9), tables(),
+        expire(5), fetch(of["plain"], 1, 0, 2), fetch(of["plain"], 6, 0, 1), expire(9), drop(8, "u"), drop(9, "none"),
+        fetch(of["join"], 8, 0, 1), info(of["join"]), tables(),
     ]
 
 

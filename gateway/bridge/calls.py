@@ -11,8 +11,8 @@ import grpc.aio
 
 from bridge.access import BEARER, Access
 from bridge.drivers import own_answer
-from bridge.protobuf import chunk
-from bridge.puts import PutMessages
+from bridge.protobuf import chunk, scalar
+from bridge.puts import PutMessages, dropped_table
 from bridge.records import LONGEST_MESSAGE, SERVICE
 from bridge.refusals import Refused, not_supported, stalled, too_long
 from bridge.seats import Seat, Seats
@@ -152,6 +152,10 @@ async def put(seat: Seat, call: Call) -> None:
     """A put: its messages pass as they come, and it takes effect after the last one."""
     first, messages = await call.next(), PutMessages()
     if first is not None:
+        table = dropped_table(first)
+        if table is not None:
+            await drop(table, seat, call)
+            return
         messages.look_at_command(first)
     connection = await seat.connection()
     try:
@@ -169,3 +173,13 @@ async def put(seat: Seat, call: Call) -> None:
         raise await connection.last_word() from None
     async for said in connection.messages():
         await call.give(said)
+
+
+async def drop(table: str, seat: Seat, call: Call) -> None:
+    """A drop of a table, which is answered as an update of no row."""
+    if await call.next() is not None:
+        raise not_supported("rows of an update are not supported")
+    connection = await seat.connection()
+    await call.begin_answer()
+    await connection.ask("DoAction", chunk(1, b"scan.drop") + chunk(2, table.encode()))
+    await call.give(chunk(1, scalar(1, 0)))

@@ -20,6 +20,7 @@ CLOSED, NOT_CANCELLABLE = 1, 3  # of CloseSessionResult and of CancelFlightInfoR
 WHOLE = struct.pack("<Bd", 3 << 3 | 1, 1.0)  # the progress in a PollInfo
 ACTIONS = {
     "scan.expire": "Drops the versions below one: 8 bytes, big-endian, as is the answer, the oldest that is left.",
+    "scan.drop": "Drops the table of a name: UTF-8. The answer is the version without it: 8 bytes, big-endian.",
     "CreatePreparedStatement": "Prepares a query without parameters. Its handle is its text.",
     "ClosePreparedStatement": "Does nothing, since no statement is held.",
     "CloseSession": "Does nothing, since no session is held.",

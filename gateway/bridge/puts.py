@@ -2,6 +2,7 @@
 
 from __future__ import annotations
 
+import re
 from collections.abc import Iterator
 
 from bridge.cutting import pieces_of, widths_of
@@ -12,6 +13,25 @@ from bridge.refusals import UnreadMessage, not_supported, too_long
 
 DESCRIPTOR, HEADER, BODY = 1, 2, 1000  # the fields of a FlightData
 NO_PARAMETERS = "parameters of prepared statements are not supported"
+DROP = re.compile(r"""\s* DROP \s+ TABLE \s+ (?: "((?:[^"]|"")+)" | ([A-Za-z_]\w*) ) \s* ;? \s*""", re.VERBOSE | re.IGNORECASE | re.ASCII)
+
+
+def dropped_table(first: bytes) -> str | None:
+    """The name of the table that the first message of a DoPut drops, where its command is an update."""
+    try:
+        name, value = command_in(Message(first).message(DESCRIPTOR).content(2))
+        if name != "CommandStatementUpdate":
+            return None
+        asked = Message(value)
+        text, transaction = asked.text(1) or "", asked.content(2)
+    except UnreadMessage:
+        return None
+    if transaction:
+        raise not_supported("transactions are not supported")
+    found = DROP.fullmatch(text)
+    if found is None:
+        raise not_supported("of statements that change something only DROP TABLE is supported")
+    return found[2] or found[1].replace('""', '"')
 
 
 class PutMessages:

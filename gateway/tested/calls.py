@@ -143,6 +143,17 @@ def expired_versions(run: Run) -> None:
         ask(client, fetch_of(2, 0, 3, text), rows_of(A, (1,), (2,), (3,)))
 
 
+@case("a drop, by messages of protoc: the version without the table, F9 where it is absent, and rows of the version before")
+def dropped_tables(run: Run) -> None:
+    text = "SELECT * FROM t"
+    with run.serving() as (_, gateway), Client(gateway.port) as client:
+        ask(client, put_of("t", A, [(1,), (2,)]), PutCount(2))
+        results = [*client.act(flight.Action(type="scan.drop", body=b"t"))]
+        same("the version", [2], [int.from_bytes(result.body, "big") for result in results])
+        ask(client, fetch_of(2, 0, 0, text), Refusal("F17"))
+        ask(client, fetch_of(1, 0, 2, text), rows_of(A, (1,), (2,)))
+
+
 # ---- faults
 
 

@@ -245,7 +245,7 @@ def lists(run: Run) -> None:
         missing = flight.FlightDescriptor(type=flight.FlightDescriptor.PATH, path=["none"])
         same("a path of no table", (grpc.StatusCode.NOT_FOUND, "F9 TableMissing"), refusal(client.info, missing))
         actions = client.listed("ListActions", flight.Empty(), flight.ActionType)
-        wanted = ["scan.expire", "CreatePreparedStatement", "ClosePreparedStatement", "CloseSession", "CancelFlightInfo"]
+        wanted = ["scan.expire", "scan.drop", "CreatePreparedStatement", "ClosePreparedStatement", "CloseSession", "CancelFlightInfo"]
         same("the actions", wanted, [action.type for action in actions])
         for asked_for in (query(SELECT), descriptor(stock.CommandGetCatalogs()), descriptor(sql.CommandGetTables())):
             call = client.channel.unary_unary(SERVICE + "PollFlightInfo", flight.FlightDescriptor.SerializeToString,

@@ -97,6 +97,12 @@ def expiry_of(version: int) -> bytes:
     return wire.call(b"DoAction", [action])
 
 
+def drop_of(table: str) -> bytes:
+    """The call that drops the table of a name."""
+    action = wire.chunk(1, b"scan.drop") + wire.chunk(2, table.encode())
+    return wire.call(b"DoAction", [action])
+
+
 def expire(connection: Connection, version: int) -> None:
     """The floor is the version."""
     connection.send(expiry_of(version))

@@ -296,6 +296,21 @@ def idle_clients(run: Run) -> None:
             ask(waiting, PUT, Refusal("F10"))
 
 
+@case("a client that reads a part of an answer and stops: with --idle 3 its seat is free after 3 seconds and before 5")
+def stopped_reader(run: Run) -> str:
+    with run.serving("--seats", "1", "--idle", "3") as server:
+        with Connection(server.port) as connection:
+            ask(connection, LARGE_PUT, PutCount(64))
+        with Connection(server.port, room=65_536) as idle, Connection(server.port) as waiting:
+            idle.send(LARGE_FETCH)
+            idle.take(8 * MEGABYTE)
+            began = time.perf_counter()
+            ask(waiting, PUT, Refusal("F10"))
+            free = time.perf_counter() - began
+    same(f"a seat was free after {free:.1f} s", True, 2.5 < free < 5)
+    return f"after {free:.1f} s"
+
+
 KEYS = (Column("k", "Int64", True), Column("v", "Int64", True))
 # 64,000,000,000 joined rows, of which WHERE keeps none: it names the first place and the last one, so it stands above both joins
 NEVER = "SELECT x.k FROM t AS x JOIN t AS y ON x.k = y.k JOIN t AS z ON x.k = z.k WHERE x.v < z.v"

@@ -25,7 +25,7 @@ from random_calls.plain_model import Column, Put, Row, Table
 from random_calls.puts import RANGES, stream_of
 from random_calls.refused import INGEST, TABLES
 from reader import Reader
-from served.cases import FETCH, PUT, A, Run, ask, case, expiry_of, fetch_of, info_of, rows_of, status_of
+from served.cases import FETCH, PUT, A, Run, ask, case, drop_of, expiry_of, fetch_of, info_of, rows_of, status_of
 from trips import STREAM
 
 TRIPS = STREAM.read_bytes()
@@ -58,6 +58,10 @@ def tables(run: Run, server: Server) -> tuple[int, bytes, bytes]:
 
 def expire(run: Run, server: Server, version: int) -> tuple[int, bytes, bytes]:
     return typed(run, "expire", "--port", str(server.port), "--version", str(version))
+
+
+def drop(run: Run, server: Server, table: str) -> tuple[int, bytes, bytes]:
+    return typed(run, "drop", "--port", str(server.port), "--table", table)
 
 
 def printed(*lines: str) -> tuple[int, bytes, bytes]:
@@ -380,6 +384,28 @@ def expired_versions(run: Run) -> None:
         same("the put made version 4", printed("floor 4"), expire(run, server, 4))
 
 
+@case("drop: the version without the table, F9 where it is absent, F12 for a name that is too long; the version before has the table still")
+def dropped_tables(run: Run) -> None:
+    text, named = "SELECT a FROM t", "`flightscan tables` prints the names; their case counts"
+    with run.serving() as server, Connection(server.port) as connection:
+        same("drop of nothing", answered("F9 TableMissing", named), drop(run, server, "t"))
+        for name in ("s", "t"):
+            same(f"put of {name}", printed("2 rows"), put(run, server, name, stream(A, [(1,), (2,)]), "create"))
+        same("a name that is too long", answered("F12 LimitReached"), drop(run, server, "t" * 65))
+        same("drop of t", printed("version 3"), drop(run, server, "t"))
+        same("the tables", printed("s"), tables(run, server))
+        ask(connection, fetch_of(2, 0, 2, text), rows_of(A, (1,), (2,)))
+        ask(connection, fetch_of(3, 0, 0, text), Refusal("F17"))
+        same("drop of t again", answered("F9 TableMissing", named), drop(run, server, "t"))
+        same("put of t", printed("1 rows"), put(run, server, "t", stream(A, [(7,)]), "create"))
+        same("it made version 4", printed("floor 4"), expire(run, server, 4))
+        ask(connection, fetch_of(2, 0, 2, text), Refusal("F19"))
+    with run.serving("--keep", "1") as server, Connection(server.port) as connection:
+        same("put of t", printed("1 rows"), put(run, server, "t", stream(A, [(7,)]), "create"))
+        same("drop of t", printed("version 2"), drop(run, server, "t"))
+        ask(connection, fetch_of(1, 0, 1, text), Refusal("F19"))
+
+
 @case("serve --keep: behind a put a fetch of what is older than the newest two versions is F19, and what is newer is there")
 def kept_versions(run: Run) -> None:
     text = "SELECT a FROM t"
@@ -619,6 +645,7 @@ SAID_NOWHERE = [
     (("query", "SELECT x FROM t"), b"", 1, b"", info_of("SELECT x FROM t")),
     (("query", "SELECT a,, b FROM t"), b"", 1, b"", info_of("SELECT a,, b FROM t")),
     (("expire", "--version", "7"), b"", 1, b"", expiry_of(7)),
+    (("drop", "--table", "u"), b"", 1, b"", drop_of("u")),
     (COPIED, TRIPS, 1, b"", put_call(TRIPS)),
     (COPIED, TRIPS[:-9], 3, b"", None),
     ((*COPIED, "--format", "csv"), b"1\n2\n", 3, b"", None),  # it tells the columns that it found on standard error, before it connects

@@ -11,7 +11,7 @@ from typing import TYPE_CHECKING, Any, Protocol
 
 from . import errors
 from .errors import InterfaceError, fault
-from .messages import DATA_BODY, DATA_HEADER, Endpoint, Info, all_tables, expiry, rows_put, statement
+from .messages import DATA_BODY, DATA_HEADER, Endpoint, Info, all_tables, drop, expiry, rows_put, statement
 from .protobuf import content
 from .records import Pieces, Records
 from .rows import ROWS_OF_A_BATCH
@@ -196,6 +196,10 @@ class Connection:
     def expire(self, version: int) -> int:
         """Expires the versions below a number, and gives the oldest that can still be fetched."""
         return int.from_bytes(content(self.answer("DoAction", iter([[expiry(version)]])), 1), "big")
+
+    def drop(self, table: str) -> int:
+        """Drops a table, and gives the number of the version without it."""
+        return int.from_bytes(content(self.answer("DoAction", iter([[drop(table)]])), 1), "big")
 
     # ---- DB-API 2.0
 

@@ -58,6 +58,11 @@ def expiry(version: int) -> bytes:
     return chunk(1, b"scan.expire") + chunk(2, version.to_bytes(8, "big"))
 
 
+def drop(table: str) -> bytes:
+    """The Action that drops the table of a name."""
+    return chunk(1, b"scan.drop") + chunk(2, utf8(table))
+
+
 @dataclass(frozen=True)
 class Endpoint:
     """One part of an answer: the ticket as it came, and the address of the server that gave it.

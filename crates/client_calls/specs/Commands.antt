@@ -6,6 +6,7 @@ use Rattle.scan_base.specs.declared.fault.Fault.TheVariants.{BadProto}
 use Rattle.scan_base.specs.declared.put_options.PutMode.{PutMode}
 use Rattle.scan_base.specs.declared.put_options.PutMode.TheVariants.{Create, Append, Replace}
 use Rattle.scan_base.specs.Reading.{◌>>=◌, Gives, GivesUnlessMemory, RefusesFirst}
+use Rattle.flight_proto.specs.Drop.{version_said}
 use Rattle.flight_proto.specs.Expiry.{floor_said}
 use Rattle.flight_proto.specs.Any.{AnySaid, any_bytes, type_url_of}
 use Rattle.flight_proto.specs.FlightData.{DataSaid, data_bytes}
@@ -85,6 +86,12 @@ ReadsCount result message = Gives (λ (rows : ℕ). rows) result (count_of messa
 -- reading it gives the floor, or its fault: it takes no memory
 abbrev pub ReadsFloor : Result ℕ Fault → Payload → Type 0
 ReadsFloor result message = Gives (λ (floor : ℕ). floor) result (floor_said message)
+
+-- ---- what answers a drop
+
+-- reading it gives the number of the version, or its fault: it takes no memory
+abbrev pub ReadsVersion : Result ℕ Fault → Payload → Type 0
+ReadsVersion result message = Gives (λ (version : ℕ). version) result (version_said message)
 
 -- ---- what answers an info
 

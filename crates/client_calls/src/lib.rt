@@ -8,6 +8,7 @@
 mod answer;
 mod call;
 mod connection;
+mod drop_call;
 mod expiry_call;
 mod failure;
 mod fetch_piece;
@@ -19,6 +20,7 @@ mod put_writer;
 
 pub use crate::call::Method;
 pub use crate::connection::Connection;
+pub use crate::drop_call::drop_table;
 pub use crate::expiry_call::expire;
 pub use crate::failure::Failure;
 pub use crate::fetch_reader::FetchReader;

@@ -12,6 +12,7 @@
 mod call_outcome;
 mod connecting;
 pub mod describe;
+pub mod drop_table;
 pub mod expire;
 mod fetch_failure;
 mod fetching;

@@ -24,6 +24,10 @@ count_line rows = decimal rows ++ codes " rows\n"
 abbrev pub floor_line : ℕ → List ℕ
 floor_line floor = codes "floor " ++ decimal floor ++ codes "\n"
 
+-- the number of the version without a table that was dropped
+abbrev pub dropped_line : ℕ → List ℕ
+dropped_line version = codes "version " ++ decimal version ++ codes "\n"
+
 -- the port that is listened to
 abbrev pub listening_line : ℕ → List ℕ
 listening_line port = codes "listening 127.0.0.1:" ++ decimal port ++ codes "\n"

@@ -18,6 +18,6 @@ pub use crate::accept_failure::AcceptFailure;
 pub use crate::ending::{end_by_answer, end_by_cause, end_by_fault};
 pub use crate::exit_status::ExitStatus;
 pub use crate::network::{Connect, Listen};
-pub use crate::printing::{PortLine, print_count, print_floor, print_listening};
+pub use crate::printing::{PortLine, print_count, print_dropped, print_floor, print_listening};
 pub use crate::seat_view::SeatView;
 pub use crate::whole_input::{read_messages, read_whole};

@@ -4,7 +4,7 @@ ghost use Rattle.std.specs.Prelude.{◌≡◌, ◌++◌, [], IfOk};
 ghost use Rattle.std.specs.Fmt.{decimal};
 ghost use Rattle.grpc_frame.specs.Ends.{CanFail, CountsFailure, FailsByTransport, Writes};
 ghost use Rattle.grpc_frame.specs.Outgoing.{SendsAll};
-ghost use Rattle.command_ends.specs.Printing.{count_line, floor_line, listening_line};
+ghost use Rattle.command_ends.specs.Printing.{count_line, dropped_line, floor_line, listening_line};
 
 use crate::snapshot::Snapshot;
 use grpc_frame::{Output, Sender};
@@ -114,6 +114,35 @@ fn write_floor<W: Output>(sender: &mut Sender<'_, W>, floor: u64) -> Result<(), 
 {
     sender.send_part(b"floor ")?;
     write_number(sender, floor, b"\n")
+}
+
+/// Prints the number of the version without a table that was dropped, in a line.
+///
+/// # Errors
+///
+/// `Fault::Transport` where a write failed. It is counted, and a beginning of the line is written.
+#[tactic(auto, using(grpc_frame::proofs::Outgoing::ended))]
+pub fn print_dropped<W: Output>(alloc: Global, output: &mut W, version: u64) -> Result<(), Fault>
+    requires { CanFail (W.failures output.old) }
+    ensures bytes { Writes result (W.contents output.old) (W.contents output.new)
+        (dropped_line version) }
+    ensures counted { CountsFailure result (W.failures output.old) (W.failures output.new) }
+    ensures kind { FailsByTransport result }
+{
+    let mut sender = Sender::new(alloc, output);
+    let written = write_dropped(&mut sender, version);
+    sender.end();
+    written
+}
+
+// Writes the line of a dropped table.
+#[tactic(auto, using(grpc_frame::proofs::Outgoing::outgoing))]
+fn write_dropped<W: Output>(sender: &mut Sender<'_, W>, version: u64) -> Result<(), Fault>
+    ensures bytes { SendsAll result sender.old sender.new (dropped_line version) }
+    ensures written { sender.new.waiting ≡ [] }
+{
+    sender.send_part(b"version ")?;
+    write_number(sender, version, b"\n")
 }
 
 // Writes a number in decimal, and what stands after it.

@@ -127,6 +127,9 @@ tables = with_rule (new_app (codes "tables")) port_rule
 abbrev pub describe : App
 describe = with_rule (with_rule (new_app (codes "describe")) port_rule) table_rule
 
+abbrev pub drop_table : App
+drop_table = with_rule (with_rule (new_app (codes "drop")) port_rule) table_rule
+
 abbrev pub expire : App
 expire = with_rule (with_rule (new_app (codes "expire")) port_rule) version_rule
 
@@ -140,4 +143,5 @@ program parsers =
     let putting = with_subcommand served (put parsers.modes parsers.forms).top in
     let listing =
     with_subcommand (with_subcommand putting (query parsers.formats).top) tables.top in
-    with_subcommand (with_subcommand listing describe.top) expire.top
+    let dropping = with_subcommand (with_subcommand listing describe.top) drop_table.top in
+    with_subcommand dropping expire.top

@@ -22,7 +22,7 @@ use Rattle.command_line.specs.declared.request.PutForm.TheVariants.{Arrow as Str
 use Rattle.command_line.specs.declared.request.ServeOptions.{ServeOptions}
 use Rattle.command_line.specs.declared.request.Request.{Request}
 use Rattle.command_line.specs.declared.request.Request.TheVariants.{Pipe, Serve, Put, Query, Tables}
-use Rattle.command_line.specs.declared.request.Request.TheVariants.{Describe, Expire}
+use Rattle.command_line.specs.declared.request.Request.TheVariants.{Describe, Drop, Expire}
 
 -- a number is the one that the options give to this name, and within its range
 abbrev pub IsGiven : List Row → Text → Numbers → ℕ → Type 0
@@ -85,7 +85,7 @@ pub record AreServeOptions (rows : List Row) (serving : ServeOptions) : Type 0 w
 abbrev pub Asks : Text × List Row → Request → Type 0
 Asks (name, rows) (Pipe parts workers) =
     (name ≢ codes "serve") × (name ≢ codes "put") × (name ≢ codes "query") × (name ≢ codes "tables")
-    × (name ≢ codes "describe") × (name ≢ codes "expire")
+    × (name ≢ codes "describe") × (name ≢ codes "drop") × (name ≢ codes "expire")
     × IsGiven rows (codes "parts") parts_taken parts
     × IsGiven rows (codes "workers") workers_taken workers
 Asks (name, rows) (Serve serving) = (name ≡ codes "serve") × AreServeOptions rows serving
@@ -103,6 +103,9 @@ Asks (name, rows) (Tables port) =
     (name ≡ codes "tables") × IsGiven rows (codes "port") port_taken port
 Asks (name, rows) (Describe port table) =
     (name ≡ codes "describe") × IsGiven rows (codes "port") port_taken port
+    × (table.now ≡ text_given rows (codes "table"))
+Asks (name, rows) (Drop port table) =
+    (name ≡ codes "drop") × IsGiven rows (codes "port") port_taken port
     × (table.now ≡ text_given rows (codes "table"))
 Asks (name, rows) (Expire port version) =
     (name ≡ codes "expire") × IsGiven rows (codes "port") port_taken port

@@ -288,6 +288,20 @@ fn describe<'a>(alloc: Global) -> Result<Command<'a>, AllocError>
     )
 }
 
+// `drop`: a drop of a table.
+fn drop_table<'a>(alloc: Global) -> Result<Command<'a>, AllocError>
+    ensures shape { IfOk result (λ command. app_of command ≡ line.drop_table) }
+    ensures local { IfOk result (λ command. (out-Command command).has_globals ≡ false) }
+{
+    let about = "Drops a table, and prints the version without it";
+    let example = "Example: flightscan drop --port 4711 --table trips";
+    with_two(
+        command(alloc, "drop", about, example),
+        port(alloc),
+        table(alloc),
+    )
+}
+
 // `expire`: an expiry of the versions below a number.
 fn expire<'a>(alloc: Global) -> Result<Command<'a>, AllocError>
     ensures shape { IfOk result (λ command. app_of command ≡ line.expire) }
@@ -335,5 +349,6 @@ pub(crate) fn program<'a>(alloc: Global, names: TakenNames<'a>) -> Result<Comman
     let asking = with_below(putting, query(alloc, names.formats))?;
     let listing = with_below(asking, tables(alloc))?;
     let describing = with_below(listing, describe(alloc))?;
-    with_below(describing, expire(alloc))
+    let dropping = with_below(describing, drop_table(alloc))?;
+    with_below(dropping, expire(alloc))
 }

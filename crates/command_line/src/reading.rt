@@ -145,6 +145,10 @@ pub(crate) fn request_of<'a>(name: &str, matches: &ArgMatches<'a>) -> Request<'a
             port: port_of(matches),
             table: text_of(matches, "table"),
         },
+        "drop" => Request::Drop {
+            port: port_of(matches),
+            table: text_of(matches, "table"),
+        },
         "expire" => Request::Expire {
             port: port_of(matches),
             version: number_of(matches, "version", VERSION),

@@ -89,6 +89,11 @@ pub enum Request<'a> {
         port: u16,
         table: &'a str,
     },
+    /// Drops a table, and prints the number of the version without it.
+    Drop {
+        port: u16,
+        table: &'a str,
+    },
     /// Expires the versions below a number, and prints the floor.
     Expire {
         port: u16,

@@ -7,7 +7,7 @@ use Rattle.clap.specs.Simple.{subcommand_of}
 use Rattle.command_line.specs.Line.{Parsers, program}
 use Rattle.command_line.specs.Request.{Asks, IsAskedBy}
 use Rattle.command_line.specs.declared.request.Request.{Request}
-use Rattle.command_line.specs.declared.request.Request.TheVariants.{Pipe, Serve, Put, Query, Tables, Describe, Expire}
+use Rattle.command_line.specs.declared.request.Request.TheVariants.{Pipe, Serve, Put, Query, Tables, Describe, Drop, Expire}
 use Rattle.commands.specs.Words.{HasSeats}
 
 asked_seats : (found : Option (Text × List Row)) (request : Request) → IsSomeAnd found (λ entered. Asks entered request) → HasSeats request
@@ -18,6 +18,7 @@ asked_seats (Some (name, rows)) (Put port table mode form progress) asked = tt
 asked_seats (Some (name, rows)) (Query port format streams sql progress) asked = tt
 asked_seats (Some (name, rows)) (Tables port) asked = tt
 asked_seats (Some (name, rows)) (Describe port table) asked = tt
+asked_seats (Some (name, rows)) (Drop port table) asked = tt
 asked_seats (Some (name, rows)) (Expire port version) asked = tt
 
 pub has_seats : (parsers : Parsers) (words : List Text) (request : Request) → IsAskedBy parsers words request → HasSeats request

@@ -4,22 +4,24 @@ use Rattle.std.proofs.lemmas.Grind.{flat_map-append}
 use Rattle.std.proofs.lemmas.List.Elements.{All-head, All-tail}
 use Rattle.scan_base.specs.declared.fault.Fault.{Fault}
 use Rattle.flight_core.specs.Headline.{Pairwise}
-use Rattle.table_versions.specs.Database.{Put}
-use Rattle.version_log.specs.Log.{Log, added, expired, puts_of}
-use Rattle.version_log.proofs.Logs.{puts_of-append}
+use Rattle.table_versions.specs.Database.{Put, Change, putting, dropping}
+use Rattle.table_versions.specs.Table.{Name}
+use Rattle.version_log.specs.Log.{Log, added, expired, changes_of}
+use Rattle.version_log.proofs.Logs.{changes_of-append}
 use Rattle.version_cell.specs.Merges.{Merges, MergesAll}
 use Rattle.version_cell.proofs.Merging.{all_map}
+use Rattle.flight_proto.specs.Drop.{drop_of}
 use Rattle.flight_proto.specs.Expiry.{expiry_bytes, expiry_of}
 use Rattle.flight_info.specs.Payloads.{Payload}
 use Rattle.flight_info.specs.Replies.{ReplyAt}
-use Rattle.flight_core.specs.Asked.{Asked}
-use Rattle.flight_core.specs.Machine.{PutStep, ReplyTo}
+use Rattle.flight_core.specs.Asked.{Asked, put, info, tables, schema, fetch, expire, remove}
+use Rattle.flight_core.specs.Machine.{PutStep, DropStep, ReplyTo}
 use Rattle.flight_core.specs.PlacedEntries.{Placed, placed, log_in}
 use Rattle.flight_core.specs.Puts.{put_said}
 use Rattle.flight_calls.specs.Calls.{Call, asked_by}
 use Rattle.flight_calls.specs.declared.setting.Options.{Options}
-use Rattle.flight_calls.specs.Exchanges.{Exchange, exchanges_of, IsOwn, WithOwn}
-use Rattle.flight_calls.specs.Laws.{accepted_by, entries_in, entries_of, marked_by}
+use Rattle.flight_calls.specs.Exchanges.{Exchange, exchanges_of, AsksChange, IsOwn, WithOwn}
+use Rattle.flight_calls.specs.Laws.{accepted_by, dropped_by, entries_in, entries_of, marked_by}
 use Rattle.flight_calls.specs.Responds.{Answers}
 use Rattle.flight_core.specs.Seats.{Moves, Seat}
 use Rattle.flight_core.proofs.Placing.{log_in-placed}
@@ -36,8 +38,8 @@ use Rattle.commands.specs.ToldHistory.{told_in_turn, told_by, told_by_each, unma
 nothing_more : {L : Type 0} (old new : Worker L) → new ≡ old → log_in new.seat.made ≡ log_in old.seat.made ++ []
 nothing_more {L} old new same = ap (λ (worker : Worker L). log_in worker.seat.made) same ∙ sym (append-nil (log_in old.seat.made))
 
-nothing_put : {L : Type 0} (old new : Worker L) → new ≡ old → puts_of (log_in new.seat.made) ≡ puts_of (log_in old.seat.made) ++ []
-nothing_put {L} old new same = ap (λ (worker : Worker L). puts_of (log_in worker.seat.made)) same ∙ sym (append-nil (puts_of (log_in old.seat.made)))
+nothing_put : {L : Type 0} (old new : Worker L) → new ≡ old → changes_of (log_in new.seat.made) ≡ changes_of (log_in old.seat.made) ++ []
+nothing_put {L} old new same = ap (λ (worker : Worker L). changes_of (log_in worker.seat.made)) same ∙ sym (append-nil (changes_of (log_in old.seat.made)))
 
 -- connections make what their calls tell of
 turns_make : {L : Type 0} (accepts : Accepting L) (moves : Moves) (options : Options) (all : List (Accept L)) (more : ℕ) (result : Result (Unit {0}) Fault) (old new : Worker L)
@@ -74,17 +76,17 @@ workers_make {L} accepts options history old new part kept =
 -- ---- puts alone, however many versions are kept
 
 -- a mark is no put
-no_put : (told : Option Fault) (read : Result ℕ Fault) → puts_of (marked_by told read) ≡ []
+no_put : (told : Option Fault) (read : Result ℕ Fault) → changes_of (marked_by told read) ≡ []
 no_put None (Ok version) = refl
 no_put None (Err fault) = refl
 no_put (Some fault) read = refl
 
 -- what a server asks of itself is no put
-own_puts : (keep : ℕ) (asked : Result Asked Fault) (reply : ReplyAt) (own : List Exchange) → IsOwn keep asked reply own → puts_of (entries_in own) ≡ []
+own_puts : (keep : ℕ) (asked : Result Asked Fault) (reply : ReplyAt) (own : List Exchange) → IsOwn keep asked reply own → changes_of (entries_in own) ≡ []
 own_puts keep asked reply own (inl none) = rw none refl
 own_puts keep asked reply own (inr one) =
-    ap (λ (all : List Exchange). puts_of (entries_in all)) one.alone
-    ∙ ap puts_of (append-nil (marked_by one.untold.fault (expiry_of (expiry_bytes one.version))))
+    ap (λ (all : List Exchange). changes_of (entries_in all)) one.alone
+    ∙ ap changes_of (append-nil (marked_by one.untold.fault (expiry_of (expiry_bytes one.version))))
     ∙ no_put one.untold.fault (expiry_of (expiry_bytes one.version))
 
 entries_append : (one more : List Exchange) → entries_in (one ++ more) ≡ entries_in one ++ entries_in more
@@ -92,7 +94,7 @@ entries_append one more = flat_map-append (λ (it : Exchange). entries_of it.ask
 
 -- so its calls alone tell of the puts
 puts_told : (options : Options) (calls : List Call) (replies : List ReplyAt) (all : List Exchange) → WithOwn options calls replies all
-    → puts_of (entries_in all) ≡ puts_of (entries_in (exchanges_of options calls replies))
+    → changes_of (entries_in all) ≡ changes_of (entries_in (exchanges_of options calls replies))
 puts_told options [] [] all are = rw are refl
 puts_told options [] (reply ∷ replies) all are = absurd are
 puts_told options (call ∷ calls) [] all are = absurd are
@@ -101,16 +103,16 @@ puts_told options (call ∷ calls) (reply ∷ replies) all are =
     let own : Log = entries_in are.0 in
     let rest : Log = entries_in are.1 in
     let more : Log = entries_in (exchanges_of options calls replies) in
-    ap (λ (all : List Exchange). puts_of (entries_in all)) are.4
-    ∙ ap (λ (l : Log). puts_of (first ++ l)) (entries_append are.0 are.1)
-    ∙ puts_of-append first (own ++ rest)
-    ∙ ap (λ (l : List Put). puts_of first ++ l) (puts_of-append own rest ∙ ap (λ (l : List Put). l ++ puts_of rest) (own_puts options.keep (asked_by options call) reply are.0 are.2) ∙ puts_told options calls replies are.1 are.3)
-    ∙ sym (puts_of-append first more)
+    ap (λ (all : List Exchange). changes_of (entries_in all)) are.4
+    ∙ ap (λ (l : Log). changes_of (first ++ l)) (entries_append are.0 are.1)
+    ∙ changes_of-append first (own ++ rest)
+    ∙ ap (λ (l : List Change). changes_of first ++ l) (changes_of-append own rest ∙ ap (λ (l : List Change). l ++ changes_of rest) (own_puts options.keep (asked_by options call) reply are.0 are.2) ∙ puts_told options calls replies are.1 are.3)
+    ∙ sym (changes_of-append first more)
 
 -- connections put what their calls tell of
 turns_put : {L : Type 0} (accepts : Accepting L) (moves : Moves) (options : Options) (all : List (Accept L)) (more : ℕ) (result : Result (Unit {0}) Fault) (old new : Worker L)
     (s : ServesInTurn accepts moves options all more result old new)
-    → puts_of (log_in new.seat.made) ≡ puts_of (log_in old.seat.made) ++ puts_of (told_in_turn accepts moves options all more result old new s)
+    → changes_of (log_in new.seat.made) ≡ changes_of (log_in old.seat.made) ++ changes_of (told_in_turn accepts moves options all more result old new s)
 turns_put {L} accepts moves options [] zero result old new s = nothing_put old new s.1
 turns_put {L} accepts moves options [] (suc more) result old new s = absurd s
 turns_put {L} accepts moves options (Failed listener ∷ all) zero result old new s = absurd s
@@ -126,22 +128,22 @@ turns_put {L} accepts moves options (Took listener ends served last ∷ all) (su
     let rest : Log = told_in_turn accepts moves options all more result (worker_of listener s.1.0) new s.1.2 in
     let made = puts_made moves options turn.start last.seat serves.calls serves.replies serves.answers in
     let start : Log = log_in turn.start.made in
-    let before : List Put = puts_of (log_in old.seat.made) in
-    let served : puts_of (log_in last.seat.made) ≡ puts_of start ++ puts_of here
-    = ap puts_of made.2 ∙ puts_of-append start (entries_in made.0)
-    ∙ ap (λ (l : List Put). puts_of start ++ l) (puts_told options serves.calls serves.replies made.0 made.1) in
-    let first : puts_of (log_in s.1.0.made) ≡ before ++ puts_of here
-    = ap (λ (l : List Placed). puts_of (log_in l)) turn.learnt.0.1
-    ∙ (served ∙ ap (λ (l : List Placed). puts_of (log_in l) ++ puts_of here) turn.asked.0.1) in
+    let before : List Change = changes_of (log_in old.seat.made) in
+    let served : changes_of (log_in last.seat.made) ≡ changes_of start ++ changes_of here
+    = ap changes_of made.2 ∙ changes_of-append start (entries_in made.0)
+    ∙ ap (λ (l : List Change). changes_of start ++ l) (puts_told options serves.calls serves.replies made.0 made.1) in
+    let first : changes_of (log_in s.1.0.made) ≡ before ++ changes_of here
+    = ap (λ (l : List Placed). changes_of (log_in l)) turn.learnt.0.1
+    ∙ (served ∙ ap (λ (l : List Placed). changes_of (log_in l) ++ changes_of here) turn.asked.0.1) in
     turns_put accepts moves options all more result (worker_of listener s.1.0) new s.1.2
-    ∙ ap (λ (l : List Put). l ++ puts_of rest) first ∙ append_assoc before (puts_of here) (puts_of rest)
-    ∙ ap (λ (l : List Put). before ++ l) (sym (puts_of-append here rest))
+    ∙ ap (λ (l : List Change). l ++ changes_of rest) first ∙ append_assoc before (changes_of here) (changes_of rest)
+    ∙ ap (λ (l : List Change). before ++ l) (sym (changes_of-append here rest))
 
 -- a log that several made, without its marks
 one_unmarked : (one other log : Log) → Merges one other log → Merges (unmarked one) (unmarked other) (unmarked log)
 one_unmarked one other [] (none, no_other) = (ap unmarked none, ap unmarked no_other)
-one_unmarked one other (added put ∷ log) (inl (rest, is, behind)) = inl (unmarked rest, ap unmarked is, one_unmarked rest other log behind)
-one_unmarked one other (added put ∷ log) (inr (rest, is, behind)) = inr (unmarked rest, ap unmarked is, one_unmarked one rest log behind)
+one_unmarked one other (added change ∷ log) (inl (rest, is, behind)) = inl (unmarked rest, ap unmarked is, one_unmarked rest other log behind)
+one_unmarked one other (added change ∷ log) (inr (rest, is, behind)) = inr (unmarked rest, ap unmarked is, one_unmarked one rest log behind)
 one_unmarked one other (expired version ∷ log) (inl (rest, is, behind)) =
     subst (λ (l : Log). Merges l (unmarked other) (unmarked log)) (sym (ap unmarked is)) (one_unmarked rest other log behind)
 one_unmarked one other (expired version ∷ log) (inr (rest, is, behind)) =
@@ -192,13 +194,13 @@ all_put {L} accepts options history (old ∷ workers) [] parts fresh = absurd pa
 all_put {L} accepts options history (old ∷ workers) (new ∷ ends) parts fresh =
     let start : IsFresh old = All-head (λ (worker : Worker L). IsFresh worker) old workers fresh in
     let told : Log = told_by accepts options history old new parts.0 in
-    let here : puts_of (log_in new.worker.seat.made) ≡ puts_of told
+    let here : changes_of (log_in new.worker.seat.made) ≡ changes_of told
     = turns_put accepts onward options parts.0.serves.all new.drawn new.result (worker_of old.listener parts.0.serves.first) new.worker parts.0.serves.turns
-    ∙ ap (λ (l : List Placed). puts_of (log_in l) ++ puts_of told) parts.0.serves.asked.0.1
-    ∙ ap (λ (seat : Seat). puts_of (log_in seat.made) ++ puts_of told) start in
+    ∙ ap (λ (l : List Placed). changes_of (log_in l) ++ changes_of told) parts.0.serves.asked.0.1
+    ∙ ap (λ (seat : Seat). changes_of (log_in seat.made) ++ changes_of told) start in
     let rest : map unmarked (map log_in (made_by_each ends)) ≡ map unmarked (told_by_each accepts options history workers ends parts.1)
     = all_put accepts options history workers ends parts.1 (All-tail (λ (worker : Worker L). IsFresh worker) old workers fresh) in
-    ap (λ (l : List Put). map added l ∷ map unmarked (map log_in (made_by_each ends))) here ∙ ap (λ (l : List Log). unmarked told ∷ l) rest
+    ap (λ (l : List Change). map added l ∷ map unmarked (map log_in (made_by_each ends))) here ∙ ap (λ (l : List Log). unmarked told ∷ l) rest
 
 pub puts_are_told : {L : Type 0} (accepts : Accepting L) → PutsAreTold accepts
 puts_are_told {L} accepts options most workers result served fresh =
@@ -215,26 +217,43 @@ own_mark keep keeps (Some fault) read = inl refl
 -- entries that are told of and made, before others
 before_marked : (keep : ℕ) (first told made : Log) → IsMarked keep told made → IsMarked keep (first ++ told) (first ++ made)
 before_marked keep [] told made are = are
-before_marked keep (added put ∷ first) told made are = ([], first ++ made, inl refl, before_marked keep first told made are, refl)
+before_marked keep (added change ∷ first) told made are = ([], first ++ made, inl refl, before_marked keep first told made are, refl)
 before_marked keep (expired version ∷ first) told made are = (first ++ made, before_marked keep first told made are, refl)
 
 marked_append : (keep : ℕ) (told made more rest : Log) → IsMarked keep told made → IsMarked keep more rest → IsMarked keep (told ++ more) (made ++ rest)
 marked_append keep [] made more rest are others = subst (λ (l : Log). IsMarked keep more (l ++ rest)) (sym are) others
-marked_append keep (added put ∷ told) made more rest are others = (
+marked_append keep (added change ∷ told) made more rest are others = (
   are.0,
   are.1 ++ rest,
   are.2,
   marked_append keep told are.1 more rest are.3 others,
-  ap (λ (l : Log). l ++ rest) are.4 ∙ ap (λ (l : Log). added put ∷ l) (append_assoc are.0 are.1 rest),
+  ap (λ (l : Log). l ++ rest) are.4 ∙ ap (λ (l : Log). added change ∷ l) (append_assoc are.0 are.1 rest),
 )
 marked_append keep (expired version ∷ told) made more rest are others =
     (are.0 ++ rest, marked_append keep told are.0 more rest are.1 others, ap (λ (l : Log). l ++ rest) are.2)
 
 -- a reply that accepts a put tells of it
 accepted_put : (payloads answers : List Payload) (log after : Log) (fault : Option Fault) → fault ≡ None → PutStep log payloads answers fault after
-    → (said : Put) × (accepted_by fault (put_said payloads) ≡ added said ∷ [])
-accepted_put payloads answers log after None same step = (step.0, ap (accepted_by None) step.1)
+    → (said : Change) × (accepted_by fault (put_said payloads) ≡ added said ∷ [])
+accepted_put payloads answers log after None same step = (putting step.0, ap (accepted_by None) step.1)
 accepted_put payloads answers log after (Some fault) same step = absurd cc
+
+-- and one that accepts a drop
+accepted_drop : (action : Payload) (answers : List Payload) (log after : Log) (fault : Option Fault) → fault ≡ None → DropStep log action answers fault after
+    → (said : Change) × (dropped_by fault (drop_of action) ≡ added said ∷ [])
+accepted_drop action answers log after None same step = (dropping step.0, ap (dropped_by None) step.1)
+accepted_drop action answers log after (Some fault) same step = absurd cc
+
+accepted_change : (asked : Result Asked Fault) (log after : Log) (reply : ReplyAt) → AsksChange asked → reply.fault ≡ None → ReplyTo asked log reply after
+    → (said : Change) × (entries_of asked reply ≡ added said ∷ [])
+accepted_change (Ok (put payloads)) log after reply changes accepted step = accepted_put payloads reply.payloads log after reply.fault accepted step
+accepted_change (Ok (info payload parts)) log after reply changes accepted step = absurd changes
+accepted_change (Ok (tables payload parts)) log after reply changes accepted step = absurd changes
+accepted_change (Ok (schema payload)) log after reply changes accepted step = absurd changes
+accepted_change (Ok (fetch ticket workers)) log after reply changes accepted step = absurd changes
+accepted_change (Ok (expire action)) log after reply changes accepted step = absurd changes
+accepted_change (Ok (remove action)) log after reply changes accepted step = accepted_drop action reply.payloads log after reply.fault accepted step
+accepted_change (Err fault) log after reply changes accepted step = absurd changes
 
 -- a call, and what the server asks of itself after it
 call_marked : (keep : ℕ) (asked : Result Asked Fault) (log after : Log) (reply : ReplyAt) (own : List Exchange) (told made : Log)
@@ -244,9 +263,8 @@ call_marked keep asked log after reply own told made step (inl none) are =
     let first : Log = entries_of asked reply in
     subst (λ (all : List Exchange). IsMarked keep (first ++ told) (first ++ (entries_in all ++ made))) (sym none) (before_marked keep first told made are)
 call_marked keep asked log after reply own told made step (inr one) are =
-    let at : PutStep log one.payloads reply.payloads reply.fault after = subst (λ (it : Result Asked Fault). ReplyTo it log reply after) one.puts step in
-    let accepted = accepted_put one.payloads reply.payloads log after reply.fault one.accepted at in
-    let first : entries_of asked reply ≡ added accepted.0 ∷ [] = ap (λ (it : Result Asked Fault). entries_of it reply) one.puts ∙ accepted.1 in
+    let accepted = accepted_change asked log after reply one.changes one.accepted step in
+    let first : entries_of asked reply ≡ added accepted.0 ∷ [] = accepted.1 in
     let mark : Log = marked_by one.untold.fault (expiry_of (expiry_bytes one.version)) in
     let alone : entries_in own ≡ mark = ap entries_in one.alone ∙ append-nil mark in
     let is : IsOwnMark keep (entries_in own)

@@ -9,8 +9,8 @@ use Rattle.flight_info.proofs.Results.{same_some}
 use Rattle.flight_info.specs.Replies.{ReplyAt, whole}
 use Rattle.flight_core.specs.Asked.{Asked, fetch}
 use Rattle.flight_core.specs.Headline.{Joined, Pairwise}
-use Rattle.version_log.specs.Log.{Log, puts_of, puts_in, Begins}
-use Rattle.version_log.proofs.Logs.{begun_puts}
+use Rattle.version_log.specs.Log.{Log, changes_of, changes_in, Begins}
+use Rattle.version_log.proofs.Logs.{begun_changes}
 use Rattle.flight_core.proofs.Running.{begins_on, begins_same}
 use Rattle.flight_calls.specs.declared.setting.Options.{Options}
 use Rattle.flight_core.specs.Seats.{Moves, Seat}
@@ -143,8 +143,8 @@ fetches_in {L} accepts options history (h ∷ hs) (s ∷ ss) f = (fetch_in accep
 fetches_in {L} accepts options history [] (s ∷ ss) f = absurd f
 fetches_in {L} accepts options history (h ∷ hs) [] f = absurd f
 
-no_longer : (log history : Log) → Begins log history → puts_in log ≤ puts_in history
-no_longer log history b = omega (arith, ap length (begun_puts log history b), length-append (puts_of log) (puts_of b.0))
+no_longer : (log history : Log) → Begins log history → changes_in log ≤ changes_in history
+no_longer log history b = omega (arith, ap length (begun_changes log history b), length-append (changes_of log) (changes_of b.0))
 
 pub server_meets_headline : {L : Type 0} (accepts : Accepting L) → Joined → ServerMeetsHeadline accepts
 server_meets_headline {L} accepts law options history log wanted handles streams answer i answers fetched =

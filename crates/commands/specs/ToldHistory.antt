@@ -2,7 +2,7 @@
 use Rattle.std.specs.Prelude.{◌≡◌, ◌≢◌, ◌⊎◌, ℕ, suc, All, List, [], ◌∷◌, ◌++◌, map, Option, Result}
 use Rattle.scan_base.specs.declared.fault.Fault.{Fault}
 use Rattle.flight_core.specs.Headline.{Pairwise}
-use Rattle.version_log.specs.Log.{Log, added, expired, puts_of}
+use Rattle.version_log.specs.Log.{Log, added, expired, changes_of}
 use Rattle.version_cell.specs.Merges.{MergesAll}
 use Rattle.flight_calls.specs.declared.setting.Options.{Options}
 use Rattle.flight_calls.specs.Exchanges.{exchanges_of}
@@ -18,7 +18,7 @@ use Rattle.commands.specs.Serve.{worker_of}
 use Rattle.commands.specs.ServeSideBySide.{ServesSideBySide}
 
 -- The entries that the calls of connections tell of, which were served one after the other: of each
--- call, in order, its put where the reply accepts it, or its mark where the reply tells of an
+-- call, in order, its put or its drop where the reply accepts it, or its mark where it tells of an
 -- expiry.
 abbrev pub told_in_turn : {L : Type 0} (accepts : Accepting L) (moves : Moves) (options : Options)
     (all : List (Accept L)) (more : ℕ) (result : Result (Unit {0}) Fault) (old new : Worker L) →
@@ -54,18 +54,18 @@ told_by_each accepts options history workers ends parts = []
 abbrev pub IsOwnMark : ℕ → Log → Type 0
 IsOwnMark keep marks = (marks ≡ []) ⊎ ((version : ℕ) × (keep ≢ 0) × (marks ≡ expired version ∷ []))
 
--- these entries, and right after each put the mark that the server asks of itself
+-- these entries, and right after each change the mark that the server asks of itself
 abbrev pub IsMarked : ℕ → Log → Log → Type 0
 IsMarked keep [] made = made ≡ []
-IsMarked keep (added put ∷ told) made =
+IsMarked keep (added change ∷ told) made =
     (own : Log) × (rest : Log) × IsOwnMark keep own × IsMarked keep told rest
-    × (made ≡ added put ∷ (own ++ rest))
+    × (made ≡ added change ∷ (own ++ rest))
 IsMarked keep (expired version ∷ told) made =
     (rest : Log) × IsMarked keep told rest × (made ≡ expired version ∷ rest)
 
 -- a log without its marks
 abbrev pub unmarked : Log → Log
-unmarked log = map added (puts_of log)
+unmarked log = map added (changes_of log)
 
 -- Where all versions are kept, the seat of a worker made the entries that the calls of its
 -- connections tell of, in order, and no other.
@@ -88,7 +88,7 @@ HistoryIsTold {L} accepts =
     served.history
 
 -- However many versions are kept, the history is made up so of the entries that the calls tell
--- of, and of no other: each put has right after it the mark that the server asks of itself.
+-- of, and of no other: each change has right after it the mark that the server asks of itself.
 abbrev pub HistoryIsMarked : {L : Type 0} → Accepting L → Type 0
 HistoryIsMarked {L} accepts =
     (options : Options) (most : ℕ) (workers : List (Worker L)) (result : Result (Unit {0}) Fault)
@@ -97,8 +97,8 @@ HistoryIsMarked {L} accepts =
     × Pairwise (IsMarked options.keep)
     (told_by_each accepts options served.history workers served.ends served.served) each
 
--- However many versions are kept, the puts of the history are made up so of the puts that the calls
--- tell of.
+-- However many versions are kept, the changes of the history are made up so of the changes that
+-- the calls tell of.
 abbrev pub PutsAreTold : {L : Type 0} → Accepting L → Type 0
 PutsAreTold {L} accepts =
     (options : Options) (most : ℕ) (workers : List (Worker L)) (result : Result (Unit {0}) Fault)

@@ -16,7 +16,7 @@ use Rattle.scan_base.specs.declared.put_options.PutMode.{PutMode}
 use Rattle.scan_base.specs.declared.put_options.PutMode.TheVariants.{Append}
 use Rattle.number_words.specs.NumberTexts.{spelling_line}
 use Rattle.fault_hints.specs.declared.question.Question.{Question}
-use Rattle.fault_hints.specs.declared.question.Question.TheVariants.{Rows, Put, Names, Expiry}
+use Rattle.fault_hints.specs.declared.question.Question.TheVariants.{Rows, Put, Names, Expiry, Drop}
 use Rattle.fault_hints.specs.LeftOut.{left_out_lines}
 use Rattle.fault_hints.specs.MarkedLines.{marked}
 use Rattle.fault_hints.specs.RefusedTypes.{column_line, refused_type_line}
@@ -115,6 +115,11 @@ abbrev pub expiry_hint : Fault → List ℕ
 expiry_hint VersionUnknown = codes "no put has made this version yet\n"
 expiry_hint fault = call_line fault
 
+-- what more is told of a drop
+abbrev pub drop_hint : Fault → List ℕ
+drop_hint TableMissing = codes "`flightscan tables` prints the names; their case counts\n"
+drop_hint fault = call_line fault
+
 -- a header that was lent
 abbrev pub lent : Option (Bor (List ℕ)) → Option (List ℕ)
 lent header = option_map (λ (bytes : Bor (List ℕ)). bytes.now) header
@@ -126,3 +131,4 @@ hint_of (Put table mode header) fault =
     put_hint table.now mode (lent header) fault
 hint_of Names fault = call_line fault
 hint_of Expiry fault = expiry_hint fault
+hint_of Drop fault = drop_hint fault

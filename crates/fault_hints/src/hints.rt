@@ -1,7 +1,8 @@
 //! What a client says of a fault on the lines after the fault's own.
 
 ghost use Rattle.std.specs.Prelude.{◌≡◌, IfOk};
-ghost use Rattle.fault_hints.specs.Hints.{batch_line, call_line, expiry_hint, hint_of, lent};
+ghost use Rattle.fault_hints.specs.Hints.{batch_line, call_line, drop_hint, expiry_hint, hint_of};
+ghost use Rattle.fault_hints.specs.Hints.{lent};
 ghost use Rattle.fault_hints.specs.Hints.{put_hint, put_limit, put_line, query_hint, query_limit};
 ghost use Rattle.fault_hints.specs.Hints.{query_line, schema_line, spelling_lines, type_line};
 
@@ -175,6 +176,16 @@ fn expiry_hint(fault: Fault) -> &'static [u8]
     }
 }
 
+// Of a drop.
+fn drop_hint(fault: Fault) -> &'static [u8]
+    ensures { result.now ≡ drop_hint fault }
+{
+    match fault {
+        Fault::TableMissing => b"`flightscan tables` prints the names; their case counts\n",
+        _ => call_line(fault),
+    }
+}
+
 /// What a client says of a fault of what was asked, in lines.
 ///
 /// # Errors
@@ -188,5 +199,6 @@ pub fn hint(alloc: Global, question: Question<'_>, fault: Fault) -> Result<Vec<u
         Question::Put(table, mode, header) => put_hint(alloc, table, mode, header, fault),
         Question::Names => Vec::from_slice(alloc, call_line(fault)),
         Question::Expiry => Vec::from_slice(alloc, expiry_hint(fault)),
+        Question::Drop => Vec::from_slice(alloc, drop_hint(fault)),
     }
 }

@@ -14,4 +14,6 @@ pub enum Question<'a> {
     Names,
     /// An expiry.
     Expiry,
+    /// A drop of a table.
+    Drop,
 }

@@ -1,18 +1,21 @@
 -- What messages ask.
-use Rattle.std.proofs.Common.{◌≡◌, ◌⊎◌, ◌<◌, ℕ, List, [], ◌∷◌, length, Some, Result, Ok, Err, refl, sym, subst, inl, inr, append-nil}
+use Rattle.std.proofs.Common.{true, false, ◌≡◌, ◌⊎◌, ◌<◌, ℕ, List, [], ◌∷◌, length, Some, Result, Ok, Err, refl, sym, subst, inl, inr, append-nil}
 use Rattle.std.specs.Prelude.{IsOk}
 use Rattle.std.proofs.lemmas.Bool.{lt-leb}
 use Rattle.scan_base.specs.declared.fault.Fault.{Fault}
 use Rattle.scan_base.specs.declared.fault.Fault.TheVariants.{BadProto, LimitReached}
 use Rattle.scan_base.specs.Limits.{most_request_bytes}
 use Rattle.scan_base.specs.Reading.{◌>>=◌}
+use Rattle.flight_proto.specs.Action.{action_of}
+use Rattle.flight_proto.specs.Drop.{names_drop, drop_of}
 use Rattle.flight_proto.specs.Expiry.{expiry_of}
 use Rattle.flight_proto.specs.InfoCommand.{InfoCommand, wanted_in}
 use Rattle.flight_core.specs.Asked.{put, info, schema}
 use Rattle.flight_core.proofs.Expiring.{number_unread, unread_expiry}
+use Rattle.flight_core.proofs.Reacting.{drop_unsaid}
 use Rattle.flight_info.specs.Replies.{refusal}
 use Rattle.flight_info.specs.Infos.{only_rows, short_enough, rows_wanted, schema_wanted, InfoAt, SchemaAt}
-use Rattle.version_log.specs.Log.{Log, database_of, puts_in}
+use Rattle.version_log.specs.Log.{Log, database_of, changes_in}
 use Rattle.flight_core.specs.Machine.{StepOn}
 use Rattle.flight_info.specs.Payloads.{Payload}
 use Rattle.flight_calls.specs.declared.setting.Options.{Options}
@@ -48,7 +51,7 @@ too_long message long = rw (lt-leb (length message) most_request_bytes long) ref
 info_too_long : (log : Log) (message : Payload) (parts : ℕ) → most_request_bytes < length message → StepOn log (info message parts) (refusal LimitReached) log
 info_too_long log message parts long = (
   refl,
-  subst (λ (w : Result InfoCommand Fault). InfoAt (database_of log) (puts_in log) message parts (w >>= only_rows >>= short_enough) [] (Some LimitReached)) (sym (too_long message long)) (refl, refl),
+  subst (λ (w : Result InfoCommand Fault). InfoAt (database_of log) (changes_in log) message parts (w >>= only_rows >>= short_enough) [] (Some LimitReached)) (sym (too_long message long)) (refl, refl),
 )
 
 schema_too_long : (log : Log) (message : Payload) → most_request_bytes < length message → StepOn log (schema message) (refusal LimitReached) log
@@ -68,7 +71,15 @@ pub command_too_long : (one : Single) (message : Payload) → (one ≡ GetFlight
 command_too_long one message (inl is) long = rw (is, too_long message long) ((λ options log. info_too_long log message options.parts long), (λ options looks. info_unread message long looks), λ options log asks. asks)
 command_too_long one message (inr is) long = rw is ((λ options log. schema_too_long log message long), (λ options looks. schema_unread message long looks), λ options log asks. asks)
 
--- an action that does not read
-pub action_unread : (one : Single) (message : Payload) (fault : Fault) → one ≡ DoAction → expiry_of message ≡ Err fault → IsRefused one message fault
-action_unread one message fault is unread =
-    rw is ((λ options log. (refl, refl, unread_expiry log message fault unread)), (λ options looks. looks), λ options log asks. number_unread message fault unread asks)
+-- an action that does not read, and is no drop
+pub action_unread : (message : Payload) (fault : Fault) → names_drop (action_of message) ≡ false → expiry_of message ≡ Err fault → IsRefused DoAction message fault
+action_unread message fault other unread =
+    rw other ((λ options log. (refl, refl, unread_expiry log message fault unread)), (λ options looks. looks), λ options log asks. number_unread message fault unread asks)
+
+drop_no : (message : Payload) (fault : Fault) → drop_of message ≡ Err fault → IsOk (drop_of message) → ⊥
+drop_no message fault unread asks = let no = rw unread at asks in cc
+
+-- or is one
+pub drop_unread : (message : Payload) (fault : Fault) → names_drop (action_of message) ≡ true → drop_of message ≡ Err fault → IsRefused DoAction message fault
+drop_unread message fault drops unread =
+    rw drops ((λ options log. (refl, refl, drop_unsaid log message fault unread)), (λ options looks. looks), λ options log asks. drop_no message fault unread asks)

@@ -4,11 +4,11 @@ use Rattle.scan_base.specs.declared.fault.Fault.{Fault}
 use Rattle.flight_proto.specs.Expiry.{expiry_bytes}
 use Rattle.flight_info.specs.Payloads.{Payload}
 use Rattle.flight_info.specs.Replies.{ReplyAt}
-use Rattle.flight_core.specs.Asked.{Asked, put, info, tables, schema, fetch, expire}
-use Rattle.version_log.specs.Log.{Log, puts_in}
+use Rattle.flight_core.specs.Asked.{Asked, put, info, tables, schema, fetch, expire, remove}
+use Rattle.version_log.specs.Log.{Log, changes_in}
 use Rattle.flight_calls.specs.declared.setting.Options.{Options}
 use Rattle.flight_calls.specs.Calls.{Call, asked_by}
-use Rattle.flight_calls.specs.Exchanges.{Exchange, exchange, IsOwn, WithOwn}
+use Rattle.flight_calls.specs.Exchanges.{Exchange, exchange, AsksChange, IsOwn, WithOwn}
 use Rattle.flight_calls.specs.Laws.{AllKeptAsksNothing}
 use Rattle.flight_core.specs.Seats.{Seat, Moves}
 use Rattle.flight_core.specs.Reacts.{Reacts}
@@ -33,39 +33,44 @@ record Own (moves : Moves) (keep : ℕ) (asked : Result Asked Fault) (reply : Re
 asks_none : (moves : Moves) (keep : ℕ) (asked : Result Asked Fault) (reply : ReplyAt) (old new : Seat) → new ≡ old → Own moves keep asked reply old new
 asks_none moves keep asked reply old new same = record { own = []; is = inl refl; steps = same }
 
-asks_one : (moves : Moves) (keep below : ℕ) (payloads : List Payload) (reply : ReplyAt) (old new : Seat) → keep ≢ 0 → reply.fault ≡ None → AsksItself moves (suc below) old new
-    → Own moves keep (Ok (put payloads)) reply old new
-asks_one moves keep below payloads reply old new keeps accepted asks = record {
+asks_one : (moves : Moves) (keep below : ℕ) (asked : Result Asked Fault) (changes : AsksChange asked) (reply : ReplyAt) (old new : Seat) → keep ≢ 0 → reply.fault ≡ None → AsksItself moves (suc below) old new
+    → Own moves keep asked reply old new
+asks_one moves keep below asked changes reply old new keeps accepted asks = record {
   own = exchange (Ok (expire (expiry_bytes (suc below)))) asks.0 ∷ [];
-  is = inr (record { keeps = keeps; payloads = payloads; puts = refl; accepted = accepted; version = suc below; untold = asks.0; alone = refl });
+  is = inr (record { keeps = keeps; changes = changes; accepted = accepted; version = suc below; untold = asks.0; alone = refl });
   steps = (new, asks.1, refl);
 }
 
-asks_below : (moves : Moves) (keep oldest : ℕ) (payloads : List Payload) (reply : ReplyAt) (old new : Seat) → keep ≢ 0 → reply.fault ≡ None → AsksItself moves oldest old new
-    → Own moves keep (Ok (put payloads)) reply old new
-asks_below moves keep zero payloads reply old new keeps accepted same = asks_none moves keep (Ok (put payloads)) reply old new same
-asks_below moves keep (suc below) payloads reply old new keeps accepted asks = asks_one moves keep below payloads reply old new keeps accepted asks
+asks_below : (moves : Moves) (keep oldest : ℕ) (asked : Result Asked Fault) (changes : AsksChange asked) (reply : ReplyAt) (old new : Seat) → keep ≢ 0 → reply.fault ≡ None → AsksItself moves oldest old new
+    → Own moves keep asked reply old new
+asks_below moves keep zero asked changes reply old new keeps accepted same = asks_none moves keep asked reply old new same
+asks_below moves keep (suc below) asked changes reply old new keeps accepted asks = asks_one moves keep below asked changes reply old new keeps accepted asks
 
--- after an accepted put
-asks_behind : (moves : Moves) (keep newest : ℕ) (payloads : List Payload) (reply : ReplyAt) (old new : Seat) → reply.fault ≡ None → AsksItself moves (oldest_kept keep newest) old new
-    → Own moves keep (Ok (put payloads)) reply old new
-asks_behind moves zero newest payloads reply old new accepted same = asks_none moves zero (Ok (put payloads)) reply old new same
-asks_behind moves (suc others) newest payloads reply old new accepted asks =
+-- after an accepted change
+asks_behind : (moves : Moves) (keep newest : ℕ) (asked : Result Asked Fault) (changes : AsksChange asked) (reply : ReplyAt) (old new : Seat) → reply.fault ≡ None → AsksItself moves (oldest_kept keep newest) old new
+    → Own moves keep asked reply old new
+asks_behind moves zero newest asked changes reply old new accepted same = asks_none moves zero asked reply old new same
+asks_behind moves (suc others) newest asked changes reply old new accepted asks =
     let some : suc others ≢ 0 = λ (none : suc others ≡ 0). omega (arith, none) in
-    asks_below moves (suc others) (newest + 1 - suc others) payloads reply old new some accepted asks
+    asks_below moves (suc others) (newest + 1 - suc others) asked changes reply old new some accepted asks
 
 -- after a reply
 own_behind : (moves : Moves) (keep : ℕ) (asked : Result Asked Fault) (reply : ReplyAt) (after : Log) (old new : Seat) → AsksItself moves (expired_behind keep asked reply.fault after) old new → Own moves keep asked reply old new
 own_behind moves keep (Ok (put payloads)) reply after old new asks = by reply.fault refl asks
   where
     by : (fault : Option Fault) → reply.fault ≡ fault → AsksItself moves (expired_behind keep (Ok (put payloads)) fault after) old new → Own moves keep (Ok (put payloads)) reply old new
-    by None accepted asks = asks_behind moves keep (puts_in after) payloads reply old new accepted asks
+    by None accepted asks = asks_behind moves keep (changes_in after) (Ok (put payloads)) tt reply old new accepted asks
     by (Some fault) is same = asks_none moves keep (Ok (put payloads)) reply old new same
 own_behind moves keep (Ok (info payload parts)) reply after old new same = asks_none moves keep (Ok (info payload parts)) reply old new same
 own_behind moves keep (Ok (tables payload parts)) reply after old new same = asks_none moves keep (Ok (tables payload parts)) reply old new same
 own_behind moves keep (Ok (schema payload)) reply after old new same = asks_none moves keep (Ok (schema payload)) reply old new same
 own_behind moves keep (Ok (fetch ticket workers)) reply after old new same = asks_none moves keep (Ok (fetch ticket workers)) reply old new same
 own_behind moves keep (Ok (expire action)) reply after old new same = asks_none moves keep (Ok (expire action)) reply old new same
+own_behind moves keep (Ok (remove action)) reply after old new asks = by reply.fault refl asks
+  where
+    by : (fault : Option Fault) → reply.fault ≡ fault → AsksItself moves (expired_behind keep (Ok (remove action)) fault after) old new → Own moves keep (Ok (remove action)) reply old new
+    by None accepted asks = asks_behind moves keep (changes_in after) (Ok (remove action)) tt reply old new accepted asks
+    by (Some fault) is same = asks_none moves keep (Ok (remove action)) reply old new same
 own_behind moves keep (Err fault) reply after old new same = asks_none moves keep (Err fault) reply old new same
 
 -- ---- a connection

@@ -6,7 +6,7 @@ use Rattle.endpoint_split.specs.Handle.{HandleAt}
 use Rattle.ipc_batch.specs.SaidRows.{Rows}
 use Rattle.flight_info.proofs.Results.{same_some}
 use Rattle.flight_info.specs.Replies.{ReplyAt, whole}
-use Rattle.flight_core.specs.Asked.{Asked, put, info, tables, schema, fetch, expire}
+use Rattle.flight_core.specs.Asked.{Asked, put, info, tables, schema, fetch, expire, remove}
 use Rattle.flight_core.specs.Headline.{Saw, FetchedAt, Joined, Pairwise}
 use Rattle.version_log.specs.Log.{Log, Begins}
 use Rattle.flight_core.specs.Machine.{StepOn}
@@ -48,6 +48,8 @@ starts_on (Ok (schema payload)) first seen log b at = begins_on first seen log b
 starts_on (Ok (fetch ticket workers)) first seen log b at = begins_on first seen log b at
 starts_on (Ok (expire action)) first seen log b (inl said) = inl said
 starts_on (Ok (expire action)) first seen log b (inr at) = inr (begins_on first seen log b at)
+starts_on (Ok (remove action)) first seen log b (inl said) = inl said
+starts_on (Ok (remove action)) first seen log b (inr at) = inr (begins_on first seen log b at)
 starts_on (Err fault) first seen log b at = begins_on first seen log b at
 
 pub later_calls_see : (moves : Moves) → LaterCallsSee moves

@@ -1,5 +1,5 @@
 -- Versions that are kept after a reply, and the expiry of the others, which the server asks of itself.
-use Rattle.std.proofs.Common.{◌≡◌, ◌≢◌, ◌<◌, ◌≤◌, ℕ, zero, suc, ◌+◌, ◌-◌, ◌^◌, Vec, List, [], ◌∷◌, length, Option, Some, None, Result, Ok, Err, refl, ap, subst, arith}
+use Rattle.std.proofs.Common.{◌≡◌, ◌≢◌, ◌<◌, ◌≤◌, ℕ, zero, suc, ◌+◌, ◌-◌, ◌^◌, Vec, Bor, List, [], ◌∷◌, length, Option, Some, None, Result, Ok, Err, refl, ap, subst, arith}
 use Rattle.std.specs.Global.{Global}
 use Rattle.std.specs.Prelude.{codes}
 use lib.Utf8.{encode}
@@ -9,23 +9,22 @@ use Rattle.scan_base.specs.declared.fault.Fault.{Fault}
 use Rattle.flight_proto.specs.Action.{ActionSaid, action_of, action_bytes}
 use Rattle.flight_proto.specs.Expiry.{expire_name, expiry_of, expiry_bytes, floor_bytes}
 use Rattle.flight_proto.specs.Laws.{IsAction, IsText}
-use Rattle.flight_proto.specs.InfoCommand.{InfoCommand, wanted_in, rows_of, tables as list}
 use Rattle.flight_proto.proofs.ReadsBack.{action_back}
 use Rattle.flight_info.specs.Payloads.{Payload}
 use Rattle.flight_info.specs.Replies.{ReplyAt, refusal, whole}
-use Rattle.flight_core.specs.Asked.{Asked, put, expire}
+use Rattle.flight_core.specs.Asked.{Asked, put, info, tables, schema, fetch, expire, remove}
 use Rattle.version_log.specs.Log.{Log, Begins}
+use Rattle.flight_core.specs.Operation.{StandsFor}
+use Rattle.flight_core.specs.declared.operation.Operation.{Operation}
+use Rattle.flight_core.specs.declared.operation.Operation.TheVariants as operations
+use Rattle.table_versions.specs.StoredTables.{PutAt}
 use Rattle.flight_core.specs.declared.answer.Answer.{Answer}
-use Rattle.flight_core.specs.declared.answer.Answer.TheVariants.{Whole, Accepted, Floor, Stream}
-use Rattle.flight_calls.specs.declared.request.Single.{Single}
-use Rattle.flight_calls.specs.declared.request.Single.TheVariants.{DoGet, GetFlightInfo, GetSchema, DoAction}
-use Rattle.flight_calls.specs.declared.setting.Options.{Options}
+use Rattle.flight_core.specs.declared.answer.Answer.TheVariants.{Whole, Accepted, Floor, Dropped, Stream}
 use Rattle.flight_core.specs.Machine.{ReplyTo}
-use Rattle.flight_calls.specs.Calls.{asked_with, info_asked}
 use Rattle.flight_core.specs.Seats.{Seat, Moves, Expires}
 use Rattle.flight_core.specs.Reacts.{Reacts}
 use Rattle.flight_calls.specs.Responds.{Responds, RespondsBy, oldest_kept, expired_behind, AsksItself}
-use Rattle.flight_core.specs.StepAnswer.{AnsweredBy, HasVersion, IsReplyOf, fault_in, ReactsBy}
+use Rattle.flight_core.specs.StepAnswer.{AnsweredBy, HasVersion, HasDropped, IsReplyOf, fault_in, ReactsBy}
 use Rattle.flight_core.proofs.Reacting.{reacted, expiry_made, expiry_refused}
 use Rattle.flight_core.proofs.Running.{begins_itself}
 
@@ -37,6 +36,7 @@ kept_so : (keep : ℕ) (asked : Result Asked Fault) (log after : Log) (answer : 
 kept_so keep asked log after (Whole whole) reply answered is = rw is refl
 kept_so keep asked log after (Accepted payloads version) reply answered is = rw is refl
 kept_so keep asked log after (Floor floor) reply answered is = rw is refl
+kept_so keep asked log after (Dropped version) reply answered is = rw is refl
 kept_so keep asked log after (Stream stream) reply answered is = rw answered.3 refl
 
 pub written : (moves : Moves) (keep : ℕ) (asked : Result Asked Fault) (old new : Seat) (answer : Answer) (reply : ReplyAt) (r : RespondsBy moves keep asked old answer new)
@@ -97,17 +97,27 @@ pub all_kept : (moves : Moves) (keep : ℕ) (asked : Result Asked Fault) (old ne
     → expired_behind keep asked (fault_in answer) r.after ≡ 0 → RespondsBy moves keep asked old answer new
 all_kept moves keep asked old new answer r none = record { middle = new; reacts = r; keeps = rw none refl }
 
--- a call of one message is no put
-info_no_put : (keep parts : ℕ) (wanted : Result InfoCommand Fault) (payload : Payload) (fault : Option Fault) (after : Log) → expired_behind keep (Ok (info_asked wanted payload parts)) fault after ≡ 0
-info_no_put keep parts (Ok (rows_of text)) payload fault after = refl
-info_no_put keep parts (Ok list) payload fault after = refl
-info_no_put keep parts (Err cause) payload fault after = refl
+-- nor after a refusal
+pub refused_keeps : (keep : ℕ) (asked : Asked) (cause : Fault) (after : Log) → expired_behind keep (Ok asked) (Some cause) after ≡ 0
+refused_keeps keep (put payloads) cause after = refl
+refused_keeps keep (info payload parts) cause after = refl
+refused_keeps keep (tables payload parts) cause after = refl
+refused_keeps keep (schema payload) cause after = refl
+refused_keeps keep (fetch ticket workers) cause after = refl
+refused_keeps keep (expire action) cause after = refl
+refused_keeps keep (remove action) cause after = refl
 
-pub no_put : (keep : ℕ) (options : Options) (one : Single) (message : Payload) (fault : Option Fault) (after : Log) → expired_behind keep (Ok (asked_with options one message)) fault after ≡ 0
-no_put keep options DoGet message fault after = refl
-no_put keep options GetFlightInfo message fault after = info_no_put keep options.parts (wanted_in message) message fault after
-no_put keep options GetSchema message fault after = refl
-no_put keep options DoAction message fault after = refl
+-- nor after what is no change
+pub others_keep : (keep : ℕ) (operation : Operation) (asked : Asked) (fault : Option Fault) (after : Log)
+    → ((read : Result PutAt Fault) → operation ≢ operations.Put read) → ((action : Bor (List ℕ)) → operation ≢ operations.Drop action)
+    → StandsFor operation asked → expired_behind keep (Ok asked) fault after ≡ 0
+others_keep keep (operations.Put read) asked fault after no_put no_drop stands = absurd (no_put read refl)
+others_keep keep (operations.Info payload parts) asked fault after no_put no_drop stands = rw stands refl
+others_keep keep (operations.Tables payload parts) asked fault after no_put no_drop stands = rw stands refl
+others_keep keep (operations.Schema payload) asked fault after no_put no_drop stands = rw stands refl
+others_keep keep (operations.Fetch ticket workers) asked fault after no_put no_drop stands = rw stands refl
+others_keep keep (operations.Expire action) asked fault after no_put no_drop stands = rw stands refl
+others_keep keep (operations.Drop action) asked fault after no_put no_drop stands = absurd (no_drop action refl)
 
 -- ---- puts
 
@@ -121,12 +131,37 @@ put_lost moves keep old new payloads (Whole reply) not refused r = record { midd
     by None is refused = absurd (refused is)
 put_lost moves keep old new payloads (Accepted answers version) not has r = absurd (not answers version refl)
 put_lost moves keep old new payloads (Floor floor) not has r = absurd has
+put_lost moves keep old new payloads (Dropped version) not has r = absurd has
 put_lost moves keep old new payloads (Stream stream) not has r = absurd has
 
 -- an accepted one, after which so many versions are kept
 pub put_kept : (moves : Moves) (keep : ℕ) (old middle new : Seat) (payloads : List Payload) (answers : Vec (List ℕ) Global) (version : ℕ) → ReactsBy moves (Ok (put payloads)) old (Accepted answers version) middle
     → AsksItself moves (oldest_kept keep version) middle new → RespondsBy moves keep (Ok (put payloads)) old (Accepted answers version) new
 put_kept moves keep old middle new payloads answers version r asks = record {
+  middle = middle;
+  reacts = r;
+  keeps = subst (λ (newest : ℕ). AsksItself moves (oldest_kept keep newest) middle new) r.answered.1 asks;
+}
+
+-- ---- drops
+
+-- a drop whose answer has no number was refused, and after it all is kept
+pub drop_lost : (moves : Moves) (keep : ℕ) (old new : Seat) (action : Payload) (answer : Answer) → ((version : ℕ) → answer ≢ Dropped version)
+    → HasDropped answer → ReactsBy moves (Ok (remove action)) old answer new → RespondsBy moves keep (Ok (remove action)) old answer new
+drop_lost moves keep old new action (Whole reply) not refused r = record { middle = new; reacts = r; keeps = by reply.fault refl refused }
+  where
+    by : (fault : Option Fault) → reply.fault ≡ fault → reply.fault ≢ None → AsksItself moves (expired_behind keep (Ok (remove action)) reply.fault r.after) new new
+    by (Some fault) is refused = rw is refl
+    by None is refused = absurd (refused is)
+drop_lost moves keep old new action (Accepted answers version) not has r = absurd has
+drop_lost moves keep old new action (Floor floor) not has r = absurd has
+drop_lost moves keep old new action (Dropped version) not has r = absurd (not version refl)
+drop_lost moves keep old new action (Stream stream) not has r = absurd has
+
+-- an accepted one, after which so many versions are kept
+pub drop_kept : (moves : Moves) (keep : ℕ) (old middle new : Seat) (action : Payload) (version : ℕ) → ReactsBy moves (Ok (remove action)) old (Dropped version) middle
+    → AsksItself moves (oldest_kept keep version) middle new → RespondsBy moves keep (Ok (remove action)) old (Dropped version) new
+drop_kept moves keep old middle new action version r asks = record {
   middle = middle;
   reacts = r;
   keeps = subst (λ (newest : ℕ). AsksItself moves (oldest_kept keep newest) middle new) r.answered.1 asks;

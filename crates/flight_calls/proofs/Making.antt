@@ -4,9 +4,10 @@ use Rattle.std.proofs.lemmas.List.{append_cancel_left}
 use Rattle.scan_base.specs.declared.fault.Fault.{Fault}
 use Rattle.flight_info.specs.Payloads.{Payload}
 use Rattle.flight_info.specs.Replies.{ReplyAt}
-use Rattle.flight_core.specs.Asked.{Asked, put, info, tables, schema, fetch, expire}
+use Rattle.flight_core.specs.Asked.{Asked, put, info, tables, schema, fetch, expire, remove}
 use Rattle.version_log.specs.Log.{Log}
-use Rattle.flight_core.specs.Machine.{PutStep, ExpireStep}
+use Rattle.flight_core.specs.Machine.{PutStep, ExpireStep, DropStep}
+use Rattle.flight_proto.specs.Drop.{drop_of}
 use Rattle.flight_proto.specs.Expiry.{expiry_of}
 use Rattle.flight_core.specs.PlacedEntries.{log_in}
 use Rattle.flight_core.specs.Puts.{put_said}
@@ -14,7 +15,7 @@ use Rattle.flight_core.specs.Machine.{ReplyTo}
 use Rattle.flight_calls.specs.Exchanges.{Exchange}
 use Rattle.flight_core.specs.Seats.{Seat, Moves}
 use Rattle.flight_core.specs.Reacts.{Reacts}
-use Rattle.flight_calls.specs.Laws.{accepted_by, marked_by, entries_of, entries_in, PutsAreMade}
+use Rattle.flight_calls.specs.Laws.{accepted_by, marked_by, dropped_by, entries_of, entries_in, PutsAreMade}
 use Rattle.flight_calls.proofs.Exchanging.{Steps, exchanged}
 use Rattle.flight_core.proofs.Placing.{log_in-more}
 
@@ -26,7 +27,11 @@ expiry_adds : (action : Payload) (log after : Log) (answers : List Payload) (fau
 expiry_adds action log after answers None step = rw step.1 step.3
 expiry_adds action log after answers (Some fault) step = step.0 ∙ sym (append-nil log)
 
--- a step adds the put that it accepts, or the mark
+drop_adds : (action : Payload) (log after : Log) (answers : List Payload) (fault : Option Fault) → DropStep log action answers fault after → after ≡ log ++ dropped_by fault (drop_of action)
+drop_adds action log after answers None step = rw step.1 step.3
+drop_adds action log after answers (Some fault) step = step.0 ∙ sym (append-nil log)
+
+-- a step adds the change that it accepts, or the mark
 step_adds : (asked : Result Asked Fault) (log after : Log) (reply : ReplyAt) → ReplyTo asked log reply after → after ≡ log ++ entries_of asked reply
 step_adds (Ok (put payloads)) log after reply step = put_adds payloads log after reply.payloads reply.fault step
 step_adds (Ok (info payload parts)) log after reply step = step.0 ∙ sym (append-nil log)
@@ -34,6 +39,7 @@ step_adds (Ok (tables payload parts)) log after reply step = step.0 ∙ sym (app
 step_adds (Ok (schema payload)) log after reply step = step.0 ∙ sym (append-nil log)
 step_adds (Ok (fetch ticket workers)) log after reply step = step.0 ∙ sym (append-nil log)
 step_adds (Ok (expire action)) log after reply step = expiry_adds action log after reply.payloads reply.fault step
+step_adds (Ok (remove action)) log after reply step = drop_adds action log after reply.payloads reply.fault step
 step_adds (Err fault) log after reply step = step.0 ∙ sym (append-nil log)
 
 call_adds : (moves : Moves) (asked : Result Asked Fault) (old new : Seat) (reply : ReplyAt) → Reacts moves asked old reply new → log_in new.made ≡ log_in old.made ++ entries_of asked reply

@@ -1,5 +1,6 @@
 -- Calls, and what they ask.
-use Rattle.std.specs.Prelude.{ℕ, List, [], ◌∷◌, ◌++◌, map, Option, Some, None, Result, Ok, Err}
+use Rattle.std.specs.Prelude.{ℕ, Bool, true, false, List, [], ◌∷◌, ◌++◌, map, Option, Some, None}
+use Rattle.std.specs.Prelude.{Result, Ok, Err}
 use Rattle.std.specs.Prelude.{codes, if◌then◌else◌}
 use Rattle.std.specs.Str.{bytes_eq}
 use Rattle.scan_base.specs.declared.fault.Fault.{Fault}
@@ -7,9 +8,11 @@ use Rattle.scan_base.specs.declared.fault.Fault.TheVariants.{UnknownMethod, BadP
 use Rattle.scan_base.specs.Reading.{◌>>=◌, wanted}
 use Rattle.grpc_frame.specs.declared.record.Record.{Record}
 use Rattle.grpc_frame.specs.declared.record.Record.TheVariants.{Open, Message, End}
+use Rattle.flight_proto.specs.Action.{action_of}
+use Rattle.flight_proto.specs.Drop.{names_drop}
 use Rattle.flight_proto.specs.InfoCommand as wants
 use Rattle.flight_info.specs.Payloads.{Payload}
-use Rattle.flight_core.specs.Asked.{Asked, put, info, tables, schema, fetch, expire}
+use Rattle.flight_core.specs.Asked.{Asked, put, info, tables, schema, fetch, expire, remove}
 use Rattle.flight_calls.specs.declared.setting.Options.{Options}
 use Rattle.flight_calls.specs.declared.request.Method.{Method}
 use Rattle.flight_calls.specs.declared.request.Method.TheVariants as method
@@ -45,13 +48,18 @@ abbrev pub info_asked : Result wants.InfoCommand Fault → Payload → ℕ → A
 info_asked (Ok wants.tables) payload parts = tables payload parts
 info_asked _ payload parts = info payload parts
 
--- what the one message of a call asks, where the server is set so; an action asks for an expiry
+-- an action asks for a drop where that is its name, and else for an expiry
+abbrev pub action_asked : Bool → Payload → Asked
+action_asked true action = remove action
+action_asked false action = expire action
+
+-- what the one message of a call asks, where the server is set so
 abbrev pub asked_with : Options → Single → Payload → Asked
 asked_with options single.DoGet ticket = fetch ticket options.workers
 asked_with options single.GetFlightInfo payload =
     info_asked (wants.wanted_in payload) payload options.parts
 asked_with options single.GetSchema payload = schema payload
-asked_with options single.DoAction action = expire action
+asked_with options single.DoAction action = action_asked (names_drop (action_of action)) action
 
 -- what the messages ask of a method: but for a put there is one, and of another number none is read
 abbrev pub asked_of : Options → Method → List Payload → Result Asked Fault

@@ -5,7 +5,7 @@ use Rattle.scan_base.specs.declared.fault.Fault.{Fault}
 use Rattle.flight_proto.specs.Expiry.{expiry_bytes}
 use Rattle.flight_info.specs.Payloads.{Payload}
 use Rattle.flight_info.specs.Replies.{ReplyAt}
-use Rattle.flight_core.specs.Asked.{Asked, put, expire}
+use Rattle.flight_core.specs.Asked.{Asked, put, expire, remove}
 use Rattle.flight_calls.specs.declared.setting.Options.{Options}
 use Rattle.flight_calls.specs.Calls.{Call, asked_by}
 
@@ -24,13 +24,18 @@ exchanges_of options (call ∷ calls) (reply ∷ replies) =
     exchange (asked_by options call) reply ∷ exchanges_of options calls replies
 exchanges_of options _ _ = []
 
--- an expiry that a server asks of itself, after a put that it accepted and where it does not keep
--- all versions
+-- a put or a drop is asked
+abbrev pub AsksChange : Result Asked Fault → Type 0
+AsksChange (Ok (put payloads)) = Unit {0}
+AsksChange (Ok (remove action)) = Unit {0}
+AsksChange _ = ⊥
+
+-- an expiry that a server asks of itself, after a put or a drop that it accepted and where it does
+-- not keep all versions
 pub record IsExpiry (keep : ℕ) (asked : Result Asked Fault) (reply : ReplyAt)
     (own : List Exchange) : Type 0 where
   pub keeps : keep ≢ 0
-  pub payloads : List Payload
-  pub puts : asked ≡ Ok (put payloads)
+  pub changes : AsksChange asked
   pub accepted : reply.fault ≡ None
   pub version : ℕ
   pub untold : ReplyAt

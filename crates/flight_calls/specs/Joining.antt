@@ -14,7 +14,7 @@ use Rattle.flight_info.specs.Payloads.{Payload, PayloadsSay}
 use Rattle.flight_info.specs.Replies.{ReplyAt, whole}
 use Rattle.flight_core.specs.Asked.{Asked, info, tables, fetch}
 use Rattle.flight_core.specs.Headline.{Pairwise}
-use Rattle.version_log.specs.Log.{Log, puts_in, database_of, Begins}
+use Rattle.version_log.specs.Log.{Log, changes_in, database_of, Begins}
 use Rattle.flight_calls.specs.declared.setting.Options.{Options}
 use Rattle.flight_calls.specs.Calls.{Call, asked_by}
 use Rattle.flight_core.specs.Seats.{Seat, Moves}
@@ -22,9 +22,9 @@ use Rattle.flight_core.specs.Reacts.{StartsAt}
 use Rattle.flight_calls.specs.Responds.{Responds, Answers}
 use Rattle.flight_calls.specs.OwedAnswers.{Connection, Serves}
 
--- What a call leaves is where every later call of the connection starts, but for a put or an expiry
--- that was read, which goes by the log that it meets. So an info or a schema sees each put that was
--- accepted before it, and a fetch finds its version.
+-- What a call leaves is where every later call of the connection starts, but for a put, a drop or
+-- an expiry that was read, which goes by the log that it meets. So an info or a schema sees each
+-- put that was accepted before it, and a fetch finds its version.
 abbrev pub LaterCallsSee : Moves → Type 0
 LaterCallsSee moves =
     (options : Options) (one other : Result Asked Fault) (before between behind new : Seat)
@@ -96,7 +96,7 @@ pub record InfoServed (moves : Moves) (told log : Log) (wanted : InfoCommand)
 abbrev pub SeatsMeetJoined : Moves → Type 0
 SeatsMeetJoined moves =
     (told log : Log) (wanted : InfoCommand) (handles : List HandleAt) (streams : List Rows)
-    (answer : Table) → InfoServed moves told log wanted handles → puts_in log ≤ puts_in told
+    (answer : Table) → InfoServed moves told log wanted handles → changes_in log ≤ changes_in told
     → meant.Answers (database_of log) wanted answer
     → Pairwise (FetchServed moves told) handles streams
     → flat_map (λ rows. rows) streams ≡ answer.rows

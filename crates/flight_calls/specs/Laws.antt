@@ -5,10 +5,12 @@ use Rattle.std.specs.List.{flat_map}
 use Rattle.scan_base.specs.declared.fault.Fault.{Fault}
 use Rattle.scan_base.specs.declared.fault.Fault.TheVariants.{Transport}
 use Rattle.flight_info.specs.Replies.{ReplyAt}
-use Rattle.table_versions.specs.Database.{Put}
+use Rattle.table_versions.specs.Database.{Put, putting, dropping}
+use Rattle.table_versions.specs.Table.{Name}
+use Rattle.flight_proto.specs.Drop.{drop_of}
 use Rattle.flight_proto.specs.Expiry.{expiry_of}
 use Rattle.version_log.specs.Log.{Log, added, expired}
-use Rattle.flight_core.specs.Asked.{Asked, put, info, tables, schema, fetch, expire}
+use Rattle.flight_core.specs.Asked.{Asked, put, info, tables, schema, fetch, expire, remove}
 use Rattle.flight_core.specs.PlacedEntries.{log_in}
 use Rattle.flight_core.specs.Puts.{put_said}
 use Rattle.flight_core.specs.Machine.{Run}
@@ -63,7 +65,7 @@ NewConnectionsAreWhole moves =
 
 -- the entry of the put that a reply accepts, if it accepts one
 abbrev pub accepted_by : Option Fault → Result Put Fault → Log
-accepted_by None (Ok said) = added said ∷ []
+accepted_by None (Ok said) = added (putting said) ∷ []
 accepted_by None (Err fault) = []
 accepted_by (Some fault) read = []
 
@@ -73,6 +75,12 @@ marked_by None (Ok version) = expired version ∷ []
 marked_by None (Err fault) = []
 marked_by (Some fault) read = []
 
+-- the entry of the drop that a reply accepts, if it accepts one
+abbrev pub dropped_by : Option Fault → Result Name Fault → Log
+dropped_by None (Ok name) = added (dropping name) ∷ []
+dropped_by None (Err fault) = []
+dropped_by (Some fault) read = []
+
 -- the entry of what is asked, if the reply tells of one
 abbrev pub entries_of : Result Asked Fault → ReplyAt → Log
 entries_of (Ok (put payloads)) reply = accepted_by reply.fault (put_said payloads)
@@ -81,13 +89,14 @@ entries_of (Ok (tables payload parts)) reply = []
 entries_of (Ok (schema payload)) reply = []
 entries_of (Ok (fetch ticket workers)) reply = []
 entries_of (Ok (expire action)) reply = marked_by reply.fault (expiry_of action)
+entries_of (Ok (remove action)) reply = dropped_by reply.fault (drop_of action)
 entries_of (Err fault) reply = []
 
 -- the entries of exchanges, in order
 abbrev pub entries_in : List Exchange → Log
 entries_in all = flat_map (λ one. entries_of one.asked one.reply) all
 
--- A connection makes the accepted puts and the marks of its whole calls, in order, and no other
+-- A connection makes the accepted changes and the marks of its whole calls, in order, and no other
 -- entry but the marks of the expiries that the server asks of itself.
 abbrev pub PutsAreMade : Moves → Type 0
 PutsAreMade moves = (options : Options) (old new : Seat) (calls : List Call)

@@ -3,10 +3,10 @@ use Rattle.std.specs.Prelude.{◌≡◌, ℕ, zero, suc, ◌+◌, ◌-◌, List,
 use Rattle.scan_base.specs.declared.fault.Fault.{Fault}
 use Rattle.flight_proto.specs.Expiry.{expiry_bytes}
 use Rattle.flight_info.specs.Replies.{ReplyAt}
-use Rattle.version_log.specs.Log.{Log, puts_in}
+use Rattle.version_log.specs.Log.{Log, changes_in}
 use Rattle.flight_core.specs.declared.answer.Answer.{Answer}
 use Rattle.flight_core.specs.StepAnswer.{ReactsBy, fault_in}
-use Rattle.flight_core.specs.Asked.{Asked, put, expire}
+use Rattle.flight_core.specs.Asked.{Asked, put, expire, remove}
 use Rattle.flight_core.specs.Reacts.{Reacts}
 use Rattle.flight_core.specs.Seats.{Seat, Moves}
 use Rattle.flight_calls.specs.declared.setting.Options.{Options}
@@ -19,9 +19,10 @@ oldest_kept zero newest = 0
 oldest_kept keep newest = newest + 1 - keep
 
 -- below this number versions are expired after a reply: below the oldest that is kept, where it
--- accepts a put
+-- accepts a put or a drop
 abbrev pub expired_behind : ℕ → Result Asked Fault → Option Fault → Log → ℕ
-expired_behind keep (Ok (put payloads)) None after = oldest_kept keep (puts_in after)
+expired_behind keep (Ok (put payloads)) None after = oldest_kept keep (changes_in after)
+expired_behind keep (Ok (remove action)) None after = oldest_kept keep (changes_in after)
 expired_behind keep _ fault after = 0
 
 -- The server asks of itself to expire the versions below a number, as a client may, and nobody is
@@ -39,7 +40,7 @@ pub record Responds (moves : Moves) (keep : ℕ) (asked : Result Asked Fault) (o
   pub keeps : AsksItself moves (expired_behind keep asked reply.fault reacts.after) middle new
 
 -- The same of an answer, before it is written. How a stream will end does not matter here: a fetch
--- is no put.
+-- is no change.
 pub record RespondsBy (moves : Moves) (keep : ℕ) (asked : Result Asked Fault) (old : Seat)
     (answer : Answer) (new : Seat) : Type 0 where
   pub middle : Seat

@@ -80,6 +80,7 @@ fn send_answer<W: Output, X: Executor>(
         Answer::Whole(reply) => send_reply(sender, &reply),
         Answer::Accepted { payloads, .. } => send_reply(sender, &Reply::whole(payloads)),
         Answer::Floor(floor) => send_floor(sender, floor),
+        Answer::Dropped(version) => send_floor(sender, version),
         Answer::Stream(opening) => send_fetch(setting, sender, opening),
     }
 }
@@ -95,7 +96,7 @@ fn send_reply<W: Output>(sender: &mut Sender<'_, W>, reply: &Reply) -> Result<()
     sender.send_status(reply.fault)
 }
 
-// Sends the floor after an expiry.
+// Sends the floor after an expiry, or the version of a drop.
 fn send_floor<W: Output>(sender: &mut Sender<'_, W>, floor: u64) -> Result<(), Fault>
     ensures { SendsAll result sender.old sender.new
         (answer_bytes (whole (floor_bytes floor ∷ []))) }

@@ -3,19 +3,23 @@
 ghost use Rattle.std.specs.Prelude.{◌≡◌, ◌++◌, ◌∷◌, [], ℕ, List, Some, Ok, IfSome};
 ghost use Rattle.flight_info.specs.Payloads.{Payload};
 ghost use Rattle.flight_calls.specs.declared.request.Method.TheVariants as variant;
+ghost use Rattle.flight_calls.specs.declared.request.Single.TheVariants as variants;
+ghost use Rattle.flight_proto.specs.Action.{action_of};
+ghost use Rattle.flight_proto.specs.Drop.{names_drop};
 ghost use Rattle.flight_proto.specs.InfoCommand.{wanted_in};
 ghost use Rattle.flight_core.specs.StepAnswer.{FitsMessages};
 ghost use Rattle.flight_core.specs.Operation.{StandsFor};
-ghost use Rattle.flight_calls.specs.Calls.{Call, method_at, info_asked, asked_with, asked_by};
+ghost use Rattle.flight_calls.specs.Calls.{Call, method_at, info_asked, action_asked, asked_with};
+ghost use Rattle.flight_calls.specs.Calls.{asked_by};
 ghost use Rattle.flight_calls.specs.Responds.{RespondsBy};
 ghost use Rattle.flight_calls.specs.Requests.{IsRefused, Holds};
 
-use crate::kept_versions::answer_put;
+use crate::kept_versions::answer_keeping;
 use crate::setting::Options;
 use bytes::Bytes;
-use flight_core::{Answer, Backend, Operation, PutReader, Reply, step};
+use flight_core::{Answer, Backend, Operation, PutReader, Reply};
 use flight_proto::info_command::MAX_REQUEST_LEN;
-use flight_proto::{InfoCommand, read_expiry, read_wanted};
+use flight_proto::{InfoCommand, asks_drop, read_drop, read_expiry, read_wanted};
 use scan_base::Fault;
 use std::alloc::Global;
 
@@ -98,10 +102,23 @@ fn refusal_of(method: Single, message: &[u8]) -> Option<Fault>
             }
             None
         }
-        Single::DoAction => match read_expiry(message) {
+        Single::DoAction => action_refusal(message),
+    }
+}
+
+// The same of an action: the fault of its body, or of a name that is none of the two.
+fn action_refusal(message: &[u8]) -> Option<Fault>
+    ensures { IfSome result (λ fault. IsRefused variants.DoAction message.now fault) }
+{
+    if asks_drop(message) {
+        return match read_drop(message) {
             Ok(_) => None,
             Err(fault) => Some(fault),
-        },
+        };
+    }
+    match read_expiry(message) {
+        Ok(_) => None,
+        Err(fault) => Some(fault),
     }
 }
 
@@ -145,8 +162,8 @@ impl Request {
     }
 
     /// What answers the call, once its End came: that of a step of the core over the backend. F4
-    /// where another method than DoPut has no message. After an accepted put the versions that are
-    /// not kept are expired.
+    /// where another method than DoPut has no message. After an accepted change the versions that
+    /// are not kept are expired.
     pub fn answer<B: Backend>(self, alloc: Global, backend: &mut B, options: Options) -> Answer
         ensures reply { (call : Call) → Holds self call
             → RespondsBy B.moves options.keep (asked_by options call) (B.seat backend.old) result
@@ -154,14 +171,14 @@ impl Request {
         ensures short { FitsMessages result }
     {
         match self {
-            Request::Put(reader) => answer_put(alloc, backend, reader.into_put(), options.keep),
+            Request::Put(reader) => {
+                let operation = Operation::Put(reader.into_put());
+                answer_keeping(alloc, backend, operation, options.keep)
+            }
             Request::Awaits(_) => Answer::Whole(Reply::refusal(alloc, Fault::BadProto)),
             Request::Asks(method, message) => {
-                step(
-                    alloc,
-                    backend,
-                    operation_of(method, message.as_slice(), options),
-                )
+                let operation = operation_of(method, message.as_slice(), options);
+                answer_keeping(alloc, backend, operation, options.keep)
             }
             Request::Settled(fault) => Answer::Whole(Reply::refusal(alloc, fault)),
             Request::Refused(fault) => Answer::Whole(Reply::refusal(alloc, fault)),
@@ -180,8 +197,18 @@ fn operation_of(method: Single, message: &[u8], options: Options) -> Operation<'
         },
         Single::GetFlightInfo => info_of(message, options.parts),
         Single::GetSchema => Operation::Schema { payload: message },
-        Single::DoAction => Operation::Expire { action: message },
+        Single::DoAction => action_operation(message),
     }
+}
+
+// A drop where the action has that name, and else an expiry.
+fn action_operation(action: &[u8]) -> Operation<'_>
+    ensures { StandsFor result (action_asked (names_drop (action_of action.now)) action.now) }
+{
+    if asks_drop(action) {
+        return Operation::Drop { action };
+    }
+    Operation::Expire { action }
 }
 
 // An info of the list of tables, where the command wants that, and else of a query.

@@ -11,7 +11,7 @@ use Rattle.flight_proto.specs.Message.{set_fields, spelled}
 use Rattle.proto_wire.specs.Calls.{chunk_entry}
 use Rattle.proto_wire.specs.Writing.{field_spelling}
 use Rattle.version_log.specs.Expiry.{IsExpired, RefusesExpiry}
-use Rattle.version_log.specs.Log.{Log, puts_in}
+use Rattle.version_log.specs.Log.{Log, changes_in}
 use Rattle.flight_info.specs.Payloads.{Payload}
 use Rattle.flight_info.proofs.Sizes.{short_chunk, short_set}
 use Rattle.flight_core.specs.Refusals.{RefusedBy}
@@ -45,10 +45,10 @@ unread_expiry log action fault unread = rw unread refl
 
 -- one whose number the log does not reach is refused for that, and another one for want of memory
 pub refused_expiry : (log : Log) (action : Payload) (version : ℕ) (fault : Fault) → expiry_of action ≡ Ok version → RefusesExpiry fault log version → RefusedBy (expiry_due log action) fault
-refused_expiry log action version fault said refuses = rw said (by (nat_le version (puts_in log)) refl refuses)
+refused_expiry log action version fault said refuses = rw said (by (nat_le version (changes_in log)) refl refuses)
   where
-    by : (there : Bool) → nat_le version (puts_in log) ≡ there → RefusesExpiry fault log version → RefusedBy (demand there VersionUnknown >>= λ _. Ok version) fault
+    by : (there : Bool) → nat_le version (changes_in log) ≡ there → RefusesExpiry fault log version → RefusedBy (demand there VersionUnknown >>= λ _. Ok version) fault
     by true reached (inr tired) = tired.0
-    by true reached (inl unknown) = let within : version ≤ puts_in log = search (rules, reached) in absurd (omega (arith, unknown.1, within))
+    by true reached (inl unknown) = let within : version ≤ changes_in log = search (rules, reached) in absurd (omega (arith, unknown.1, within))
     by false above (inl unknown) = unknown.0
-    by false above (inr tired) = let above : puts_in log < version = search (rules, above) in absurd (omega (arith, tired.1, above))
+    by false above (inr tired) = let above : changes_in log < version = search (rules, above) in absurd (omega (arith, tired.1, above))

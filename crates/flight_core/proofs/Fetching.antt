@@ -10,8 +10,8 @@ use Rattle.flight_info.specs.Payloads.{Payload}
 use Rattle.flight_info.specs.Replies.{ReplyAt, refusal}
 use Rattle.fetch_stream.specs.Fetches.{FetchAt, version_of}
 use Rattle.fetch_stream.specs.Streams.{StreamAt, Opens}
-use Rattle.version_log.specs.Log.{Log, puts_of, puts_in, floor_of, version, Begins}
-use Rattle.version_log.proofs.Logs.{begun_puts}
+use Rattle.version_log.specs.Log.{Log, changes_of, changes_in, floor_of, version, Begins}
+use Rattle.version_log.proofs.Logs.{begun_changes}
 use Rattle.flight_core.specs.declared.answer.Answer.TheVariants.{Stream, Whole}
 use Rattle.flight_core.specs.StepAnswer.{AnsweredBy, ReactsBy}
 use Rattle.flight_core.specs.Asked.{Asked, fetch}
@@ -28,14 +28,14 @@ use Rattle.flight_core.proofs.Reacting.{goes_by_look}
 -- what the ticket shows, and its stream
 pub record Shows (log : Log) (ticket : Payload) (stream : StreamAt) : Type 0 where
   pub handle : HandleAt
-  pub shown : handle_shown (floor_of log) (puts_in log) ticket ≡ Ok handle
+  pub shown : handle_shown (floor_of log) (changes_in log) ticket ≡ Ok handle
   pub opens : Opens (version log (version_of handle)) handle (Ok stream)
 
 pub shows : (log : Log) (ticket : Payload) (stream : StreamAt) → OpensIn log ticket (Ok stream) → Shows log ticket stream
 shows log ticket stream (inr lacks) = absurd cc
-shows log ticket stream (inl opens) = by (handle_shown (floor_of log) (puts_in log) ticket) refl opens
+shows log ticket stream (inl opens) = by (handle_shown (floor_of log) (changes_in log) ticket) refl opens
   where
-    by : (seen : Result HandleAt Fault) → handle_shown (floor_of log) (puts_in log) ticket ≡ seen → OpensBy log seen (Ok stream) → Shows log ticket stream
+    by : (seen : Result HandleAt Fault) → handle_shown (floor_of log) (changes_in log) ticket ≡ seen → OpensBy log seen (Ok stream) → Shows log ticket stream
     by (Ok handle) is opens = record { handle = handle; shown = is; opens = opens }
     by (Err cause) is opens = absurd cc
 
@@ -55,7 +55,7 @@ stream_replied asked log new stream reply answered collected =
 -- where there is no stream, its fault is the answer
 not_opened : (log : Log) (ticket : Payload) (fault : Fault) → OpensIn log ticket (Err fault) → FetchIn log ticket [] (Some fault)
 not_opened log ticket fault (inr lacks) = inr (lacks.0, refl, cc)
-not_opened log ticket fault (inl opens) = inl (by (handle_shown (floor_of log) (puts_in log) ticket) fault opens)
+not_opened log ticket fault (inl opens) = inl (by (handle_shown (floor_of log) (changes_in log) ticket) fault opens)
   where
     by : (seen : Result HandleAt Fault) (fault : Fault) → OpensBy log seen (Err fault) → FetchBy log seen [] (Some fault)
     by (Err cause) fault is = (refl, cc)
@@ -66,17 +66,17 @@ not_opened log ticket fault (inl opens) = inl (by (handle_shown (floor_of log) (
 -- ---- asks
 
 -- a log that goes on has no fewer puts
-longer : (log more : Log) → Begins log more → puts_in log ≤ puts_in more
-longer log more b = omega (arith, ap length (begun_puts log more b), length-append (puts_of log) (puts_of b.0))
+longer : (log more : Log) → Begins log more → changes_in log ≤ changes_in more
+longer log more b = omega (arith, ap length (begun_changes log more b), length-append (changes_of log) (changes_of b.0))
 
 -- a version that the log does not reach was none of the log before
-pub beyond_before : (old new : Log) (number : ℕ) → Begins old new → puts_in new < number → number ≤ puts_in old → ⊥
+pub beyond_before : (old new : Log) (number : ℕ) → Begins old new → changes_in new < number → number ≤ changes_in old → ⊥
 beyond_before old new number b above reached = omega (arith, longer old new b, above, reached)
 
 -- where a look finds it unknown, the log does not reach it
 pub unknown_above : (may once : Type 0) (log : Log) (number : ℕ)
-    → ((VersionUnknown ≡ OutOfMemory) × may) ⊎ (((VersionUnknown ≡ VersionUnknown) × once × (puts_in log < number))
-    ⊎ ((VersionUnknown ≡ VersionExpired) × once × (number ≤ puts_in log) × (number < floor_of log))) → puts_in log < number
+    → ((VersionUnknown ≡ OutOfMemory) × may) ⊎ (((VersionUnknown ≡ VersionUnknown) × once × (changes_in log < number))
+    ⊎ ((VersionUnknown ≡ VersionExpired) × once × (number ≤ changes_in log) × (number < floor_of log))) → changes_in log < number
 unknown_above may once log number (inl tired) = let no = tired.0 in absurd cc
 unknown_above may once log number (inr (inl unknown)) = unknown.2
 unknown_above may once log number (inr (inr below)) = let no = below.0 in absurd cc

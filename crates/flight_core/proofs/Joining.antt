@@ -16,10 +16,10 @@ use Rattle.sql_query.specs.Sentence.{Sentence, is_grouped}
 use Rattle.table_versions.specs.Table.{Row, Table}
 use Rattle.table_versions.specs.Database.{Database}
 use Rattle.table_versions.specs.Database as puts
-use Rattle.version_log.proofs.Logs.{begun_puts}
+use Rattle.version_log.proofs.Logs.{begun_changes}
 use Rattle.typed_plan.specs.Meaning.{meaning}
 use Rattle.typed_plan.proofs.Ranges.{ranges_join}
-use Rattle.version_log.specs.Log.{Log, puts_of, puts_in, floor_of, database_of, version, Begins}
+use Rattle.version_log.specs.Log.{Log, changes_of, changes_in, floor_of, database_of, version, Begins}
 use Rattle.flight_info.specs.Payloads.{Payload}
 use Rattle.flight_info.specs.QueryMeaning.{AsksSentence, first_rows}
 use Rattle.fetch_stream.specs.Fetches.{FetchAt, version_of, may_mean}
@@ -34,15 +34,15 @@ use Rattle.flight_core.proofs.Saying.{answers_say_one_thing}
 -- ---- logs
 
 -- the newest version of a log that one told seat has seen stands in every log that another has, where that is no shorter
-same_version : (log told seat other there : Log) → Begins log seat → Begins told seat → puts_in log ≤ puts_in told
-    → Begins other there → Begins told there → puts_in log ≤ puts_in other → version other (puts_in log) ≡ database_of log
+same_version : (log told seat other there : Log) → Begins log seat → Begins told seat → changes_in log ≤ changes_in told
+    → Begins other there → Begins told there → changes_in log ≤ changes_in other → version other (changes_in log) ≡ database_of log
 same_version log told seat other there a b fits c d long =
-    let n = puts_in log in
-    let whole : take n (puts_of log ++ puts_of a.0) ≡ puts_of log = take-append_seam (puts_of log) (puts_of a.0) in
-    let mine : take n (puts_of told) ≡ puts_of log =
-    sym (take-append-le n (puts_of told) (puts_of b.0) fits) ∙ ap (take n) (sym (begun_puts told seat b) ∙ begun_puts log seat a) ∙ whole in
-    ap puts.database_after (sym (take-append-le n (puts_of other) (puts_of c.0) long) ∙ ap (take n) (sym (begun_puts other there c) ∙ begun_puts told there d)
-    ∙ take-append-le n (puts_of told) (puts_of d.0) fits ∙ mine)
+    let n = changes_in log in
+    let whole : take n (changes_of log ++ changes_of a.0) ≡ changes_of log = take-append_seam (changes_of log) (changes_of a.0) in
+    let mine : take n (changes_of told) ≡ changes_of log =
+    sym (take-append-le n (changes_of told) (changes_of b.0) fits) ∙ ap (take n) (sym (begun_changes told seat b) ∙ begun_changes log seat a) ∙ whole in
+    ap puts.database_after (sym (take-append-le n (changes_of other) (changes_of c.0) long) ∙ ap (take n) (sym (begun_changes other there c) ∙ begun_changes told there d)
+    ∙ take-append-le n (changes_of told) (changes_of d.0) fits ∙ mine)
 
 -- ---- ranges
 
@@ -77,12 +77,12 @@ ranges_whole q d parts =
 
 -- a fetch that was answered to its end reached the handle's version, and means what the handle means there
 record Reached (log : Log) (handle : HandleAt) (payloads : List Payload) : Type 0 where
-  reached : version_of handle ≤ puts_in log
+  reached : version_of handle ≤ changes_in log
   at : FetchAt (version log (version_of handle)) handle payloads None
 
 reaches : (log : Log) (ticket : Payload) (handle : HandleAt) (payloads : List Payload) → handle_asked ticket ≡ Ok handle → FetchIn log ticket payloads None → Reached log handle payloads
 reaches log ticket handle payloads is (inr lacks) = absurd cc
-reaches log ticket handle payloads is (inl reply) = by (nat_le (version_of handle) (puts_in log)) refl (rw is at reply)
+reaches log ticket handle payloads is (inl reply) = by (nat_le (version_of handle) (changes_in log)) refl (rw is at reply)
   where
     kept : Bool → Result HandleAt Fault
     kept there = demand there VersionExpired >>= λ _. (demand (may_mean handle) BadTicket >>= λ _. Ok handle)
@@ -90,15 +90,15 @@ reaches log ticket handle payloads is (inl reply) = by (nat_le (version_of handl
     shown : Bool → Result HandleAt Fault
     shown there = demand there VersionUnknown >>= λ _. kept (nat_le (floor_of log) (version_of handle))
 
-    plain : (b : Bool) → version_of handle ≤ puts_in log → FetchBy log (demand b BadTicket >>= λ _. Ok handle) payloads None → Reached log handle payloads
+    plain : (b : Bool) → version_of handle ≤ changes_in log → FetchBy log (demand b BadTicket >>= λ _. Ok handle) payloads None → Reached log handle payloads
     plain true within at = record { reached = within; at = at }
     plain false within at = absurd cc
 
-    unexpired : (there : Bool) → version_of handle ≤ puts_in log → FetchBy log (kept there) payloads None → Reached log handle payloads
+    unexpired : (there : Bool) → version_of handle ≤ changes_in log → FetchBy log (kept there) payloads None → Reached log handle payloads
     unexpired true within at = plain (may_mean handle) within at
     unexpired false within at = absurd cc
 
-    by : (there : Bool) → nat_le (version_of handle) (puts_in log) ≡ there → FetchBy log (shown there) payloads None → Reached log handle payloads
+    by : (there : Bool) → nat_le (version_of handle) (changes_in log) ≡ there → FetchBy log (shown there) payloads None → Reached log handle payloads
     by true within at = unexpired (nat_le (floor_of log) (version_of handle)) (search (rules, within)) at
     by false within at = absurd cc
 
@@ -106,12 +106,12 @@ abbrev query_at : ℕ → List ℕ → Range → HandleAt
 query_at n text r = Query n r.from r.to text
 
 said : (log told : Log) (text : List ℕ) (query : Sentence) (r : Range) (rows : Rows)
-    → Saw told log → puts_in log ≤ puts_in told → AsksSentence (database_of log) text query
-    → FetchedAt told (query_at (puts_in log) text r) rows → rows ≡ meaning query (database_of log) r.from r.to
+    → Saw told log → changes_in log ≤ changes_in told → AsksSentence (database_of log) text query
+    → FetchedAt told (query_at (changes_in log) text r) rows → rows ≡ meaning query (database_of log) r.from r.to
 said log told text query r rows seen fits asks f =
-    let h : HandleAt = query_at (puts_in log) text r in
+    let h : HandleAt = query_at (changes_in log) text r in
     let by = reaches f.log f.ticket h f.payloads f.is_handle f.reply in
-    let same : version f.log (puts_in log) ≡ database_of log = same_version log told seen.seat f.log f.seen.seat seen.saw seen.learnt fits f.seen.saw f.seen.learnt by.reached in
+    let same : version f.log (changes_in log) ≡ database_of log = same_version log told seen.seat f.log f.seen.seat seen.saw seen.learnt fits f.seen.saw f.seen.learnt by.reached in
     let at : FetchAt (database_of log) h f.payloads None = subst (λ d. FetchAt d h f.payloads None) same by.at in
     let q : at.means.query ≡ query = one_sentence text at.means.query query at.means.asks.says asks.says in
     (answers_say_one_thing say_one_thing f.payloads _ _ _ _ f.says at.said.said).1 ∙ ap (λ (t : Table). t.rows) at.means.is ∙ ap (λ (p : Sentence). meaning p (database_of log) r.from r.to) q
@@ -119,8 +119,8 @@ said log told text query r rows seen fits asks f =
 -- ---- all of them
 
 streams_join : (log told : Log) (text : List ℕ) (query : Sentence) (rs : List Range) (streams : List Rows)
-    → Saw told log → puts_in log ≤ puts_in told → AsksSentence (database_of log) text query
-    → Pairwise (FetchedAt told) (map (query_at (puts_in log) text) rs) streams
+    → Saw told log → changes_in log ≤ changes_in told → AsksSentence (database_of log) text query
+    → Pairwise (FetchedAt told) (map (query_at (changes_in log) text) rs) streams
     → flat_map (λ (rows : Rows). rows) streams ≡ flat_map (λ (r : Range). meaning query (database_of log) r.from r.to) rs
 streams_join log told text query [] [] seen fits asks f = refl
 streams_join log told text query [] (s ∷ ss) seen fits asks f = absurd f
@@ -131,16 +131,16 @@ streams_join log told text query (r ∷ rs) (s ∷ ss) seen fits asks f =
 -- ---- the list of tables
 
 -- a fetch of it says it as it stood
-listed : (log told : Log) (rows : Rows) → Saw told log → puts_in log ≤ puts_in told → FetchedAt told (Tables (puts_in log)) rows → rows ≡ (tables_listed (database_of log)).rows
+listed : (log told : Log) (rows : Rows) → Saw told log → changes_in log ≤ changes_in told → FetchedAt told (Tables (changes_in log)) rows → rows ≡ (tables_listed (database_of log)).rows
 listed log told rows seen fits f =
-    let h : HandleAt = Tables (puts_in log) in
+    let h : HandleAt = Tables (changes_in log) in
     let by = reaches f.log f.ticket h f.payloads f.is_handle f.reply in
-    let same : version f.log (puts_in log) ≡ database_of log = same_version log told seen.seat f.log f.seen.seat seen.saw seen.learnt fits f.seen.saw f.seen.learnt by.reached in
+    let same : version f.log (changes_in log) ≡ database_of log = same_version log told seen.seat f.log f.seen.seat seen.saw seen.learnt fits f.seen.saw f.seen.learnt by.reached in
     let at : FetchAt (database_of log) h f.payloads None = subst (λ d. FetchAt d h f.payloads None) same by.at in
     (answers_say_one_thing say_one_thing f.payloads _ _ _ _ f.says at.said.said).1 ∙ ap (λ (t : Table). t.rows) at.means
 
 -- and it is the one stream
-list_joins : (log told : Log) (streams : List Rows) → Saw told log → puts_in log ≤ puts_in told → Pairwise (FetchedAt told) (Tables (puts_in log) ∷ []) streams
+list_joins : (log told : Log) (streams : List Rows) → Saw told log → changes_in log ≤ changes_in told → Pairwise (FetchedAt told) (Tables (changes_in log) ∷ []) streams
     → flat_map (λ (rows : Rows). rows) streams ≡ (tables_listed (database_of log)).rows
 list_joins log told [] seen fits f = absurd f
 list_joins log told (s ∷ []) seen fits f = append-nil s ∙ listed log told s seen fits f.0
@@ -149,10 +149,10 @@ list_joins log told (s ∷ (other ∷ ss)) seen fits f = absurd f.1
 pub joined : Joined
 joined told log payload parts (rows_of text) info handles streams answer right seen fits given answers fetched =
     let q : Sentence = right.right.0 in
-    let mine : handles ≡ map (query_at (puts_in log) text) (ranges_asked q (database_of log) parts) = same_ok (handles_in info) handles right.handles given right.given ∙ right.right.2 in
+    let mine : handles ≡ map (query_at (changes_in log) text) (ranges_asked q (database_of log) parts) = same_ok (handles_in info) handles right.handles given right.given ∙ right.right.2 in
     let same : q ≡ answers.0 = one_sentence text q answers.0 right.right.1.says answers.1.says in
     streams_join log told text q (ranges_asked q (database_of log) parts) streams seen fits right.right.1 (subst (λ hs. Pairwise (FetchedAt told) hs streams) mine fetched)
     ∙ ranges_whole q (database_of log) parts ∙ ap (λ (s : Sentence). meaning s (database_of log) 0 (first_rows (database_of log) s)) same ∙ sym (ap (λ (t : Table). t.rows) answers.2)
 joined told log payload parts tables info handles streams answer right seen fits given answers fetched =
-    let mine : handles ≡ Tables (puts_in log) ∷ [] = same_ok (handles_in info) handles right.handles given right.given ∙ right.right in
+    let mine : handles ≡ Tables (changes_in log) ∷ [] = same_ok (handles_in info) handles right.handles given right.given ∙ right.right in
     list_joins log told streams seen fits (subst (λ hs. Pairwise (FetchedAt told) hs streams) mine fetched) ∙ sym (ap (λ (t : Table). t.rows) answers)

@@ -4,9 +4,9 @@ use Rattle.std.specs.Prelude.{IsOk}
 use Rattle.scan_base.specs.declared.fault.Fault.{Fault}
 use Rattle.scan_base.specs.declared.fault.Fault.TheVariants.{OutOfMemory}
 use Rattle.scan_base.specs.Reading.{RefusesFirst}
-use Rattle.table_versions.specs.Database.{Put}
+use Rattle.table_versions.specs.Database.{Change}
 use Rattle.version_log.specs.Expiry.{IsExpired}
-use Rattle.version_log.specs.Log.{Log, added, expired, puts_in, after_log}
+use Rattle.version_log.specs.Log.{Log, added, expired, changes_in, after_log}
 use Rattle.flight_info.proofs.Results.{first_for}
 use Rattle.flight_info.specs.Replies.{ReplyAt}
 use Rattle.flight_core.specs.Asked.{Asked}
@@ -21,7 +21,7 @@ never_refused : {X : Type 0} (number : ℕ) (due : Result X Fault) → IsOk due 
 never_refused number (Ok x) ok = tt
 never_refused number (Err cause) ok = let no = ok in cc
 
-pub put_alone : (old new : Log) (looks asks more number : ℕ) (made : Put) → more ≡ asks + 1 → new ≡ old ++ added made ∷ [] → IsOk (after_log old made) → number ≡ puts_in new
+pub put_alone : (old new : Log) (looks asks more number : ℕ) (made : Change) → more ≡ asks + 1 → new ≡ old ++ added made ∷ [] → IsOk (after_log old made) → number ≡ changes_in new
     → Puts alone (Ok number) (lone_seat old looks asks) made (lone_seat new looks more)
 put_alone old new looks asks more number made asked is accepts count = record {
   log = old;
@@ -35,7 +35,7 @@ put_alone old new looks asks more number made asked is accepts count = record {
   asks = asked;
 }
 
-pub refused_alone : (fault : Fault) (old new : Log) (looks asks more : ℕ) (made : Put) → more ≡ asks + 1 → (new ≡ old) × (fault ≢ OutOfMemory → after_log old made ≡ Err fault)
+pub refused_alone : (fault : Fault) (old new : Log) (looks asks more : ℕ) (made : Change) → more ≡ asks + 1 → (new ≡ old) × (fault ≢ OutOfMemory → after_log old made ≡ Err fault)
     → RefusesFirst {X = Unit {0}} (Err fault) (after_log old made) → Puts alone (Err fault) (lone_seat old looks asks) made (lone_seat new looks more)
 refused_alone fault old new looks asks more made asked err first = record {
   log = old;

@@ -8,7 +8,7 @@ use Rattle.table_versions.specs.Database.{Database}
 use Rattle.flight_info.specs.Infos.{rows_wanted, tables_wanted, schema_wanted, InfoAt, SchemaAt}
 use Rattle.flight_info.specs.Payloads.{Payload}
 use Rattle.flight_info.specs.Replies.{refusal}
-use Rattle.version_log.specs.Log.{Log, database_of, puts_in}
+use Rattle.version_log.specs.Log.{Log, database_of, changes_in}
 use Rattle.flight_core.specs.Asked.{info, tables, schema}
 use Rattle.flight_core.specs.Machine.{StepOn}
 use Rattle.flight_core.specs.Refusals.{RefusedBy}
@@ -22,10 +22,10 @@ schema_missed database (Err cause) fault is = (refl, ap Some is)
 schema_missed database (Ok wanted) fault is = (refl, λ other. absurd (other is))
 
 pub info_refused : (log : Log) (payload : Payload) (parts : ℕ) (fault : Fault) → RefusedBy (rows_wanted payload) fault → StepOn log (info payload parts) (refusal fault) log
-info_refused log payload parts fault is = (refl, info_missed (database_of log) (puts_in log) payload parts (rows_wanted payload) fault is)
+info_refused log payload parts fault is = (refl, info_missed (database_of log) (changes_in log) payload parts (rows_wanted payload) fault is)
 
 pub tables_refused : (log : Log) (payload : Payload) (parts : ℕ) (fault : Fault) → RefusedBy (tables_wanted payload) fault → StepOn log (tables payload parts) (refusal fault) log
-tables_refused log payload parts fault is = (refl, info_missed (database_of log) (puts_in log) payload parts (tables_wanted payload) fault is)
+tables_refused log payload parts fault is = (refl, info_missed (database_of log) (changes_in log) payload parts (tables_wanted payload) fault is)
 
 pub schema_refused : (log : Log) (payload : Payload) (fault : Fault) → RefusedBy (schema_wanted payload) fault → StepOn log (schema payload) (refusal fault) log
 schema_refused log payload fault is = (refl, schema_missed (database_of log) (schema_wanted payload) fault is)

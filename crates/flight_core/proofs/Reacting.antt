@@ -5,17 +5,19 @@ use Rattle.std.specs.Prelude.{IsOk}
 use Rattle.std.proofs.lemmas.List.Elements.{All-push}
 use Rattle.scan_base.specs.declared.fault.Fault.{Fault}
 use Rattle.scan_base.specs.declared.fault.Fault.TheVariants.{OutOfMemory}
-use Rattle.table_versions.specs.Database.{Put}
+use Rattle.table_versions.specs.Database.{Put, Change, putting, dropping}
+use Rattle.table_versions.specs.Table.{Name}
+use Rattle.flight_proto.specs.Drop.{drop_of, version_bytes}
 use Rattle.flight_proto.specs.Expiry.{expiry_of, floor_bytes}
 use Rattle.flight_info.specs.Payloads.{Payload}
 use Rattle.flight_info.specs.Replies.{ReplyAt, refusal}
-use Rattle.version_log.specs.Log.{Log, added, expired, puts_of, Begins}
-use Rattle.version_log.proofs.Logs.{puts_of-added, puts_of-expired}
+use Rattle.version_log.specs.Log.{Log, added, expired, changes_of, after_log, Begins}
+use Rattle.version_log.proofs.Logs.{changes_of-added, changes_of-expired}
 use Rattle.flight_core.specs.declared.answer.Answer.{Answer}
-use Rattle.flight_core.specs.declared.answer.Answer.TheVariants.{Whole, Accepted, Floor, Stream}
+use Rattle.flight_core.specs.declared.answer.Answer.TheVariants.{Whole, Accepted, Floor, Dropped, Stream}
 use Rattle.flight_core.specs.StepAnswer.{fault_in, IsReplyOf, ReactsBy}
-use Rattle.flight_core.specs.Asked.{Asked, put, info, tables, schema, fetch, expire}
-use Rattle.flight_core.specs.Machine.{PutStep, ReplyTo}
+use Rattle.flight_core.specs.Asked.{Asked, put, info, tables, schema, fetch, expire, remove}
+use Rattle.flight_core.specs.Machine.{PutStep, DropStep, database_dropped, ReplyTo}
 use Rattle.flight_core.specs.PlacedEntries.{Placed, log_in}
 use Rattle.flight_core.specs.Puts.{put_glance, put_said}
 use Rattle.flight_core.specs.Reacts.{StartsAt, Looks, Asks, Goes, MayAsk, Reacts}
@@ -36,6 +38,7 @@ starts_begins (Ok (tables payload parts)) seen log b = b
 starts_begins (Ok (schema payload)) seen log b = b
 starts_begins (Ok (fetch ticket workers)) seen log b = b
 starts_begins (Ok (expire action)) seen log b = inr b
+starts_begins (Ok (remove action)) seen log b = inr b
 starts_begins (Err fault) seen log b = b
 
 -- by what changes nothing, to the log that the seat has then seen
@@ -106,6 +109,7 @@ pub begun : (answer : Answer) (reply : ReplyAt) → IsReplyOf answer reply → r
 begun (Whole whole) reply is other = rw is at other
 begun (Accepted payloads version) reply is other = λ e. let no = e in cc
 begun (Floor floor) reply is other = λ e. let no = e in cc
+begun (Dropped version) reply is other = λ e. let no = e in cc
 begun (Stream stream) reply is other = λ e. let no = e in cc
 
 abbrev pub reacted : (moves : Moves) (asked : Result Asked Fault) (old new : Seat) (answer : Answer) (reply : ReplyAt) (r : ReactsBy moves asked old answer new) → ReplyTo asked r.log reply r.after → IsReplyOf answer reply
@@ -152,7 +156,7 @@ said_ok : (payloads : List Payload) (made : Put) → put_said payloads ≡ Ok ma
 said_ok payloads made said = rw said refl
 
 -- or the backend refused it
-pub put_refused : (moves : Moves) (old new : Seat) (payloads : List Payload) (made : Put) (fault : Fault) → Puts moves (Err fault) old made new → put_said payloads ≡ Ok made
+pub put_refused : (moves : Moves) (old new : Seat) (payloads : List Payload) (made : Put) (fault : Fault) → Puts moves (Err fault) old (putting made) new → put_said payloads ≡ Ok made
     → ReactsBy moves (Ok (put payloads)) old (Whole (refusal fault)) new
 put_refused moves old new payloads made fault p said = record {
   log = p.log;
@@ -171,29 +175,29 @@ put_refused moves old new payloads made fault p said = record {
 }
 
 -- or made it
-pub put_made : (moves : Moves) (version : ℕ) (old new : Seat) (payloads : List Payload) (made : Put) (answers : Vec (List ℕ) Global) (p : Puts moves (Ok version) old made new) → put_said payloads ≡ Ok made
+pub put_made : (moves : Moves) (version : ℕ) (old new : Seat) (payloads : List Payload) (made : Put) (answers : Vec (List ℕ) Global) (p : Puts moves (Ok version) old (putting made) new) → put_said payloads ≡ Ok made
     → PutStep p.log payloads answers.items None p.next → ReactsBy moves (Ok (put payloads)) old (Accepted answers version) new
 put_made moves version old new payloads made answers p said step = record {
   log = p.log;
   after = p.next;
   answered = (step, p.at.3);
-  goes = record { moved = p.moved; starts = inl (said_ok payloads made said); learnt = p.learnt; kept = p.kept; made = (added made ∷ [], p.at.1, p.at.2) };
+  goes = record { moved = p.moved; starts = inl (said_ok payloads made said); learnt = p.learnt; kept = p.kept; made = (added (putting made) ∷ [], p.at.1, p.at.2) };
   looked = λ other looks. absurd (looks_not payloads looks);
   asks = λ other asks. one_more_ask old new p.asks;
   may_ask = asks_once (Ok (put payloads)) old new (said_ok payloads made said) p.asks;
 }
 
--- the puts of what a seat made, where it made no more
-pub same_puts : (P : Put → Type 0) (old new : List Placed) → new ≡ old → All P (puts_of (log_in old)) → All P (puts_of (log_in new))
-same_puts P old new same puts = subst (λ (made : List Placed). All P (puts_of (log_in made))) (sym same) puts
+-- the changes of what a seat made, where it made no more
+pub same_puts : (P : Change → Type 0) (old new : List Placed) → new ≡ old → All P (changes_of (log_in old)) → All P (changes_of (log_in new))
+same_puts P old new same puts = subst (λ (made : List Placed). All P (changes_of (log_in made))) (sym same) puts
 
 -- or one more
-pub more_puts : (P : Put → Type 0) (old new : List Placed) (place : ℕ) (made : Put) → new ≡ old ++ (place, added made) ∷ [] → P made
-    → All P (puts_of (log_in old)) → All P (puts_of (log_in new))
+pub more_puts : (P : Change → Type 0) (old new : List Placed) (place : ℕ) (made : Change) → new ≡ old ++ (place, added made) ∷ [] → P made
+    → All P (changes_of (log_in old)) → All P (changes_of (log_in new))
 more_puts P old new place made is accepts puts =
-    let before : List Put = puts_of (log_in old) in
-    let all : puts_of (log_in new) ≡ before ++ made ∷ [] = ap puts_of (log_in-more old new place (added made ∷ []) is) ∙ puts_of-added (log_in old) made in
-    subst (λ (some : List Put). All P some) (sym all) (All-push P before made puts accepts)
+    let before : List Change = changes_of (log_in old) in
+    let all : changes_of (log_in new) ≡ before ++ made ∷ [] = ap changes_of (log_in-more old new place (added made ∷ []) is) ∙ changes_of-added (log_in old) made in
+    subst (λ (some : List Change). All P some) (sym all) (All-push P before made puts accepts)
 
 -- ---- expiries
 
@@ -239,11 +243,74 @@ expiry_refused moves old new action version fault e said = record {
   may_ask = asks_once (Ok (expire action)) old new (number_read action version said) e.asks;
 }
 
--- a mark is no put
-pub marked_puts : (P : Put → Type 0) (result : Result ℕ Fault) (old new : Seat) (log : Log) (version : ℕ) → MarksAt result old log version new
-    → All P (puts_of (log_in old.made)) → All P (puts_of (log_in new.made))
+-- a mark is no change
+pub marked_puts : (P : Change → Type 0) (result : Result ℕ Fault) (old new : Seat) (log : Log) (version : ℕ) → MarksAt result old log version new
+    → All P (changes_of (log_in old.made)) → All P (changes_of (log_in new.made))
 marked_puts P (Ok floor) old new log version marks puts =
-    let all : puts_of (log_in new.made) ≡ puts_of (log_in old.made)
-    = ap puts_of (log_in-more old.made new.made (length log) (expired version ∷ []) marks) ∙ puts_of-expired (log_in old.made) version in
-    subst (λ (some : List Put). All P some) (sym all) puts
+    let all : changes_of (log_in new.made) ≡ changes_of (log_in old.made)
+    = ap changes_of (log_in-more old.made new.made (length log) (expired version ∷ []) marks) ∙ changes_of-expired (log_in old.made) version in
+    subst (λ (some : List Change). All P some) (sym all) puts
 marked_puts P (Err fault) old new log version same puts = same_puts P old.made new.made same puts
+
+-- ---- drops
+
+drop_looks_not : (action : Payload) → Looks (Ok (remove action)) → ⊥
+drop_looks_not action looks = looks
+
+drop_ok : (action : Payload) (name : Name) → drop_of action ≡ Ok name → IsOk (drop_of action)
+drop_ok action name said = rw said refl
+
+-- an action that does not read is refused for its own fault
+pub drop_unsaid : (log : Log) (action : Payload) (fault : Fault) → drop_of action ≡ Err fault → RefusedFor (drop_of action) (database_dropped log action) fault
+drop_unsaid log action fault unread = rw unread refl
+
+-- one that reads for that of its table, or for want of memory
+drop_due : (log : Log) (action : Payload) (name : Name) (fault : Fault) → drop_of action ≡ Ok name → (fault ≢ OutOfMemory → after_log log (dropping name) ≡ Err fault)
+    → RefusedFor (drop_of action) (database_dropped log action) fault
+drop_due log action name fault said is = rw said is
+
+-- its action does not read
+pub drop_unread : (moves : Moves) → ((s : Seat) → moves s s.log s.log s) → (s : Seat) (action : Payload) (fault : Fault) → drop_of action ≡ Err fault
+    → ReactsBy moves (Ok (remove action)) s (Whole (refusal fault)) s
+drop_unread moves stays s action fault unread =
+    reacts_unseen moves stays (Ok (remove action)) s (refusal fault) (refl, refl, drop_unsaid s.log action fault unread) (drop_looks_not action)
+    (λ other asks. let no = rw unread at asks in cc)
+
+-- memory is refused for its name
+pub drop_tired : (moves : Moves) → ((s : Seat) → moves s s.log s.log s) → (s : Seat) (action : Payload) (name : Name) → drop_of action ≡ Ok name
+    → ReactsBy moves (Ok (remove action)) s (Whole (refusal OutOfMemory)) s
+drop_tired moves stays s action name said =
+    reacts_unseen moves stays (Ok (remove action)) s (refusal OutOfMemory)
+    (refl, refl, drop_due s.log action name OutOfMemory said (λ other. absurd (other refl))) (drop_looks_not action) (λ other asks. absurd (other refl))
+
+-- the backend refused it
+pub drop_refused : (moves : Moves) (old new : Seat) (action : Payload) (name : Name) (fault : Fault) → Puts moves (Err fault) old (dropping name) new → drop_of action ≡ Ok name
+    → ReactsBy moves (Ok (remove action)) old (Whole (refusal fault)) new
+drop_refused moves old new action name fault p said = record {
+  log = p.log;
+  after = p.next;
+  answered = (p.at.0, refl, drop_due p.log action name fault said p.at.2);
+  goes = record {
+    moved = p.moved;
+    starts = inl (drop_ok action name said);
+    learnt = p.learnt;
+    kept = p.kept;
+    made = ([], p.at.0 ∙ sym (append-nil p.log), p.at.1 ∙ sym (append-nil old.made));
+  };
+  looked = λ other looks. absurd (drop_looks_not action looks);
+  asks = λ other asks. one_more_ask old new p.asks;
+  may_ask = asks_once (Ok (remove action)) old new (drop_ok action name said) p.asks;
+}
+
+-- or made it
+pub drop_made : (moves : Moves) (version : ℕ) (old new : Seat) (action : Payload) (name : Name) → Puts moves (Ok version) old (dropping name) new → drop_of action ≡ Ok name
+    → ReactsBy moves (Ok (remove action)) old (Dropped version) new
+drop_made moves version old new action name p said = record {
+  log = p.log;
+  after = p.next;
+  answered = ((name, said, p.at.0, p.at.1, ap (λ (n : ℕ). version_bytes n ∷ []) p.at.3), p.at.3);
+  goes = record { moved = p.moved; starts = inl (drop_ok action name said); learnt = p.learnt; kept = p.kept; made = (added (dropping name) ∷ [], p.at.1, p.at.2) };
+  looked = λ other looks. absurd (drop_looks_not action looks);
+  asks = λ other asks. one_more_ask old new p.asks;
+  may_ask = asks_once (Ok (remove action)) old new (drop_ok action name said) p.asks;
+}

@@ -9,7 +9,7 @@ use Rattle.flight_proto.specs.PutResult.{update_bytes, rows_put_bytes}
 use Rattle.proto_wire.specs.Calls.{chunk_entry, varint_entry}
 use Rattle.proto_wire.specs.Writing.{field_spelling}
 use Rattle.scan_base.specs.Limits.{most_message_bytes, most_rows}
-use Rattle.table_versions.specs.Database.{Database, Put, after}
+use Rattle.table_versions.specs.Database.{Database, Put, putting, after}
 use Rattle.table_versions.proofs.Accepted.{accepted_puts_are_few}
 use Rattle.flight_info.specs.Payloads.{Payload}
 use Rattle.flight_info.proofs.Sizes.{short_number, short_chunk, short_set}
@@ -19,14 +19,14 @@ use Rattle.version_log.specs.Log.{Log, added, above_floor, database_of, after_lo
 use Rattle.flight_core.specs.Machine.{PutStep, database_put}
 use Rattle.flight_core.proofs.Arriving.{behind, refused_on, glance_good}
 
-few_where_ok : (old : Database) (n : ℕ) (put : Put) (result : Result Database Fault) → after old n put ≡ result → IsOk result → length put.rows ≤ most_rows
+few_where_ok : (old : Database) (n : ℕ) (put : Put) (result : Result Database Fault) → after old n (putting put) ≡ result → IsOk result → length put.rows ≤ most_rows
 few_where_ok old n put (Ok new) e ok = accepted_puts_are_few old n put new e
 few_where_ok old n put (Err fault) e ok = let no = ok in cc
 
-pub accepted_reply : (log new : Log) (payloads answers : List Payload) (put : Put) (rows : ℕ) → put_said payloads ≡ Ok put → IsOk (after_log log put)
-    → new ≡ log ++ added put ∷ [] → rows ≡ min (length put.rows) (2 ^ 64 - 1) → answers ≡ rows_put_bytes (pos (min rows most_rows)) ∷ [] → PutStep log payloads answers None new
+pub accepted_reply : (log new : Log) (payloads answers : List Payload) (put : Put) (rows : ℕ) → put_said payloads ≡ Ok put → IsOk (after_log log (putting put))
+    → new ≡ log ++ added (putting put) ∷ [] → rows ≡ min (length put.rows) (2 ^ 64 - 1) → answers ≡ rows_put_bytes (pos (min rows most_rows)) ∷ [] → PutStep log payloads answers None new
 accepted_reply log new payloads answers put rows said ok made counted is =
-    let few = few_where_ok (database_of log) (above_floor log) put (after_log log put) refl ok in
+    let few = few_where_ok (database_of log) (above_floor log) put (after_log log (putting put)) refl ok in
     let all : min rows most_rows ≡ length put.rows = omega (arith, few, counted) in
     (put, said, ok, made, is ∙ ap (λ (n : ℕ). rows_put_bytes (pos n) ∷ []) all)
 
@@ -39,7 +39,7 @@ unread_reply log payloads fault is = refused_on (put_glance payloads) (put_said 
 
 -- a put that is read and is refused by its fault, or for want of memory
 pub refused_reply : (log : Log) (payloads : List Payload) (put : Put) (fault : Fault) → put_said payloads ≡ Ok put
-    → (fault ≢ OutOfMemory → after_log log put ≡ Err fault) → RefusedFor (put_glance payloads) (database_put log payloads) fault
+    → (fault ≢ OutOfMemory → after_log log (putting put) ≡ Err fault) → RefusedFor (put_glance payloads) (database_put log payloads) fault
 refused_reply log payloads put fault said is =
     behind (put_glance payloads) (database_put log payloads) fault (glance_good payloads put said) (λ other. rw said (is other))
 

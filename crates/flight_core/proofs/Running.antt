@@ -7,18 +7,20 @@ use Rattle.scan_base.specs.Limits.{most_query_bytes}
 use Rattle.scan_base.specs.Reading.{◌>>=◌, demand}
 use Rattle.endpoint_split.specs.Handle.{HandleAt}
 use Rattle.ipc_batch.specs.SaidRows.{Rows}
-use Rattle.table_versions.specs.Database.{Database, Put}
-use Rattle.version_log.specs.Log.{Log, added, expired, puts_of, puts_in, database_of, Begins}
-use Rattle.version_log.proofs.Logs.{begun_puts}
+use Rattle.table_versions.specs.Database.{Database, Put, putting, dropping}
+use Rattle.table_versions.specs.Table.{Name}
+use Rattle.version_log.specs.Log.{Log, added, expired, changes_of, changes_in, database_of, Begins}
+use Rattle.version_log.proofs.Logs.{begun_changes}
 use Rattle.flight_info.specs.Payloads.{Payload}
 use Rattle.flight_core.specs.Puts.{put_said}
-use Rattle.flight_core.specs.Asked.{Asked, put, info, tables, schema, fetch, expire}
+use Rattle.flight_core.specs.Asked.{Asked, put, info, tables, schema, fetch, expire, remove}
 use Rattle.flight_info.specs.Replies.{ReplyAt, whole}
+use Rattle.flight_proto.specs.Drop.{drop_of}
 use Rattle.flight_proto.specs.Expiry.{expiry_of}
 use Rattle.flight_proto.specs.FlightInfo.{InfoSaid, info_of}
 use Rattle.flight_proto.specs.InfoCommand.{InfoCommand, wanted_in, rows_of, tables as list}
 use Rattle.flight_info.specs.Infos.{only_rows, only_tables, short_enough, RightInfo, InfoAt}
-use Rattle.flight_core.specs.Machine.{PutStep, ExpireStep, StepOn, Run}
+use Rattle.flight_core.specs.Machine.{PutStep, ExpireStep, DropStep, StepOn, Run}
 use Rattle.flight_core.specs.Headline.{FetchedAt, Fetched, Informed, RunsMeetHeadline, Pairwise}
 use Rattle.flight_info.proofs.Meaning.{same_ok}
 use Rattle.flight_core.proofs.Runs.{At, run_at}
@@ -36,12 +38,16 @@ pub begins_same : (a b : Log) → b ≡ a → Begins a b
 begins_same a b e = ([], e ∙ sym (append-nil a))
 
 put_grows : (log : Log) (payloads answers : List Payload) (fault : Option Fault) (after : Log) → PutStep log payloads answers fault after → Begins log after
-put_grows log payloads answers None after s = (added s.0 ∷ [], s.3)
+put_grows log payloads answers None after s = (added (putting s.0) ∷ [], s.3)
 put_grows log payloads answers (Some f) after s = begins_same log after s.0
 
 expiry_grows : (log : Log) (action : Payload) (answers : List Payload) (fault : Option Fault) (after : Log) → ExpireStep log action answers fault after → Begins log after
 expiry_grows log action answers None after s = (expired s.0 ∷ [], s.3)
 expiry_grows log action answers (Some f) after s = begins_same log after s.0
+
+drop_grows : (log : Log) (action : Payload) (answers : List Payload) (fault : Option Fault) (after : Log) → DropStep log action answers fault after → Begins log after
+drop_grows log action answers None after s = (added (dropping s.0) ∷ [], s.3)
+drop_grows log action answers (Some f) after s = begins_same log after s.0
 
 pub step_grows : (log : Log) (a : Asked) (r : ReplyAt) (after : Log) → StepOn log a r after → Begins log after
 step_grows log (put payloads) r after s = put_grows log payloads r.payloads r.fault after s
@@ -50,6 +56,7 @@ step_grows log (tables payload parts) r after s = begins_same log after s.0
 step_grows log (schema payload) r after s = begins_same log after s.0
 step_grows log (fetch ticket workers) r after s = begins_same log after s.0
 step_grows log (expire action) r after s = expiry_grows log action r.payloads r.fault after s
+step_grows log (remove action) r after s = drop_grows log action r.payloads r.fault after s
 
 run_grows : (old : Log) (asked : List Asked) (replies : List ReplyAt) (new : Log) → Run old asked replies new → Begins old new
 run_grows old [] [] new run = begins_same old new run
@@ -60,12 +67,16 @@ run_grows old (a ∷ as') [] new run = absurd run
 -- ---- one log after a step
 
 put_once : (log : Log) (payloads answers : List Payload) (fault : Option Fault) (a b : Log) → PutStep log payloads answers fault a → PutStep log payloads answers fault b → a ≡ b
-put_once log payloads answers None a b p q = p.3 ∙ ap (λ (x : Put). log ++ added x ∷ []) (same_ok (put_said payloads) p.0 q.0 p.1 q.1) ∙ sym q.3
+put_once log payloads answers None a b p q = p.3 ∙ ap (λ (x : Put). log ++ added (putting x) ∷ []) (same_ok (put_said payloads) p.0 q.0 p.1 q.1) ∙ sym q.3
 put_once log payloads answers (Some f) a b p q = p.0 ∙ sym q.0
 
 expiry_once : (log : Log) (action : Payload) (answers : List Payload) (fault : Option Fault) (a b : Log) → ExpireStep log action answers fault a → ExpireStep log action answers fault b → a ≡ b
 expiry_once log action answers None a b p q = p.3 ∙ ap (λ (n : ℕ). log ++ expired n ∷ []) (same_ok (expiry_of action) p.0 q.0 p.1 q.1) ∙ sym q.3
 expiry_once log action answers (Some f) a b p q = p.0 ∙ sym q.0
+
+drop_once : (log : Log) (action : Payload) (answers : List Payload) (fault : Option Fault) (a b : Log) → DropStep log action answers fault a → DropStep log action answers fault b → a ≡ b
+drop_once log action answers None a b p q = p.3 ∙ ap (λ (name : Name). log ++ added (dropping name) ∷ []) (same_ok (drop_of action) p.0 q.0 p.1 q.1) ∙ sym q.3
+drop_once log action answers (Some f) a b p q = p.0 ∙ sym q.0
 
 step_once : (log : Log) (s : Asked) (r : ReplyAt) (a b : Log) → StepOn log s r a → StepOn log s r b → a ≡ b
 step_once log (put payloads) r a b p q = put_once log payloads r.payloads r.fault a b p q
@@ -74,6 +85,7 @@ step_once log (tables payload parts) r a b p q = p.0 ∙ sym q.0
 step_once log (schema payload) r a b p q = p.0 ∙ sym q.0
 step_once log (fetch ticket workers) r a b p q = p.0 ∙ sym q.0
 step_once log (expire action) r a b p q = expiry_once log action r.payloads r.fault a b p q
+step_once log (remove action) r a b p q = drop_once log action r.payloads r.fault a b p q
 
 run_once : (old : Log) (asked : List Asked) (replies : List ReplyAt) (a b : Log) → Run old asked replies a → Run old asked replies b → a ≡ b
 run_once old [] [] a b p q = p ∙ sym q
@@ -147,20 +159,20 @@ list_same list other e = short_same list other e
 
 -- an info that was answered by a step is right at the step's log
 pub info_right : (log : Log) (payload said : Payload) (parts : ℕ) (wanted : InfoCommand) (told : InfoSaid) (one : Asked) → (one ≡ info payload parts) ⊎ (one ≡ tables payload parts)
-    → wanted_in payload ≡ Ok wanted → info_of said ≡ Ok told → (after : Log) → StepOn log one (whole (said ∷ [])) after → RightInfo (database_of log) (puts_in log) payload parts wanted told
+    → wanted_in payload ≡ Ok wanted → info_of said ≡ Ok told → (after : Log) → StepOn log one (whole (said ∷ [])) after → RightInfo (database_of log) (changes_in log) payload parts wanted told
 info_right log payload said parts wanted told one (inl is) wants read after step =
     let here : StepOn log (info payload parts) (whole (said ∷ [])) after = subst (λ (a : Asked). StepOn log a (whole (said ∷ [])) after) is step in
-    looked (database_of log) (puts_in log) payload said parts wanted told (only_rows wanted >>= short_enough) read (rows_same wanted)
-    (subst (λ (w : Result InfoCommand Fault). InfoAt (database_of log) (puts_in log) payload parts ((w >>= only_rows) >>= short_enough) (said ∷ []) None) wants here.1)
+    looked (database_of log) (changes_in log) payload said parts wanted told (only_rows wanted >>= short_enough) read (rows_same wanted)
+    (subst (λ (w : Result InfoCommand Fault). InfoAt (database_of log) (changes_in log) payload parts ((w >>= only_rows) >>= short_enough) (said ∷ []) None) wants here.1)
 info_right log payload said parts wanted told one (inr is) wants read after step =
     let here : StepOn log (tables payload parts) (whole (said ∷ [])) after = subst (λ (a : Asked). StepOn log a (whole (said ∷ [])) after) is step in
-    looked (database_of log) (puts_in log) payload said parts wanted told (only_tables wanted >>= short_enough) read (list_same wanted)
-    (subst (λ (w : Result InfoCommand Fault). InfoAt (database_of log) (puts_in log) payload parts ((w >>= only_tables) >>= short_enough) (said ∷ []) None) wants here.1)
+    looked (database_of log) (changes_in log) payload said parts wanted told (only_tables wanted >>= short_enough) read (list_same wanted)
+    (subst (λ (w : Result InfoCommand Fault). InfoAt (database_of log) (changes_in log) payload parts ((w >>= only_tables) >>= short_enough) (said ∷ []) None) wants here.1)
 
 -- the last log goes on from the info's, at which the info is right
 record Right (last log : Log) (payload : Payload) (parts : ℕ) (wanted : InfoCommand) (told : InfoSaid) : Type 0 where
   grows : Begins log last
-  right : RightInfo (database_of log) (puts_in log) payload parts wanted told
+  right : RightInfo (database_of log) (changes_in log) payload parts wanted told
 
 informed_right : (asked : List Asked) (replies : List ReplyAt) (last log : Log) (wanted : InfoCommand) (handles : List HandleAt) → Run [] asked replies last
     → (i : Informed asked replies log wanted handles) → Right last log i.payload i.parts wanted i.told
@@ -178,8 +190,8 @@ informed_right asked replies last log wanted handles run i = by i.event
     by (inl e) = right (info i.payload i.parts) (run_at [] asked replies last i.place (info i.payload i.parts) (whole (i.said ∷ [])) run e i.reply) (inl refl)
     by (inr e) = right (tables i.payload i.parts) (run_at [] asked replies last i.place (tables i.payload i.parts) (whole (i.said ∷ [])) run e i.reply) (inr refl)
 
-longer : (log last : Log) → Begins log last → puts_in log ≤ puts_in last
-longer log last b = omega (arith, ap length (begun_puts log last b), length-append (puts_of log) (puts_of b.0))
+longer : (log last : Log) → Begins log last → changes_in log ≤ changes_in last
+longer log last b = omega (arith, ap length (begun_changes log last b), length-append (changes_of log) (changes_of b.0))
 
 pub runs_meet_headline : RunsMeetHeadline
 runs_meet_headline asked replies last run log wanted handles streams answer i answers fetched =

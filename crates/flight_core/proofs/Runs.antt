@@ -6,20 +6,20 @@ use Rattle.std.proofs.lemmas.List.{take_more, take_all, map-append}
 use Rattle.scan_base.specs.declared.fault.Fault.{Fault}
 use Rattle.flight_core.specs.declared.event.Event.{Event}
 use Rattle.flight_info.specs.Payloads.{Payload}
-use Rattle.flight_core.specs.Asked.{Asked, put, info, tables, schema, fetch, expire}
+use Rattle.flight_core.specs.Asked.{Asked, put, info, tables, schema, fetch, expire, remove}
 use Rattle.flight_info.specs.Replies.{ReplyAt}
 use Rattle.flight_core.specs.Event.{asked_in}
-use Rattle.table_versions.specs.Database.{Database, Put}
-use Rattle.version_log.specs.Log.{Log, added, after_log, IsLog, puts_of}
+use Rattle.table_versions.specs.Database.{Database, Change, putting, dropping}
+use Rattle.version_log.specs.Log.{Log, added, after_log, IsLog, changes_of}
 use Rattle.version_log.proofs.Logs.{is_log-added, is_log-expired}
-use Rattle.flight_core.specs.Machine.{PutStep, ExpireStep, StepOn, Run}
+use Rattle.flight_core.specs.Machine.{PutStep, ExpireStep, DropStep, StepOn, Run}
 use Rattle.flight_core.specs.Laws.{RefusalsLeaveNothing}
 use Rattle.flight_info.proofs.Results.{same_some}
-use Rattle.table_versions.specs.Valid.{IsPut}
+use Rattle.table_versions.specs.Valid.{IsChange}
 
 -- each put of a log comes with one column or more, and with rows of their types
-abbrev pub ArePuts : Log → Type 0
-ArePuts log = All IsPut (puts_of log)
+abbrev pub AreChanges : Log → Type 0
+AreChanges log = All IsChange (changes_of log)
 
 pub run_joins : (old : Log) (asked : List Asked) (replies : List ReplyAt) (mid : Log) (more : List Asked) (others : List ReplyAt) (new : Log)
     → Run old asked replies mid → Run mid more others new → Run old (asked ++ more) (replies ++ others) new
@@ -71,6 +71,10 @@ expiry_refused : (log : Log) (action : Payload) (answers : List Payload) (fault 
 expiry_refused log action answers None f after e s = absurd cc
 expiry_refused log action answers (Some g) f after e s = s.0
 
+drop_refused : (log : Log) (action : Payload) (answers : List Payload) (fault : Option Fault) (f : Fault) (after : Log) → fault ≡ Some f → DropStep log action answers fault after → after ≡ log
+drop_refused log action answers None f after e s = absurd cc
+drop_refused log action answers (Some g) f after e s = s.0
+
 step_refused : (log : Log) (one : Asked) (r : ReplyAt) (f : Fault) (after : Log) → r.fault ≡ Some f → StepOn log one r after → after ≡ log
 step_refused log (put payloads) r f after e s = put_refused log payloads r.payloads r.fault f after e s
 step_refused log (info payload parts) r f after e s = s.0
@@ -78,6 +82,7 @@ step_refused log (tables payload parts) r f after e s = s.0
 step_refused log (schema payload) r f after e s = s.0
 step_refused log (fetch ticket workers) r f after e s = s.0
 step_refused log (expire action) r f after e s = expiry_refused log action r.payloads r.fault f after e s
+step_refused log (remove action) r f after e s = drop_refused log action r.payloads r.fault f after e s
 
 pub refusals_leave_nothing : RefusalsLeaveNothing
 refusals_leave_nothing asked replies last run place one reply fault here answered refused =
@@ -85,10 +90,10 @@ refusals_leave_nothing asked replies last run place one reply fault here answere
     let same : at.after ≡ at.log = step_refused at.log one reply fault at.after refused at.step in
     rw (add-one place) (run_joins [] _ _ at.log _ _ last at.before (subst (λ (l : Log). Run l (drop (suc place) asked) (drop (suc place) replies) last) same at.behind))
 
--- ---- a run leaves accepted puts alone
+-- ---- a run leaves accepted changes alone
 
-put_is_log : (log : Log) (one : Put) (new : Log) → IsLog log → IsOk (after_log log one) → new ≡ log ++ added one ∷ [] → IsLog new
-put_is_log log one new is ok made = by (after_log log one) refl ok
+change_is_log : (log : Log) (one : Change) (new : Log) → IsLog log → IsOk (after_log log one) → new ≡ log ++ added one ∷ [] → IsLog new
+change_is_log log one new is ok made = by (after_log log one) refl ok
   where
     by : (result : Result Database Fault) → after_log log one ≡ result → IsOk result → IsLog new
     by (Ok database) accepted ok = subst (λ (l : Log). IsLog l) (sym made) (is_log-added log one database is accepted)
@@ -98,12 +103,16 @@ same_is_log : (log new : Log) → IsLog log → new ≡ log → IsLog new
 same_is_log log new is same = subst (λ (l : Log). IsLog l) (sym same) is
 
 put_step_is_log : (log : Log) (payloads answers : List Payload) (fault : Option Fault) (new : Log) → IsLog log → PutStep log payloads answers fault new → IsLog new
-put_step_is_log log payloads answers None new is s = put_is_log log s.0 new is s.2 s.3
+put_step_is_log log payloads answers None new is s = change_is_log log (putting s.0) new is s.2 s.3
 put_step_is_log log payloads answers (Some fault) new is s = same_is_log log new is s.0
 
 expiry_is_log : (log : Log) (action : Payload) (answers : List Payload) (fault : Option Fault) (new : Log) → IsLog log → ExpireStep log action answers fault new → IsLog new
 expiry_is_log log action answers None new is s = subst (λ (l : Log). IsLog l) (sym s.3) (is_log-expired log s.0 is)
 expiry_is_log log action answers (Some fault) new is s = same_is_log log new is s.0
+
+drop_is_log : (log : Log) (action : Payload) (answers : List Payload) (fault : Option Fault) (new : Log) → IsLog log → DropStep log action answers fault new → IsLog new
+drop_is_log log action answers None new is s = change_is_log log (dropping s.0) new is s.2 s.3
+drop_is_log log action answers (Some fault) new is s = same_is_log log new is s.0
 
 step_is_log : (log : Log) (one : Asked) (r : ReplyAt) (new : Log) → IsLog log → StepOn log one r new → IsLog new
 step_is_log log (put payloads) r new is s = put_step_is_log log payloads r.payloads r.fault new is s
@@ -112,6 +121,7 @@ step_is_log log (tables payload parts) r new is s = same_is_log log new is s.0
 step_is_log log (schema payload) r new is s = same_is_log log new is s.0
 step_is_log log (fetch ticket workers) r new is s = same_is_log log new is s.0
 step_is_log log (expire action) r new is s = expiry_is_log log action r.payloads r.fault new is s
+step_is_log log (remove action) r new is s = drop_is_log log action r.payloads r.fault new is s
 
 pub run_is_log : (old : Log) (asked : List Asked) (replies : List ReplyAt) (new : Log) → IsLog old → Run old asked replies new → IsLog new
 run_is_log old [] [] new is run = same_is_log old new is run

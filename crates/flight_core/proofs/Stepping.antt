@@ -4,7 +4,7 @@ use Rattle.scan_base.specs.declared.fault.Fault.{Fault}
 use Rattle.table_versions.specs.StoredTables.{PutAt, put_of}
 use Rattle.flight_info.specs.Payloads.{Payload}
 use Rattle.flight_core.specs.declared.operation.Operation.TheVariants as operation
-use Rattle.flight_core.specs.Asked.{Asked, put, info, tables, schema, fetch, expire}
+use Rattle.flight_core.specs.Asked.{Asked, put, info, tables, schema, fetch, expire, remove}
 use Rattle.flight_core.specs.Operation.{StandsFor}
 use Rattle.flight_core.specs.Puts.{put_glance, put_said}
 use Rattle.flight_core.specs.Refusals.{GivesBehind}
@@ -18,6 +18,7 @@ put_stands P read step (tables payload parts) stands = absurd stands
 put_stands P read step (schema payload) stands = absurd stands
 put_stands P read step (fetch ticket workers) stands = absurd stands
 put_stands P read step (expire action) stands = absurd stands
+put_stands P read step (remove action) stands = absurd stands
 
 -- and another one for what it asks
 pub asks_so : (P : Asked → Type 0) (asked one : Asked) → asked ≡ one → P one → P asked

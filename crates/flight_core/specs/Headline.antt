@@ -10,7 +10,7 @@ use Rattle.flight_core.specs.Asked.{Asked, info, tables, fetch}
 use Rattle.flight_info.specs.Replies.{ReplyAt, whole}
 use Rattle.flight_proto.specs.FlightInfo.{InfoSaid, info_of}
 use Rattle.flight_proto.specs.InfoCommand.{InfoCommand, wanted_in}
-use Rattle.version_log.specs.Log.{Log, puts_in, database_of, Begins}
+use Rattle.version_log.specs.Log.{Log, changes_in, database_of, Begins}
 use Rattle.flight_info.specs.Infos.{handle_asked, handles_in, RightInfo}
 use Rattle.flight_core.specs.Machine.{FetchIn, Run}
 use Rattle.flight_info.specs.QueryMeaning.{Answers}
@@ -93,8 +93,8 @@ pub record FetchedAt (told : Log) (handle : HandleAt) (rows : Rows) : Type 0 whe
 abbrev pub Joined : Type 0
 Joined = (told log : Log) (payload : Payload) (parts : ℕ) (wanted : InfoCommand) (given : InfoSaid)
     (handles : List HandleAt) (streams : List Rows) (answer : Table)
-    → RightInfo (database_of log) (puts_in log) payload parts wanted given
-    → Saw told log → puts_in log ≤ puts_in told
+    → RightInfo (database_of log) (changes_in log) payload parts wanted given
+    → Saw told log → changes_in log ≤ changes_in told
     → handles_in given ≡ Ok handles → Answers (database_of log) wanted answer
     → Pairwise (FetchedAt told) handles streams
     → flat_map (λ rows. rows) streams ≡ answer.rows

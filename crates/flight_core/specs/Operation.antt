@@ -3,7 +3,7 @@ use Rattle.std.specs.Prelude.{◌≡◌}
 use Rattle.table_versions.specs.StoredTables.{put_of}
 use Rattle.flight_core.specs.declared.operation.Operation.{Operation}
 use Rattle.flight_core.specs.declared.operation.Operation.TheVariants as operation
-use Rattle.flight_core.specs.Asked.{Asked, put, info, tables, schema, fetch, expire}
+use Rattle.flight_core.specs.Asked.{Asked, put, info, tables, schema, fetch, expire, remove}
 use Rattle.flight_core.specs.Puts.{put_glance, put_said}
 use Rattle.flight_core.specs.Refusals.{GivesBehind}
 
@@ -17,3 +17,4 @@ StandsFor (operation.Tables payload parts) asked = asked ≡ tables payload.now 
 StandsFor (operation.Schema payload) asked = asked ≡ schema payload.now
 StandsFor (operation.Fetch ticket workers) asked = asked ≡ fetch ticket.now workers
 StandsFor (operation.Expire action) asked = asked ≡ expire action.now
+StandsFor (operation.Drop action) asked = asked ≡ remove action.now

@@ -4,9 +4,9 @@ use Rattle.std.specs.Prelude.{Err}
 use Rattle.scan_base.specs.declared.fault.Fault.{Fault}
 use Rattle.scan_base.specs.declared.fault.Fault.TheVariants.{OutOfMemory}
 use Rattle.scan_base.specs.Reading.{RefusesFirst}
-use Rattle.table_versions.specs.Database.{Put}
+use Rattle.table_versions.specs.Database.{Change}
 use Rattle.version_log.specs.Expiry.{IsExpired}
-use Rattle.version_log.specs.Log.{Log, added, expired, puts_in, after_log, Begins}
+use Rattle.version_log.specs.Log.{Log, added, expired, changes_in, after_log, Begins}
 use Rattle.flight_core.specs.PlacedEntries.{Placed, placed}
 
 -- the log that the seat has seen, its looks, the entries that it made, each with its place in the
@@ -55,25 +55,25 @@ LooksOnce old new = new.looks ≡ old.looks + 1
 abbrev pub MayLook : Seat → Seat → Type 0
 MayLook old new = (new.looks ≡ old.looks) ⊎ LooksOnce old new
 
--- A put at a log: the entry of an accepted one is its last, and the last of those that the seat
--- made, at the place after that log, and its number is how many puts there are then. A refused one
--- changes nothing, and its fault is due, or memory was refused.
-abbrev pub PutsAt : Result ℕ Fault → Seat → Log → Put → Log → Seat → Type 0
-PutsAt (Ok number) old log put next new = IsOk (after_log log put)
-    × (next ≡ log ++ added put ∷ []) × (new.made ≡ old.made ++ (length log, added put) ∷ [])
-    × (number ≡ puts_in next)
-PutsAt (Err fault) old log put next new = (next ≡ log) × (new.made ≡ old.made)
-    × (fault ≢ OutOfMemory → after_log log put ≡ Err fault)
+-- A change at a log: the entry of an accepted one is its last, and the last of those that the seat
+-- made, at the place after that log, and its number is how many changes there are then. A refused
+-- one changes nothing, and its fault is due, or memory was refused.
+abbrev pub PutsAt : Result ℕ Fault → Seat → Log → Change → Log → Seat → Type 0
+PutsAt (Ok number) old log change next new = IsOk (after_log log change)
+    × (next ≡ log ++ added change ∷ []) × (new.made ≡ old.made ++ (length log, added change) ∷ [])
+    × (number ≡ changes_in next)
+PutsAt (Err fault) old log change next new = (next ≡ log) × (new.made ≡ old.made)
+    × (fault ≢ OutOfMemory → after_log log change ≡ Err fault)
 
--- A put at the log that it meets, which is refused by its first fault if it has one. The seat asks
--- for that log, also where the put is refused. After it the seat has seen that log with the put,
--- and all that it had seen.
-pub record Puts (moves : Moves) (result : Result ℕ Fault) (old : Seat) (put : Put)
+-- A change at the log that it meets, which is refused by its first fault if it has one. The seat
+-- asks for that log, also where the change is refused. After it the seat has seen that log with the
+-- change, and all that it had seen.
+pub record Puts (moves : Moves) (result : Result ℕ Fault) (old : Seat) (change : Change)
     (new : Seat) : Type 0 where
   pub log : Log
   pub next : Log
-  pub at : PutsAt result old log put next new
-  pub first : RefusesFirst result (after_log log put)
+  pub at : PutsAt result old log change next new
+  pub first : RefusesFirst result (after_log log change)
   pub moved : moves old log next new
   pub kept : Begins old.log new.log
   pub learnt : Begins next new.log

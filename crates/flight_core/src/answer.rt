@@ -13,6 +13,8 @@ pub enum Answer {
     Accepted { payloads: Vec<Bytes>, version: u64 },
     /// The floor after an expiry. Writing it takes no memory.
     Floor(u64),
+    /// An accepted drop: the number of its version. Writing it takes no memory.
+    Dropped(u64),
     /// The payloads of a fetch, one at a time, and then a Status. After the first one the stream of
     /// the others is made.
     Stream(Opening),

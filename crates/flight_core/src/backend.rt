@@ -7,7 +7,7 @@ use scan_base::Fault;
 use std::alloc::Global;
 use std::marker::Model;
 use std::snapshot;
-use table_versions::{Put, Snapshot};
+use table_versions::{Change, Snapshot};
 
 /// The versions of the catalog as one connection sees them.
 pub trait Backend {
@@ -15,8 +15,8 @@ pub trait Backend {
     ghost use Rattle.scan_base.specs.declared.fault.Fault.TheVariants.{OutOfMemory, VersionExpired};
     ghost use Rattle.scan_base.specs.declared.fault.Fault.TheVariants.{VersionUnknown};
     ghost use Rattle.table_versions.specs.Database as database;
-    ghost use Rattle.table_versions.specs.StoredTables.{put_of, tables_of};
-    ghost use Rattle.version_log.specs.Log.{Log, puts_in, floor_of, database_of, version};
+    ghost use Rattle.table_versions.specs.StoredTables.{change_of, tables_of};
+    ghost use Rattle.version_log.specs.Log.{Log, changes_in, floor_of, database_of, version};
     ghost use Rattle.flight_core.specs.Seats.{Seat, AsksNone, AsksOnce, Expires, Learns, LooksOnce};
     ghost use Rattle.flight_core.specs.Seats.{MayLook, Puts};
 
@@ -27,28 +27,28 @@ pub trait Backend {
     // Which steps, from a log to a log, it takes from a seat to a seat.
     ghost moves: { Seat → Log → Log → Seat → Type 0 };
 
-    // What holds of each put that it accepts.
-    ghost accepts: { database.Put → Type 0 };
+    // What holds of each change that it accepts.
+    ghost accepts: { database.Change → Type 0 };
 
     // Whether it knows without memory which versions are there.
     ghost knows: { Bool };
 
-    /// Makes the next version, with this put, gives its number, and learns of it.
+    /// Makes the next version, with this change, gives its number, and learns of it.
     ///
     /// # Errors
     ///
-    /// The first fault for which the put is refused, and F21 (`Fault::OutOfMemory`) only for a put
+    /// The first fault for which the change is refused, and F21 (`Fault::OutOfMemory`) only for one
     /// that none of them refuses. Nothing has changed then.
-    fn put(&mut self, alloc: Global, put: Put) -> Result<u64, Fault>
-        ensures puts { Puts moves result (seat self.old) (put_of put) (seat self.new) }
-        ensures typed { IfOk result (λ _. accepts (put_of put)) };
+    fn put(&mut self, alloc: Global, change: Change) -> Result<u64, Fault>
+        ensures puts { Puts moves result (seat self.old) (change_of change) (seat self.new) }
+        ensures typed { IfOk result (λ _. accepts (change_of change)) };
 
     /// Marks the versions below a number as expired, gives the floor after the mark, and learns of
     /// it. It is no look.
     ///
     /// # Errors
     ///
-    /// F18 (`Fault::VersionUnknown`) where the log that it meets has fewer puts, and F21
+    /// F18 (`Fault::VersionUnknown`) where the log that it meets has fewer changes, and F21
     /// (`Fault::OutOfMemory`) only where it has as many. Nothing has changed then.
     fn expire(&mut self, alloc: Global, version: u64) -> Result<u64, Fault>
         ensures { Expires moves result (seat self.old) version (seat self.new) };
@@ -62,34 +62,35 @@ pub trait Backend {
         ensures learns { Learns moves (seat self.old) (seat self.new) }
         ensures asks { AsksNone (seat self.old) (seat self.new) }
         ensures ok { IfOk result (λ snapshot. LooksOnce (seat self.old) (seat self.new)
-            × (snapshot.number ≡ puts_in (seat self.new).log)
+            × (snapshot.number ≡ changes_in (seat self.new).log)
             × (tables_of snapshot.catalog ≡ database_of (seat self.new).log)) }
         ensures err { IfErr result
             (λ fault. (fault ≡ OutOfMemory) × MayLook (seat self.old) (seat self.new)) };
 
-    /// The version of a number: the one after so many puts. It is one look.
+    /// The version of a number: the one after so many changes. It is one look.
     ///
     /// # Errors
     ///
-    /// F18 (`Fault::VersionUnknown`) where the log that is then seen has fewer puts, F19
+    /// F18 (`Fault::VersionUnknown`) where the log that is then seen has fewer changes, F19
     /// (`Fault::VersionExpired`) where the number is below its floor, and F21
     /// (`Fault::OutOfMemory`) where memory is refused.
     fn at(&mut self, number: u64) -> Result<Snapshot, Fault>
         ensures learns { Learns moves (seat self.old) (seat self.new) }
         ensures asks { AsksNone (seat self.old) (seat self.new) }
         ensures ok { IfOk result (λ snapshot. LooksOnce (seat self.old) (seat self.new)
-            × (number ≤ puts_in (seat self.new).log) × (snapshot.number ≡ number)
+            × (number ≤ changes_in (seat self.new).log) × (snapshot.number ≡ number)
             × (tables_of snapshot.catalog ≡ version (seat self.new).log number)) }
         ensures kept { IfOk result (λ _. floor_of (seat self.new).log ≤ number) }
         ensures known { result ≡ Err OutOfMemory → knows ≡ true →
             LooksOnce (seat self.old) (seat self.new)
-            × (number ≤ puts_in (seat self.new).log) × (floor_of (seat self.new).log ≤ number) }
+            × (number ≤ changes_in (seat self.new).log) × (floor_of (seat self.new).log ≤ number) }
         ensures err { IfErr result
             (λ fault. ((fault ≡ OutOfMemory) × MayLook (seat self.old) (seat self.new))
             ⊎ (((fault ≡ VersionUnknown) × LooksOnce (seat self.old) (seat self.new)
-            × (puts_in (seat self.new).log < number))
+            × (changes_in (seat self.new).log < number))
             ⊎ ((fault ≡ VersionExpired) × LooksOnce (seat self.old) (seat self.new)
-            × (number ≤ puts_in (seat self.new).log) × (number < floor_of (seat self.new).log)))) };
+            × (number ≤ changes_in (seat self.new).log)
+            × (number < floor_of (seat self.new).log)))) };
 
     /// Whether it knows without memory which versions are there. Then `at` is refused memory only
     /// for one that is.
@@ -190,20 +191,20 @@ impl PlainBackend {
 impl Backend for PlainBackend {
     ghost use Rattle.std.specs.Prelude.{refl, true};
     ghost use Rattle.std.proofs.Common.{◌∙◌};
-    ghost use Rattle.table_versions.specs.Valid.{IsPut};
+    ghost use Rattle.table_versions.specs.Valid.{IsChange};
     ghost use Rattle.flight_core.specs.Seats.{alone};
 
     ghost seat = { λ a. a };
 
     ghost moves = { alone };
 
-    ghost accepts = { IsPut };
+    ghost accepts = { IsChange };
 
     ghost knows = { true };
 
-    fn put(&mut self, alloc: Global, put: Put) -> Result<u64, Fault> {
+    fn put(&mut self, alloc: Global, change: Change) -> Result<u64, Fault> {
         self.asks.raise();
-        self.plain.put(alloc, put)?;
+        self.plain.put(alloc, change)?;
         Ok(self.plain.current().number())
     }
 

@@ -19,4 +19,6 @@ pub enum Event {
     Fetch { ticket: Bytes, workers: usize },
     /// DoAction: an Action that asks for an expiry of old versions.
     Expire { action: Bytes },
+    /// DoAction: an Action that asks for a drop of a table.
+    Drop { action: Bytes },
 }

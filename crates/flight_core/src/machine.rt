@@ -3,7 +3,7 @@
 ghost use Rattle.std.specs.Prelude.{◌≡◌, [], All, map, Ok, IfOk, IfErr};
 ghost use Rattle.scan_base.specs.declared.fault.Fault.TheVariants.{OutOfMemory};
 ghost use Rattle.table_versions.specs.Valid.{HasDatabases};
-ghost use Rattle.version_log.specs.Log.{Log, IsLog, puts_of};
+ghost use Rattle.version_log.specs.Log.{Log, IsLog, changes_of};
 ghost use Rattle.flight_info.specs.Payloads.{FitMessages};
 ghost use Rattle.flight_core.specs.Event.{asked_in};
 ghost use Rattle.flight_core.specs.Headline.{Headline};
@@ -49,6 +49,9 @@ fn operation_of(alloc: Global, event: &Event) -> Operation<'_>
         Event::Expire { action } => Operation::Expire {
             action: action.as_slice(),
         },
+        Event::Drop { action } => Operation::Drop {
+            action: action.as_slice(),
+        },
     }
 }
 
@@ -57,8 +60,8 @@ fn operation_of(alloc: Global, event: &Event) -> Operation<'_>
 ///
 /// # Errors
 ///
-/// F21 (`Fault::OutOfMemory`) where memory is refused for the payload of a floor, and no other. The
-/// step was made then.
+/// F21 (`Fault::OutOfMemory`) where memory is refused for the payload of a number, and no other.
+/// The step was made then.
 pub fn reply_to<B: Backend, X: Executor>(
     alloc: Global,
     executor: &X,
@@ -67,8 +70,8 @@ pub fn reply_to<B: Backend, X: Executor>(
 ) -> Result<Reply, Fault>
     ensures step { IfOk result (λ reply.
         Reacts B.moves (Ok (asked_in event.now)) (B.seat backend.old) reply (B.seat backend.new)) }
-    ensures puts { All B.accepts (puts_of (log_in (B.seat backend.old).made))
-        → All B.accepts (puts_of (log_in (B.seat backend.new).made)) }
+    ensures puts { All B.accepts (changes_of (log_in (B.seat backend.old).made))
+        → All B.accepts (changes_of (log_in (B.seat backend.new).made)) }
     ensures fits { IfOk result (λ reply. FitMessages reply.payloads) }
     ensures err { IfErr result (λ fault. fault ≡ OutOfMemory) }
 {
@@ -77,7 +80,7 @@ pub fn reply_to<B: Backend, X: Executor>(
 }
 
 /// The replies to a list of events, from the empty log on: one for each. The log that they leave
-/// holds accepted puts alone, and every version of it has tables alone. What is refused changes
+/// holds accepted changes alone, and every version of it has tables alone. What is refused changes
 /// nothing. If every endpoint of an info was fetched to its end, the rows that the fetches say,
 /// joined in the order of the endpoints, are those that the query means on the tables as they stood
 /// when the info was given. They are these whatever the seed is, with which hashes of values begin,
@@ -86,18 +89,18 @@ pub fn reply_to<B: Backend, X: Executor>(
 /// # Errors
 ///
 /// F21 (`Fault::OutOfMemory`) where memory is refused for the list itself or for the payload of a
-/// floor, and no other.
+/// number, and no other.
 pub fn run<X: Executor>(
     alloc: Global,
     executor: &X,
     seed: HashSeed,
     events: &[Event],
 ) -> Result<Vec<Reply>, Fault>
-    // Each event got one reply, and the log that they leave holds accepted puts alone. What was
+    // Each event got one reply, and the log that they leave holds accepted changes alone. What was
     // refused left nothing.
     ensures ok { IfOk result
         (λ replies. (log : Log) × Run [] (map asked_in events.now) replies.items log
-        × IsLog log × HasDatabases (puts_of log)
+        × IsLog log × HasDatabases (changes_of log)
         × RefusedLeaveNothing (map asked_in events.now) replies.items log) }
 
     // Streams of all endpoints of an info, joined, are the rows that were wanted.

@@ -20,4 +20,6 @@ pub enum Operation<'a> {
     Fetch { ticket: &'a [u8], workers: usize },
     /// DoAction: an Action that asks for an expiry of old versions.
     Expire { action: &'a [u8] },
+    /// DoAction: an Action that asks for a drop of a table.
+    Drop { action: &'a [u8] },
 }

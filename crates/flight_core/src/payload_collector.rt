@@ -157,7 +157,7 @@ pub fn answer_fetch<X: Executor>(
 ///
 /// # Errors
 ///
-/// F21 (`Fault::OutOfMemory`) where memory is refused for the payload of a floor, and no other.
+/// F21 (`Fault::OutOfMemory`) where memory is refused for the payload of a number, and no other.
 pub fn collect<X: Executor>(alloc: Global, executor: &X, answer: Answer) -> Result<Reply, Fault>
     requires short { FitsMessages answer }
     ensures reply { IfOk result (λ reply. (asked : Result Asked FaultAt) (log new : Log)
@@ -169,6 +169,7 @@ pub fn collect<X: Executor>(alloc: Global, executor: &X, answer: Answer) -> Resu
         Answer::Whole(reply) => Ok(reply),
         Answer::Accepted { payloads, .. } => Ok(Reply::whole(payloads)),
         Answer::Floor(floor) => Ok(Reply::whole(floor_answer(alloc, floor)?)),
+        Answer::Dropped(version) => Ok(Reply::whole(floor_answer(alloc, version)?)),
         Answer::Stream(opening) => Ok(collect_stream(alloc, executor, opening)),
     }
 }

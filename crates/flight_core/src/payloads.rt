@@ -30,7 +30,7 @@ pub fn put_answer(alloc: Global, rows: usize) -> Result<Vec<Bytes>, AllocError>
     Ok(payloads)
 }
 
-/// The payloads that answer an expiry, which say the floor.
+/// The payloads that answer an expiry, which say the floor, or a drop, which say its version.
 ///
 /// # Errors
 ///

@@ -7,16 +7,17 @@ ghost use Rattle.flight_core.specs.Versions.{numbered};
 ghost use Rattle.scan_base.specs.declared.fault.Fault.TheVariants.{OutOfMemory, VersionExpired};
 ghost use Rattle.scan_base.specs.declared.fault.Fault.TheVariants.{VersionUnknown};
 ghost use Rattle.version_log.specs.Expiry.{IsExpired};
-ghost use Rattle.version_log.specs.Log.{added, puts_in, floor_of, database_of, after_log, version};
-ghost use Rattle.table_versions.specs.StoredTables.{put_of, tables_of};
-ghost use Rattle.table_versions.specs.Valid.{IsPut};
+ghost use Rattle.version_log.specs.Log.{added, changes_in, floor_of, database_of, after_log};
+ghost use Rattle.version_log.specs.Log.{version};
+ghost use Rattle.table_versions.specs.StoredTables.{change_of, tables_of};
+ghost use Rattle.table_versions.specs.Valid.{IsChange};
 
 use scan_base::{Fault, HashSeed};
 use std::alloc::Global;
 use std::marker::Model;
 use std::sync::Arc;
 use std::{mem, snapshot};
-use table_versions::{CatalogVersion, Put, Snapshot, apply};
+use table_versions::{CatalogVersion, Change, Snapshot, apply};
 use version_log::{Entries, Entry};
 
 /// The versions that are not expired. Contracts see them as the log.
@@ -78,8 +79,8 @@ impl Plain {
 
     // The number of the newest version.
     fn newest(&self) -> u64
-        ensures number { result ≡ puts_in self.now }
-        ensures kept { floor_of self.now ≤ puts_in self.now }
+        ensures number { result ≡ changes_in self.now }
+        ensures kept { floor_of self.now ≤ changes_in self.now }
     {
         self.floor + self.kept.len() as u64 - 1
     }
@@ -87,7 +88,7 @@ impl Plain {
     // The version of a number that was reached and is not expired.
     fn version(&self, number: u64) -> &Snapshot
         requires kept { floor_of self.now ≤ number }
-        requires reached { number ≤ puts_in self.now }
+        requires reached { number ≤ changes_in self.now }
         ensures { numbered result.now ≡ (number, version self.now number) }
     {
         &self.kept[(number - self.floor) as usize]
@@ -95,27 +96,27 @@ impl Plain {
 
     /// The newest version. It takes no memory.
     pub fn current(&self) -> &Snapshot
-        ensures number { result.now.number ≡ puts_in self.now }
+        ensures number { result.now.number ≡ changes_in self.now }
         ensures tables { tables_of result.now.catalog ≡ database_of self.now }
     {
         self.version(self.newest())
     }
 
-    /// The version of a number: the one after so many puts. It takes no memory.
+    /// The version of a number: the one after so many changes. It takes no memory.
     ///
     /// # Errors
     ///
-    /// F18 (`Fault::VersionUnknown`) where fewer puts were accepted, F19 (`Fault::VersionExpired`)
-    /// where the number is below the floor, and no other.
+    /// F18 (`Fault::VersionUnknown`) where fewer changes were accepted, F19
+    /// (`Fault::VersionExpired`) where the number is below the floor, and no other.
     pub fn at(&self, number: u64) -> Result<&Snapshot, Fault>
-        ensures within { IfOk result (λ _. number ≤ puts_in self.now) }
+        ensures within { IfOk result (λ _. number ≤ changes_in self.now) }
         ensures kept { IfOk result (λ _. floor_of self.now ≤ number) }
         ensures number { IfOk result (λ snapshot. snapshot.now.number ≡ number) }
         ensures tables { IfOk result
             (λ snapshot. tables_of snapshot.now.catalog ≡ version self.now number) }
         ensures err { IfErr result
-            (λ fault. ((fault ≡ VersionUnknown) × (puts_in self.now < number)) ⊎ ((fault
-            ≡ VersionExpired) × (number ≤ puts_in self.now) × (number < floor_of self.now))) }
+            (λ fault. ((fault ≡ VersionUnknown) × (changes_in self.now < number)) ⊎ ((fault
+            ≡ VersionExpired) × (number ≤ changes_in self.now) × (number < floor_of self.now))) }
     {
         if number > self.newest() {
             return Err(Fault::VersionUnknown);
@@ -126,26 +127,26 @@ impl Plain {
         Ok(self.version(number))
     }
 
-    /// Makes the next version, with this put.
+    /// Makes the next version, with this change.
     ///
     /// # Errors
     ///
-    /// Those of [`apply`], and F21 (`Fault::OutOfMemory`) only for a put that none of them refuses.
-    /// Nothing has changed then. F21 also comes after 2^64 - 2 puts.
-    pub fn put(&mut self, alloc: Global, put: Put) -> Result<(), Fault>
-        ensures ok { result ≡ Ok tt → (self.new ≡ self.old ++ added (put_of put) ∷ [])
-            × IsOk (after_log self.old (put_of put)) }
-        ensures typed { IfOk result (λ _. IsPut (put_of put)) }
+    /// Those of [`apply`], and F21 (`Fault::OutOfMemory`) only for one that none of them refuses.
+    /// Nothing has changed then. F21 also comes after 2^64 - 2 changes.
+    pub fn put(&mut self, alloc: Global, change: Change) -> Result<(), Fault>
+        ensures ok { result ≡ Ok tt → (self.new ≡ self.old ++ added (change_of change) ∷ [])
+            × IsOk (after_log self.old (change_of change)) }
+        ensures typed { IfOk result (λ _. IsChange (change_of change)) }
         ensures err { IfErr result (λ fault. (self.new ≡ self.old)
             × (fault ≢ OutOfMemory →
-            after_log self.old (put_of put) ≡ Err fault)) }
+            after_log self.old (change_of change) ≡ Err fault)) }
         ensures first { RefusesFirst result
-            (after_log self.old (put_of put)) }
+            (after_log self.old (change_of change)) }
     {
-        let entry = Entry::put(snapshot::Snapshot::of(&put));
+        let entry = Entry::change(snapshot::Snapshot::of(&change));
         let newest = self.newest();
         let above = newest - self.floor();
-        let catalog = apply(alloc, self.current().catalog(), above, put)?;
+        let catalog = apply(alloc, self.current().catalog(), above, change)?;
         let number = newest + 1;
         if number == u64::MAX {
             return Err(Fault::OutOfMemory);
@@ -162,8 +163,8 @@ impl Plain {
     ///
     /// # Errors
     ///
-    /// F18 (`Fault::VersionUnknown`) where fewer puts were accepted, and F21 (`Fault::OutOfMemory`)
-    /// only where as many were. Nothing has changed then.
+    /// F18 (`Fault::VersionUnknown`) where fewer changes were accepted, and F21
+    /// (`Fault::OutOfMemory`) only where as many were. Nothing has changed then.
     pub fn expire(&mut self, version: u64) -> Result<u64, Fault>
         ensures { IsExpired result self.old version self.new }
     {

@@ -9,9 +9,10 @@ ghost use Rattle.table_versions.specs.StoredTables.{put_of, tables_of};
 ghost use Rattle.flight_info.specs.Infos.{handle_asked, rows_wanted, tables_wanted, schema_wanted};
 ghost use Rattle.flight_info.specs.Payloads.{Payload};
 ghost use Rattle.fetch_stream.specs.Fetches as fetches;
-ghost use Rattle.version_log.specs.Log.{puts_of, puts_in, floor_of, version};
-ghost use Rattle.flight_core.specs.StepAnswer.{ReactsBy, HasVersion, FitsMessages, fault_in};
-ghost use Rattle.flight_core.specs.Asked.{Asked, put, info, tables, schema, fetch, expire};
+ghost use Rattle.version_log.specs.Log.{changes_of, changes_in, floor_of, version};
+ghost use Rattle.flight_core.specs.StepAnswer.{ReactsBy, HasVersion, HasDropped, FitsMessages};
+ghost use Rattle.flight_core.specs.StepAnswer.{fault_in};
+ghost use Rattle.flight_core.specs.Asked.{Asked, put, info, tables, schema, fetch, expire, remove};
 ghost use Rattle.flight_core.specs.Machine.{OpensIn, AsShown, FetchShown};
 ghost use Rattle.flight_core.specs.Operation.{StandsFor};
 ghost use Rattle.flight_core.specs.PlacedEntries.{log_in};
@@ -27,22 +28,22 @@ use crate::payloads::put_answer;
 use endpoint_split::Handle;
 use fetch_stream::{Opening, read_ticket, version_of};
 use flight_info::{Reply, answer_info, answer_schema, answer_tables};
-use flight_proto::{InfoCommand, read_expiry, read_wanted};
-use scan_base::Fault;
+use flight_proto::{InfoCommand, read_drop, read_expiry, read_wanted};
+use scan_base::{Fault, Text};
 use sql_text::MOST_BYTES;
 use std::alloc::Global;
-use table_versions::{Put, Snapshot};
+use table_versions::{Change, Put, Snapshot};
 
-/// Answers an operation by one step over a backend. A put that is accepted stands at the end of the
-/// log that it met, and so does the mark of an expiry; any other operation changes nothing. Infos
-/// and schemas ask nobody what others have done, and a fetch asks once, where its version is none
-/// that the seat had seen.
+/// Answers an operation by one step over a backend. A put or a drop that is accepted stands at the
+/// end of the log that it met, and so does the mark of an expiry; any other operation changes
+/// nothing. Infos and schemas ask nobody what others have done, and a fetch asks once, where its
+/// version is none that the seat had seen.
 ///
 /// A refusal's fault is that of the put's payloads, or one of those of `Backend::put`; of
 /// `answer_info`, `answer_tables` or `answer_schema`, at the newest version; of `read_ticket`,
-/// `Backend::at` and `Opening::new`, in that order; or of `read_expiry` and `Backend::expire`. What
-/// a fetch shows before any memory is taken is never answered by want of it, where the backend
-/// knows its versions without memory.
+/// `Backend::at` and `Opening::new`, in that order; of `read_expiry` and `Backend::expire`; or of
+/// `read_drop` and `Backend::put`. What a fetch shows before any memory is taken is never answered
+/// by want of it, where the backend knows its versions without memory.
 pub fn step<B: Backend>(alloc: Global, backend: &mut B, operation: Operation<'_>) -> Answer
     // The answer is one that what is asked may get over the backend.
     ensures step { (asked : Asked) → StandsFor operation.entry asked
@@ -56,9 +57,13 @@ pub fn step<B: Backend>(alloc: Global, backend: &mut B, operation: Operation<'_>
     ensures accepted { (payloads : List Payload) → StandsFor operation.entry (put payloads) →
         HasVersion result }
 
-    // The puts of the seat stay such as are accepted, and each payload fits a Message.
-    ensures puts { All B.accepts (puts_of (log_in (B.seat backend.old).made))
-        → All B.accepts (puts_of (log_in (B.seat backend.new).made)) }
+    // An accepted drop is answered with the number of its version.
+    ensures dropped { (action : Payload) → StandsFor operation.entry (remove action) →
+        HasDropped result }
+
+    // The changes of the seat stay such as are accepted, and each payload fits a Message.
+    ensures puts { All B.accepts (changes_of (log_in (B.seat backend.old).made))
+        → All B.accepts (changes_of (log_in (B.seat backend.new).made)) }
     ensures fits { FitsMessages result }
 {
     match operation {
@@ -68,6 +73,7 @@ pub fn step<B: Backend>(alloc: Global, backend: &mut B, operation: Operation<'_>
         Operation::Schema { payload } => step_schema(alloc, backend, payload),
         Operation::Fetch { ticket, workers } => step_fetch(alloc, backend, ticket, workers),
         Operation::Expire { action } => step_expiry(alloc, backend, action),
+        Operation::Drop { action } => step_drop(alloc, backend, action),
     }
 }
 
@@ -78,8 +84,8 @@ fn step_put<B: Backend>(alloc: Global, backend: &mut B, read: Result<Put, Fault>
         → GivesBehind (put_glance payloads) put_of read (put_said payloads)
         → ReactsBy B.moves (Ok (put payloads)) (B.seat backend.old) result (B.seat backend.new) }
     ensures accepted { HasVersion result }
-    ensures puts { All B.accepts (puts_of (log_in (B.seat backend.old).made))
-        → All B.accepts (puts_of (log_in (B.seat backend.new).made)) }
+    ensures puts { All B.accepts (changes_of (log_in (B.seat backend.old).made))
+        → All B.accepts (changes_of (log_in (B.seat backend.new).made)) }
     ensures fits { FitsMessages result }
 {
     let put = match read {
@@ -89,7 +95,7 @@ fn step_put<B: Backend>(alloc: Global, backend: &mut B, read: Result<Put, Fault>
     let Ok(payloads) = put_answer(alloc, put.rows()) else {
         return Answer::Whole(Reply::refusal(alloc, Fault::OutOfMemory));
     };
-    match backend.put(alloc, put) {
+    match backend.put(alloc, Change::put(put)) {
         Ok(version) => Answer::Accepted { payloads, version },
         Err(fault) => Answer::Whole(Reply::refusal(alloc, fault)),
     }
@@ -175,21 +181,21 @@ fn version_on<B: Backend>(backend: &mut B, number: u64) -> Result<Snapshot, Faul
     ensures learns { Learns B.moves (B.seat backend.old) (B.seat backend.new) }
     ensures looked { result ≢ Err OutOfMemory →
         (B.seat backend.old).looks < (B.seat backend.new).looks }
-    ensures asks { result ≢ Err OutOfMemory → puts_in (B.seat backend.new).log < number
+    ensures asks { result ≢ Err OutOfMemory → changes_in (B.seat backend.new).log < number
         → (B.seat backend.old).asks < (B.seat backend.new).asks }
-    ensures still { number ≤ puts_in (B.seat backend.old).log →
+    ensures still { number ≤ changes_in (B.seat backend.old).log →
         AsksNone (B.seat backend.old) (B.seat backend.new) }
     ensures once { (B.seat backend.new).asks ≤ (B.seat backend.old).asks + 1 }
-    ensures ok { IfOk result (λ snapshot. (number ≤ puts_in (B.seat backend.new).log)
+    ensures ok { IfOk result (λ snapshot. (number ≤ changes_in (B.seat backend.new).log)
         × (tables_of snapshot.catalog ≡ version (B.seat backend.new).log number)) }
     ensures kept { IfOk result (λ _. floor_of (B.seat backend.new).log ≤ number) }
     ensures known { result ≡ Err OutOfMemory → B.knows ≡ true
         → ((B.seat backend.old).looks < (B.seat backend.new).looks)
-        × (number ≤ puts_in (B.seat backend.new).log)
+        × (number ≤ changes_in (B.seat backend.new).log)
         × (floor_of (B.seat backend.new).log ≤ number) }
     ensures err { IfErr result (λ fault. (fault ≡ OutOfMemory)
-        ⊎ (((fault ≡ VersionUnknown) × (puts_in (B.seat backend.new).log < number))
-        ⊎ ((fault ≡ VersionExpired) × (number ≤ puts_in (B.seat backend.new).log)
+        ⊎ (((fault ≡ VersionUnknown) × (changes_in (B.seat backend.new).log < number))
+        ⊎ ((fault ≡ VersionExpired) × (number ≤ changes_in (B.seat backend.new).log)
         × (number < floor_of (B.seat backend.new).log)))) }
 {
     match backend.at(number) {
@@ -264,8 +270,8 @@ fn step_fetch<B: Backend>(alloc: Global, backend: &mut B, ticket: &[u8], workers
 fn step_expiry<B: Backend>(alloc: Global, backend: &mut B, action: &[u8]) -> Answer
     ensures step { ReactsBy B.moves (Ok (expire action.now)) (B.seat backend.old) result
         (B.seat backend.new) }
-    ensures puts { All B.accepts (puts_of (log_in (B.seat backend.old).made))
-        → All B.accepts (puts_of (log_in (B.seat backend.new).made)) }
+    ensures puts { All B.accepts (changes_of (log_in (B.seat backend.old).made))
+        → All B.accepts (changes_of (log_in (B.seat backend.new).made)) }
     ensures fits { FitsMessages result }
 {
     let version = match read_expiry(action) {
@@ -274,6 +280,28 @@ fn step_expiry<B: Backend>(alloc: Global, backend: &mut B, action: &[u8]) -> Ans
     };
     match backend.expire(alloc, version) {
         Ok(floor) => Answer::Floor(floor),
+        Err(fault) => Answer::Whole(Reply::refusal(alloc, fault)),
+    }
+}
+
+// Answers a drop. Its answer takes no memory.
+fn step_drop<B: Backend>(alloc: Global, backend: &mut B, action: &[u8]) -> Answer
+    ensures step { ReactsBy B.moves (Ok (remove action.now)) (B.seat backend.old) result
+        (B.seat backend.new) }
+    ensures dropped { HasDropped result }
+    ensures puts { All B.accepts (changes_of (log_in (B.seat backend.old).made))
+        → All B.accepts (changes_of (log_in (B.seat backend.new).made)) }
+    ensures fits { FitsMessages result }
+{
+    let name = match read_drop(action) {
+        Ok(name) => name,
+        Err(fault) => return Answer::Whole(Reply::refusal(alloc, fault)),
+    };
+    let Ok(name) = Text::new(alloc, name) else {
+        return Answer::Whole(Reply::refusal(alloc, Fault::OutOfMemory));
+    };
+    match backend.put(alloc, Change::dropping(name)) {
+        Ok(version) => Answer::Dropped(version),
         Err(fault) => Answer::Whole(Reply::refusal(alloc, fault)),
     }
 }

@@ -15,4 +15,5 @@ pub mod FlightInfo
 pub mod InfoCommand
 pub mod Action
 pub mod Expiry
+pub mod Drop
 pub mod Laws

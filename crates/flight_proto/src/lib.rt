@@ -20,6 +20,7 @@ mod message;
 mod message_parts;
 pub mod put_result;
 pub mod statement_ingest;
+pub mod table_drop;
 pub mod ticket;
 pub mod wrapped_bytes;
 
@@ -40,6 +41,7 @@ pub use crate::info_command::{
 pub use crate::ingest::{Ingest, read_if_exists, read_if_not_exist, read_ingest};
 pub use crate::put_result::{put_rows_put, put_update, read_rows_put, read_update};
 pub use crate::statement_ingest::{CommandStatementIngest, TableDefinitionOptions};
+pub use crate::table_drop::{asks_drop, put_drop, read_drop};
 pub use crate::ticket::{put_statement_ticket, read_statement_handle};
 pub use crate::wrapped_bytes::{put_wrapped, read_wrapped};
 pub use scan_base::{IfExists, IfNotExist};

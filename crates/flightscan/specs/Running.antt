@@ -15,14 +15,14 @@ use Rattle.command_line.specs.declared.request.PutForm.{PutForm}
 use Rattle.command_line.specs.declared.request.PutForm.TheVariants.{Arrow, Csv}
 use Rattle.command_line.specs.declared.request.Request.{Request}
 use Rattle.command_line.specs.declared.request.Request.TheVariants.{Pipe, Serve, Put, Query, Tables}
-use Rattle.command_line.specs.declared.request.Request.TheVariants.{Describe, Expire}
+use Rattle.command_line.specs.declared.request.Request.TheVariants.{Describe, Drop, Expire}
 use Rattle.command_ends.specs.Network.{Ends}
 use Rattle.command_ends.specs.Printing.{Said, Prints, fault_line, said_of}
 use Rattle.command_ends.specs.WholeInput.{Source, source_of}
 use Rattle.command_ends.specs.declared.exit_status.ExitStatus.{ExitStatus}
 use Rattle.command_ends.specs.declared.exit_status.ExitStatus.TheVariants.{FaultAtThisEnd}
 use Rattle.client_calls.specs.declared.put_call.Target.{Target}
-use Rattle.client_commands.specs.Commands.{Describes, Desk, Expires, ListsTables, desk_of}
+use Rattle.client_commands.specs.Commands.{Describes, Desk, Drops, Expires, ListsTables, desk_of}
 use Rattle.client_commands.specs.Puts.{Puts, PutsCsv}
 use Rattle.client_commands.specs.Queries.{Queries, QueriesInput}
 use Rattle.flightscan.specs.declared.runner.Streams.{Streams}
@@ -80,8 +80,8 @@ LacksSeed status old new =
     (status ≡ FaultAtThisEnd) × Prints (fault_line Transport) old.faults new.faults
     × (new.out ≡ old.out) × (new.input ≡ old.input)
 
--- with a seed, the rows that a query answers are printed in a form; `-` stands for the text that the
--- input is
+-- with a seed, the rows that a query answers are printed in a form; `-` stands for the text that
+-- the input is
 abbrev pub QueriesWith : {S N : Type 0} → Option S → (N → Option Ends → N → Type 0)
     → (N → N → N → Type 0) → ℕ → List ℕ → Format → ExitStatus → N → N → Standard → Standard → Type 0
 QueriesWith (Some seed) connects shares streams sql format status before behind old new =
@@ -94,8 +94,8 @@ QueriesWith None connects shares streams sql format status before behind old new
     LacksSeed status old new × (behind ≡ before)
 
 -- What a client does for a request, with the seed of its hashes, if there is one, by a network that
--- connects and is shared so. Only a put, and a query `-`, reads the input. A request for a server leaves the network
--- as it was.
+-- connects and is shared so. Only a put, and a query `-`, reads the input. A request for a server
+-- leaves the network as it was.
 abbrev pub CallsServer : {S N : Type 0} → Option S → Connecting N → (N → N → N → Type 0) → Request →
     ExitStatus → N → N → Standard → Standard → Type 0
 CallsServer seed connects shares (Put port table mode form progress) status before behind old new =
@@ -111,6 +111,9 @@ CallsServer seed connects shares (Tables port) status before behind old new =
 CallsServer seed connects shares (Describe port table) status before behind old new =
     Describes (behind ≡ before) (λ ends. connects before port ends behind) table.now status
     (desk_in old) (desk_in new)
+    × (new.input ≡ old.input)
+CallsServer seed connects shares (Drop port table) status before behind old new =
+    Drops (λ ends. connects before port ends behind) table.now status (desk_in old) (desk_in new)
     × (new.input ≡ old.input)
 CallsServer seed connects shares (Expire port version) status before behind old new =
     Expires (λ ends. connects before port ends behind) version status (desk_in old) (desk_in new)

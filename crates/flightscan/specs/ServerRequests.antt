@@ -7,7 +7,7 @@ use Rattle.shared_calls.specs.Sharing.{onward}
 use Rattle.command_line.specs.declared.request.ServeOptions.{ServeOptions}
 use Rattle.command_line.specs.declared.request.Request.{Request}
 use Rattle.command_line.specs.declared.request.Request.TheVariants.{Pipe, Serve, Put, Query, Tables}
-use Rattle.command_line.specs.declared.request.Request.TheVariants.{Describe, Expire}
+use Rattle.command_line.specs.declared.request.Request.TheVariants.{Describe, Drop, Expire}
 use Rattle.command_ends.specs.Network.{Accepting, Ends}
 use Rattle.command_ends.specs.declared.exit_status.ExitStatus.{ExitStatus}
 use Rattle.commands.specs.Pipe.{Pipes}
@@ -55,6 +55,8 @@ ServesClients seed hears accepts shares (Query port format streams sql progress)
     behind old new = behind ≡ before
 ServesClients seed hears accepts shares (Tables port) status before behind old new = behind ≡ before
 ServesClients seed hears accepts shares (Describe port table) status before behind old new =
+    behind ≡ before
+ServesClients seed hears accepts shares (Drop port table) status before behind old new =
     behind ≡ before
 ServesClients seed hears accepts shares (Expire port version) status before behind old new =
     behind ≡ before

@@ -14,6 +14,7 @@ ghost use Rattle.flightscan.specs.Running.{standard_of};
 
 use client_calls::Target;
 use client_commands::describe::describe;
+use client_commands::drop_table::drop_table;
 use client_commands::expire::expire;
 use client_commands::put::{CsvPutting, PutCommand, put, put_csv};
 use client_commands::query::{QueryCommand, query, query_input};
@@ -288,6 +289,10 @@ where
         Request::Describe { port, table } => {
             let (output, faults) = (&mut streams.output, &mut streams.faults);
             describe(machine.alloc, connector, output, faults, port, table)
+        }
+        Request::Drop { port, table } => {
+            let (output, faults) = (&mut streams.output, &mut streams.faults);
+            drop_table(machine.alloc, connector, output, faults, port, table)
         }
         Request::Expire { port, version } => {
             let (output, faults) = (&mut streams.output, &mut streams.faults);

@@ -121,6 +121,14 @@ impl Build {
         self.rights.batches.as_slice()
     }
 
+    /// As how many rows a left one counts that looks for its partners, by the right keys: once for
+    /// each part, once for each 64 bytes of text there, and once at least. Contracts say no more.
+    pub fn weight(&self) -> usize
+        ensures { 1 ≤ result }
+    {
+        self.rights.weight()
+    }
+
     /// The next pairs of a left batch, no more than `most`, in the order of nested loops, the left
     /// outermost: none where none is left. A null joins nothing.
     ///

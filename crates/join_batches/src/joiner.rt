@@ -52,6 +52,8 @@ pub(crate) struct BuiltSides {
     pub(crate) left: JoinSide,
     pub(crate) right_types: Vec<DataType>,
     pub(crate) build: Build,
+    // As how many rows a left one counts that looks for its partners.
+    pub(crate) weight: usize,
 }
 
 // Written out, so that dropping it is one call (docs/DECISIONS.md).
@@ -61,6 +63,7 @@ impl Drop for BuiltSides {
             left: _,
             right_types: _,
             build: _,
+            weight: _,
         } = self;
     }
 }
@@ -141,10 +144,12 @@ impl Joiner {
         let JoinSides { left, right } = sides;
         let JoinSide { types, key } = right;
         let build = Build::new(alloc, seed, RightSide { batches, key }, watch)?;
+        let weight = build.weight();
         let sides = BuiltSides {
             left,
             right_types: types,
             build,
+            weight,
         };
         Ok(Joiner::unfed(alloc, Arc::new(alloc, sides)?))
     }
@@ -158,6 +163,15 @@ impl Joiner {
         ensures { IfOk result (λ joiner. joiner ≡ record self.now { ahead = [] }) }
     {
         Ok(Joiner::unfed(alloc, Arc::try_clone(&self.sides)?))
+    }
+
+    /// As how many rows a left one counts that looks for its partners, and one at least. Contracts
+    /// say no more of it.
+    pub fn weight(&self) -> usize
+        ensures { 1 ≤ result }
+    {
+        let built: &BuiltSides = &self.sides;
+        built.weight.max(1)
     }
 
     // How many columns the joined rows have.

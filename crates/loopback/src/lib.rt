@@ -4,6 +4,9 @@
 ghost use Rattle.std.specs.Prelude.{◌≡◌, ◌-◌, ◌<◌, ◌↔◌, [], IfOk, IsTrue, Some};
 ghost use Rattle.std.specs.Time.{instant_nanos};
 
+mod patient_stream;
+
+use crate::patient_stream::PatientStream;
 use command_ends::{AcceptFailure, Connect, Listen, PortLine, SeatView};
 use grpc_frame::{CountedEnd, Output};
 use scan_base::Fault;
@@ -18,7 +21,7 @@ const WAIT_SECONDS: u64 = 5;
 /// The end of a client's stream that is written to. It can look whether the client is still there.
 #[derive(Drop)]
 pub struct SocketWriter<'a, R> {
-    counted: CountedEnd<TcpStream>,
+    counted: CountedEnd<PatientStream>,
     clock: &'a R,
     // When a look first found that the client had ended what it sends, since bytes last went out.
     ended: Option<Instant>,
@@ -26,7 +29,7 @@ pub struct SocketWriter<'a, R> {
 
 impl<'a, R> SocketWriter<'a, R> {
     // No end of what the client sends was found yet.
-    fn new(counted: CountedEnd<TcpStream>, clock: &'a R) -> SocketWriter<'a, R>
+    fn new(counted: CountedEnd<PatientStream>, clock: &'a R) -> SocketWriter<'a, R>
         ensures { result.counted ≡ counted }
     {
         SocketWriter {
@@ -48,7 +51,7 @@ impl<R: Clock> Output for SocketWriter<'_, R> {
     }
 
     fn look(&mut self) -> Result<(), Fault> {
-        let is_there = match other_end_of(self.counted.get_ref()) {
+        let is_there = match other_end_of(self.counted.get_ref().stream()) {
             OtherEnd::Open => true,
             OtherEnd::Ended => is_waited_for(self.clock, &mut self.ended),
             OtherEnd::Broken => false,
@@ -159,8 +162,8 @@ pub struct Port<'a, R> {
     number: u16,
     // How many further listeners it gave.
     handed: u64,
-    // A read or a write of a connection fails after so long without a byte; `None` is never.
-    patience: Option<Duration>,
+    // A read or a write of a connection fails after so many seconds without a byte; 0 is never.
+    idle: u16,
 }
 
 impl<'a, R> Port<'a, R> {
@@ -171,7 +174,7 @@ impl<'a, R> Port<'a, R> {
             listener: None,
             number: 0,
             handed: 0,
-            patience: None,
+            idle: 0,
         }
     }
 }
@@ -270,7 +273,7 @@ where
         let port = address.port();
         self.listener = Some(listener);
         self.number = port;
-        self.patience = patience_of(idle);
+        self.idle = idle;
         Ok(port)
     }
 
@@ -288,7 +291,7 @@ where
             listener: Some(listener),
             number: self.number,
             handed: 0,
-            patience: self.patience,
+            idle: self.idle,
         })
     }
 
@@ -302,7 +305,7 @@ where
             return Err(AcceptFailure::Broken);
         };
         match listener.accept() {
-            Ok((stream, _)) => match set_up(stream, self.patience) {
+            Ok((stream, _)) => match set_up(stream, self.idle) {
                 Ok((reader, counted)) => Ok((reader, SocketWriter::new(counted, self.rt))),
                 Err(_) => Err(AcceptFailure::MayPass),
             },
@@ -314,19 +317,21 @@ where
     fn done(&mut self, _reader: CountedEnd<TcpStream>, _writer: SocketWriter<'a, R>, _seat: &K) {}
 }
 
-// The ends of a stream, of which a read or a write fails after so long without a byte.
+// The ends of a stream, of which a read or a write fails after so many seconds without a byte.
+// What is written goes out at once.
 fn set_up(
     stream: TcpStream,
-    patience: Option<Duration>,
-) -> io::Result<(CountedEnd<TcpStream>, CountedEnd<TcpStream>)>
+    idle: u16,
+) -> io::Result<(CountedEnd<TcpStream>, CountedEnd<PatientStream>)>
     ensures reads { IfOk result (λ ends. ends.0.failures ≡ 0) }
     ensures writes { IfOk result (λ ends. ends.1.failures ≡ 0) }
     ensures unread { IfOk result (λ ends. ends.0.given.bytes ≡ []) }
     ensures unwritten { IfOk result (λ ends. ends.1.taken.bytes ≡ []) }
 {
-    stream.set_read_timeout(patience)?;
-    stream.set_write_timeout(patience)?;
-    ends_of(stream)
+    stream.set_nodelay(true)?;
+    stream.set_read_timeout(patience_of(idle))?;
+    let writer = PatientStream::new(stream.try_clone()?, idle)?;
+    Ok((CountedEnd::new(stream), CountedEnd::new(writer)))
 }
 
 // The ends of a stream. What is written goes out at once.

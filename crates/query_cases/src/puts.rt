@@ -6,7 +6,7 @@ use ipc_batch::Reader;
 use scan_base::{Fault, Text};
 use std::alloc::{AllocError, Global};
 use std::sync::Arc;
-use table_versions::{IfExists, IfNotExist, Put, Snapshot, apply};
+use table_versions::{Change, IfExists, IfNotExist, Put, Snapshot, apply};
 
 // The number of a hexadecimal digit.
 fn digit(letter: u8) -> u8 {
@@ -59,7 +59,7 @@ pub fn next_version(alloc: Global, snapshot: &Snapshot, case: &str) -> Result<Sn
         alloc,
         snapshot.catalog(),
         snapshot.number(),
-        put(alloc, case)?,
+        Change::put(put(alloc, case)?),
     )?;
     let number = snapshot.number().saturating_add(1);
     Ok(Snapshot::new(number, Arc::new(alloc, catalog)?))

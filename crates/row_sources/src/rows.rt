@@ -279,7 +279,8 @@ impl JoinState {
         Ok(Turn::Working)
     }
 
-    // Goes on to the next left batch, where the turn comes to it, and is not over then.
+    // Goes on to the next left batch, where the turn comes to it, and is not over then. Its rows
+    // count as often as each costs that looks for its partners.
     #[cycle(turn)]
     fn feed_next(
         &mut self,
@@ -299,6 +300,7 @@ impl JoinState {
         ensures fewer { TakesLeft result (length left.old.ahead) (length left.new.ahead) }
     {
         let piece = given!(left.turn(looking)?);
+        looking.spend_weighted(piece.batch.rows(), self.joiner.weight());
         self.number = piece.number;
         self.joiner.feed(piece.batch);
         if looking.is_over() {

@@ -59,7 +59,16 @@ impl TurnContext {
         ensures endless { self.old.patience ≡ Endless → self.new.patience ≡ Endless }
         ensures choice { self.new.patience ≡ Choice → self.old.patience ≡ Choice }
     {
-        let spent = rows.max(LEAST_PIECE_ROWS).saturating_mul(picker.weight());
+        self.spend_weighted(rows, picker.weight());
+    }
+
+    // So many rows are looked at together, each of which counts so often. Fewer than 64 count as
+    // 64.
+    pub(crate) fn spend_weighted(&mut self, rows: usize, weight: usize)
+        ensures endless { self.old.patience ≡ Endless → self.new.patience ≡ Endless }
+        ensures choice { self.new.patience ≡ Choice → self.old.patience ≡ Choice }
+    {
+        let spent = rows.max(LEAST_PIECE_ROWS).saturating_mul(weight);
         if let Patience::Rows(left) = &mut self.patience {
             *left = left.saturating_sub(spent);
         }

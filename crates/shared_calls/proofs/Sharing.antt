@@ -1,8 +1,8 @@
--- A put, and an expiry, over a seat of a cell.
+-- A change, and an expiry, over a seat of a cell.
 use Rattle.std.proofs.Common.{◌≡◌, ℕ, [], ◌∷◌, ◌++◌, Result, Ok, Err, IfOk, refl, ◌∙◌, append-nil, sym}
 use Rattle.scan_base.specs.declared.fault.Fault.{Fault}
-use Rattle.table_versions.specs.Database.{Put}
-use Rattle.version_log.specs.Log.{Log, puts_in, Begins}
+use Rattle.table_versions.specs.Database.{Change}
+use Rattle.version_log.specs.Log.{Log, changes_in, Begins}
 use Rattle.version_cell.specs.Expiries.{ExpiresBehind}
 use Rattle.version_cell.specs.Puts.{PutsBehind}
 use Rattle.version_cell.specs.Seats as cell
@@ -13,10 +13,10 @@ use Rattle.shared_calls.specs.Sharing.{onward, seat_at}
 begins_same : (log same : Log) → same ≡ log → Begins log same
 begins_same log same is = ([], is ∙ sym (append-nil log))
 
--- a put over a seat of a cell
-pub puts_so : (result : Result ℕ Fault) (seat next : cell.Seat) (old new : Seat) (put : Put) → PutsBehind result seat put next → IfOk result (λ number. number ≡ puts_in next.log)
-    → Begins seat.log next.log → next.enters ≡ seat.enters → cell.AsksOnce seat next → old ≡ seat_at seat → new ≡ seat_at next → Puts onward result old put new
-puts_so (Ok number) seat next old new put behind count kept enters asks old_is new_is = rw (old_is, new_is) (record {
+-- a change over a seat of a cell
+pub puts_so : (result : Result ℕ Fault) (seat next : cell.Seat) (old new : Seat) (change : Change) → PutsBehind result seat change next → IfOk result (λ number. number ≡ changes_in next.log)
+    → Begins seat.log next.log → next.enters ≡ seat.enters → cell.AsksOnce seat next → old ≡ seat_at seat → new ≡ seat_at next → Puts onward result old change new
+puts_so (Ok number) seat next old new change behind count kept enters asks old_is new_is = rw (old_is, new_is) (record {
   log = behind.log;
   next = next.log;
   at = (behind.answered.1, behind.answered.0, behind.counts, count);
@@ -27,7 +27,7 @@ puts_so (Ok number) seat next old new put behind count kept enters asks old_is n
   looks = enters;
   asks = asks;
 })
-puts_so (Err fault) seat next old new put behind count kept enters asks old_is new_is = rw (old_is, new_is) (record {
+puts_so (Err fault) seat next old new change behind count kept enters asks old_is new_is = rw (old_is, new_is) (record {
   log = behind.log;
   next = next.log;
   at = (behind.answered.0, behind.counts, behind.answered.1);

@@ -8,7 +8,7 @@ use scan_base::Fault;
 use std::alloc::Global;
 use std::marker::{Brand, Model, PhantomData};
 use std::sync::Wait;
-use table_versions::{Put, Snapshot};
+use table_versions::{Change, Snapshot};
 use version_cell::{CellName, Rest, Scanner, SharedPutter};
 
 /// A backend over a seat of a cell, which others may see as it rests.
@@ -125,8 +125,8 @@ impl<'a, C: CellName, N: SeatName, R: Wait + Drop, H: Wait> Backend
 
     ghost knows = { false };
 
-    fn put(&mut self, alloc: Global, put: Put) -> Result<u64, Fault> {
-        self.putter.put(self.rt, alloc, &mut self.scanner, put)
+    fn put(&mut self, alloc: Global, change: Change) -> Result<u64, Fault> {
+        self.putter.put(self.rt, alloc, &mut self.scanner, change)
     }
 
     fn expire(&mut self, alloc: Global, version: u64) -> Result<u64, Fault> {

@@ -7,7 +7,7 @@ use Rattle.scan_base.specs.declared.put_options.IfExists.{IfExists}
 use Rattle.scan_base.specs.declared.put_options.IfExists.TheVariants.{Unspecified, Fail, Append, Replace}
 use Rattle.scan_base.specs.Limits.{most_rows, most_commits}
 use Rattle.table_versions.specs.Table.{Table}
-use Rattle.table_versions.specs.Database.{Database, Put, after, table_at, with_table, table_after, put_faults}
+use Rattle.table_versions.specs.Database.{Database, Put, Change, putting, dropping, after, table_at, with_table, table_after, put_faults, change_faults, changed}
 use Rattle.table_versions.specs.Laws.{AcceptedPutsAreFew}
 
 -- where there is no fault, the first test is false, and so are the others
@@ -38,13 +38,18 @@ unmet [] test fault h = refl
 unmet ((true, cause) ∷ front) test fault h = cc
 unmet ((false, cause) ∷ front) test fault h = unmet front test fault h
 
--- a put that is accepted where some versions stand above the floor is accepted where none do
-pub accepted_by_tables : (old : Database) (n : ℕ) (put : Put) (new : Database) → after old n put ≡ Ok new → after old 0 put ≡ Ok new
-accepted_by_tables old n put new h =
-    let faults = put_faults old n put in
-    let made = with_table put.table (table_after put.if_exists (table_at old put.table) put) old in
+-- where the versions above the floor refuse nothing, none of them do
+unrefused_by_tables : (old : Database) (n : ℕ) (change : Change) → first_fault (change_faults old n change) ≡ None → first_fault (change_faults old 0 change) ≡ None
+unrefused_by_tables old n (putting put) none = unmet (take 8 (put_faults old n put)) (nat_le most_commits n) LimitReached none
+unrefused_by_tables old n (dropping name) none = unmet (take 2 (change_faults old n (dropping name))) (nat_le most_commits n) LimitReached none
+
+-- a change that is accepted where some versions stand above the floor is accepted where none do
+pub accepted_by_tables : (old : Database) (n : ℕ) (change : Change) (new : Database) → after old n change ≡ Ok new → after old 0 change ≡ Ok new
+accepted_by_tables old n change new h =
+    let faults = change_faults old n change in
+    let made = changed old change in
     let none = unrefused (first_fault faults) made new h in
-    let still : first_fault (put_faults old 0 put) ≡ None = unmet (take 8 faults) (nat_le most_commits n) LimitReached none in
+    let still : first_fault (change_faults old 0 change) ≡ None = unrefused_by_tables old n change none in
     ap (λ refused. unless refused made) still ∙ ap (λ d. Ok d) (given (first_fault faults) made new h)
 
 -- the rows of a put are among those of its table

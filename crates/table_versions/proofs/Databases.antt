@@ -1,4 +1,4 @@
--- A database is a finite map, and a log goes on put by put.
+-- A database is a finite map, and a log goes on change by change.
 use Rattle.std.proofs.Common.{◌≡◌, ◌≤◌, ℕ, zero, suc, ◌+◌, Bool, true, false, if◌then◌else◌, List, [], ◌∷◌, ◌++◌, length, take, Some, Result, Ok, Err, slice_get, refl, sym, subst, ap, ◌∙◌, arith}
 use Rattle.std.specs.Str.{bytes_eq}
 use Rattle.std.specs.Cmp.Lexicographic.{slice_cmp}
@@ -9,24 +9,24 @@ use Rattle.std.proofs.lemmas.Grind.{common_steps}
 use Rattle.std.proofs.lemmas.Option.{slice_get_within}
 use Rattle.scan_base.specs.declared.fault.Fault.{Fault}
 use Rattle.table_versions.specs.Table.{Name}
-use Rattle.table_versions.specs.Database.{Database, Put, table_at, with_table, after, accepted, with_put, with_all, database_after, version_after, AreAccepted, logged}
-use Rattle.table_versions.specs.Laws.{TablesAreFound, LogsGrow, LogsStay, LogsHoldAcceptedPuts}
+use Rattle.table_versions.specs.Database.{Database, Change, table_at, with_table, after, accepted, with_change, with_all, database_after, version_after, AreAccepted, logged}
+use Rattle.table_versions.specs.Laws.{TablesAreFound, LogsGrow, LogsStay, LogsHoldAcceptedChanges}
 use Rattle.table_versions.proofs.Accepted.{accepted_by_tables}
 
 -- two tests that do not both hold go in either order
-skipped : {X : Type 0} (a b : Bool) (x y z : X) → (a ≡ true → b ≡ false) →
+pub skipped : {X : Type 0} (a b : Bool) (x y z : X) → (a ≡ true → b ≡ false) →
     (if a then x else (if b then y else z)) ≡ (if b then y else (if a then x else z))
 skipped true true x y z h = let d : true ≡ false = h refl in cc
 skipped true false x y z h = refl
 skipped false true x y z h = refl
 skipped false false x y z h = refl
 
-replaced : {X : Type 0} (a b : Bool) (x y z : X) → b ≡ a → (if a then x else z) ≡ (if a then x else (if b then y else z))
+pub replaced : {X : Type 0} (a b : Bool) (x y z : X) → b ≡ a → (if a then x else z) ≡ (if a then x else (if b then y else z))
 replaced true b x y z h = refl
 replaced false b x y z h = ap (λ c. if c then y else z) (sym h)
 
 -- a name equal to one name is not equal to another that differs
-apart : (k n m : Name) → bytes_eq k n ≡ false → bytes_eq k m ≡ true → bytes_eq n m ≡ false
+pub apart : (k n m : Name) → bytes_eq k n ≡ false → bytes_eq k m ≡ true → bytes_eq n m ≡ false
 apart k n m other same = sym (nat_list_eq_equiv.symm m n) ∙ sym (nat_list_eq_equiv.congr k m n same) ∙ other
 
 pub tables_are_found : TablesAreFound
@@ -42,27 +42,27 @@ tables_are_found n m t (e ∷ es) =
           ]
     ] refl
 
--- the database with one put more
-with_all-push : (old : Database) (log : List Put) (put : Put) → with_all old (log ++ put ∷ []) ≡ with_put (with_all old log) put
-with_all-push old [] put = refl
-with_all-push old (first ∷ log) put = with_all-push (with_put old first) log put
+-- the database with one change more
+with_all-push : (old : Database) (log : List Change) (change : Change) → with_all old (log ++ change ∷ []) ≡ with_change (with_all old log) change
+with_all-push old [] change = refl
+with_all-push old (first ∷ log) change = with_all-push (with_change old first) log change
 
--- an accepted put gives the database after it, however many versions stand above the floor
-pub database_of-more : (n : ℕ) (log : List Put) (put : Put) (database : Database) → after (database_after log) n put ≡ Ok database →
-    database_after (log ++ put ∷ []) ≡ database
-database_of-more n log put database h = with_all-push [] log put ∙ ap (accepted (database_after log)) (accepted_by_tables (database_after log) n put database h)
+-- an accepted change gives the database after it, however many versions stand above the floor
+pub database_of-more : (n : ℕ) (log : List Change) (change : Change) (database : Database) → after (database_after log) n change ≡ Ok database →
+    database_after (log ++ change ∷ []) ≡ database
+database_of-more n log change database h = with_all-push [] log change ∙ ap (accepted (database_after log)) (accepted_by_tables (database_after log) n change database h)
 
 pub logs_grow : LogsGrow
-logs_grow n log put database h = (longer, ap database_after longer ∙ database_of-more n log put database h, earlier)
+logs_grow n log change database h = (longer, ap database_after longer ∙ database_of-more n log change database h, earlier)
   where
-    longer : logged n log put ≡ log ++ put ∷ []
+    longer : logged n log change ≡ log ++ change ∷ []
     longer = rw h refl
 
-    earlier : (k : ℕ) → k ≤ length log → version_after (logged n log put) k ≡ version_after log k
-    earlier k small = ap (λ puts. database_after (take k puts)) longer ∙ ap database_after (take-append-le k log (put ∷ []) small)
+    earlier : (k : ℕ) → k ≤ length log → version_after (logged n log change) k ≡ version_after log k
+    earlier k small = ap (λ changes. database_after (take k changes)) longer ∙ ap database_after (take-append-le k log (change ∷ []) small)
 
 pub logs_stay : LogsStay
-logs_stay n log put fault h = rw h refl
+logs_stay n log change fault h = rw h refl
 
 -- an item of a list with one more after it: one of the list's, or that one
 pushed_at : {X G : Type 0} (xs : List X) (y z : X) (n : ℕ) → slice_get (xs ++ y ∷ []) n ≡ Some z →
@@ -72,15 +72,15 @@ pushed_at [] y z (suc n) h old new = cc
 pushed_at (x ∷ xs) y z zero h old new = old h
 pushed_at (x ∷ xs) y z (suc n) h old new = pushed_at xs y z n h old (λ e. new (ap suc e))
 
--- a log with an accepted put after it
-longer_log : (m : ℕ) (log : List Put) (put : Put) (database : Database) → AreAccepted log → after (database_after log) m put ≡ Ok database →
-    AreAccepted (log ++ put ∷ [])
-longer_log m log put database is h n other at = pushed_at log put other n at old new
+-- a log with an accepted change after it
+longer_log : (m : ℕ) (log : List Change) (change : Change) (database : Database) → AreAccepted log → after (database_after log) m change ≡ Ok database →
+    AreAccepted (log ++ change ∷ [])
+longer_log m log change database is h n other at = pushed_at log change other n at old new
   where
-    earlier : (i : ℕ) → i ≤ length log → version_after (log ++ put ∷ []) i ≡ version_after log i
-    earlier i small = ap database_after (take-append-le i log (put ∷ []) small)
+    earlier : (i : ℕ) → i ≤ length log → version_after (log ++ change ∷ []) i ≡ version_after log i
+    earlier i small = ap database_after (take-append-le i log (change ∷ []) small)
 
-    old : slice_get log n ≡ Some other → after (version_after (log ++ put ∷ []) n) 0 other ≡ Ok (version_after (log ++ put ∷ []) (n + 1))
+    old : slice_get log n ≡ Some other → after (version_after (log ++ change ∷ []) n) 0 other ≡ Ok (version_after (log ++ change ∷ []) (n + 1))
     old here =
         let within = slice_get_within log n other here in
         ap (λ d. after d 0 other) (earlier n (omega (arith, within))) ∙ is n other here
@@ -89,20 +89,20 @@ longer_log m log put database is h n other at = pushed_at log put other n at old
     whole : take (length log) log ≡ log
     whole = grind (arith, common_steps)
 
-    all : take (length log + 1) (log ++ put ∷ []) ≡ log ++ put ∷ []
+    all : take (length log + 1) (log ++ change ∷ []) ≡ log ++ change ∷ []
     all = grind (arith, common_steps)
 
-    new : n ≡ length log → put ≡ other → after (version_after (log ++ put ∷ []) n) 0 other ≡ Ok (version_after (log ++ put ∷ []) (n + 1))
+    new : n ≡ length log → change ≡ other → after (version_after (log ++ change ∷ []) n) 0 other ≡ Ok (version_after (log ++ change ∷ []) (n + 1))
     new e same =
         rw (e, sym same)
-        (ap (λ d. after d 0 put) (earlier (length log) (omega arith) ∙ ap database_after whole)
-        ∙ accepted_by_tables (database_after log) m put database h
-        ∙ ap (λ d. Ok d) (sym (ap database_after all ∙ database_of-more m log put database h)))
+        (ap (λ d. after d 0 change) (earlier (length log) (omega arith) ∙ ap database_after whole)
+        ∙ accepted_by_tables (database_after log) m change database h
+        ∙ ap (λ d. Ok d) (sym (ap database_after all ∙ database_of-more m log change database h)))
 
-pub logs_hold_accepted_puts : LogsHoldAcceptedPuts
-logs_hold_accepted_puts = (λ n put at. cc, λ n log put is. kept n log put is (after (database_after log) n put) refl)
+pub logs_hold_accepted_changes : LogsHoldAcceptedChanges
+logs_hold_accepted_changes = (λ n change at. cc, λ n log change is. kept n log change is (after (database_after log) n change) refl)
   where
-    kept : (n : ℕ) (log : List Put) (put : Put) → AreAccepted log → (result : Result Database Fault) → after (database_after log) n put ≡ result →
-        AreAccepted (logged n log put)
-    kept n log put is (Ok database) h = subst (λ (l : List Put). AreAccepted l) (sym (logs_grow n log put database h).0) (longer_log n log put database is h)
-    kept n log put is (Err fault) h = subst (λ (l : List Put). AreAccepted l) (sym (logs_stay n log put fault h)) is
+    kept : (n : ℕ) (log : List Change) (change : Change) → AreAccepted log → (result : Result Database Fault) → after (database_after log) n change ≡ result →
+        AreAccepted (logged n log change)
+    kept n log change is (Ok database) h = subst (λ (l : List Change). AreAccepted l) (sym (logs_grow n log change database h).0) (longer_log n log change database is h)
+    kept n log change is (Err fault) h = subst (λ (l : List Change). AreAccepted l) (sym (logs_stay n log change fault h)) is

@@ -9,9 +9,10 @@ use Rattle.std.proofs.lemmas.Cmp.{nat_list_cmp_total}
 use Rattle.scan_base.specs.declared.fault.Fault.{Fault}
 use Rattle.scan_base.specs.Reading.{first_fault, unless}
 use Rattle.table_versions.specs.Table.{Name}
-use Rattle.table_versions.specs.Database.{Database, Put, table_at, with_table, table_after, put_faults, accepted, with_put, with_all}
+use Rattle.table_versions.specs.Database.{Database, Change, putting, dropping, table_at, with_table, without_table, table_after, change_faults, changed, accepted, with_change, with_all}
 use Rattle.table_versions.specs.Order.{StandsBefore, IsInOrder}
 use Rattle.table_versions.specs.Laws.{NamesAreInOrder}
+use Rattle.table_versions.proofs.Search.{still}
 
 -- of two names that are not the same, one is the lower
 lower : (name other : Name) → bytes_eq other name ≡ false → is_lt (slice_cmp nat_cmp name other) ≡ false → is_lt (slice_cmp nat_cmp other name) ≡ true
@@ -48,17 +49,39 @@ module _ {T : Type 0} (name : Name) (table : T) where
             ] refl
       ] refl
 
-in_order-with_put : (database : Database) (put : Put) → IsInOrder database → IsInOrder (with_put database put)
-in_order-with_put database put h = told (first_fault (put_faults database 0 put))
-  where
-    told : (refused : Option Fault) →
-        IsInOrder (accepted database (unless refused (with_table put.table (table_after put.if_exists (table_at database put.table) put) database)))
-    told (Some fault) = h
-    told None = in_order-with_table put.table (table_after put.if_exists (table_at database put.table) put) database h
+module _ {T : Type 0} (name : Name) where
+  -- a lower name stands before what is left
+  before-without_table : (low : Name) (entries : List (Name × T)) → StandsBefore low entries → IsInOrder entries → StandsBefore low (without_table name entries)
+  before-without_table low [] h g = tt
+  before-without_table low (entry ∷ entries) h g = by (bytes_eq entry.0 name) (before-without_table low entries (still low entry entries h g) g.1)
+    where
+      by : (same : Bool) → StandsBefore low (without_table name entries) → StandsBefore low (if same then without_table name entries else entry ∷ without_table name entries)
+      by true rest = rest
+      by false rest = h
 
-in_order-with_all : (database : Database) (log : List Put) → IsInOrder database → IsInOrder (with_all database log)
+  pub in_order-without_table : (entries : List (Name × T)) → IsInOrder entries → IsInOrder (without_table name entries)
+  in_order-without_table [] h = tt
+  in_order-without_table (entry ∷ entries) h = by (bytes_eq entry.0 name) (in_order-without_table entries h.1) (before-without_table entry.0 entries h.0 h.1)
+    where
+      by : (same : Bool) → IsInOrder (without_table name entries) → StandsBefore entry.0 (without_table name entries)
+          → IsInOrder (if same then without_table name entries else entry ∷ without_table name entries)
+      by true rest first = rest
+      by false rest first = (first, rest)
+
+in_order-changed : (database : Database) (change : Change) → IsInOrder database → IsInOrder (changed database change)
+in_order-changed database (putting put) h = in_order-with_table put.table (table_after put.if_exists (table_at database put.table) put) database h
+in_order-changed database (dropping name) h = in_order-without_table name database h
+
+in_order-with_change : (database : Database) (change : Change) → IsInOrder database → IsInOrder (with_change database change)
+in_order-with_change database change h = told (first_fault (change_faults database 0 change))
+  where
+    told : (refused : Option Fault) → IsInOrder (accepted database (unless refused (changed database change)))
+    told (Some fault) = h
+    told None = in_order-changed database change h
+
+in_order-with_all : (database : Database) (log : List Change) → IsInOrder database → IsInOrder (with_all database log)
 in_order-with_all database [] h = h
-in_order-with_all database (put ∷ log) h = in_order-with_all (with_put database put) log (in_order-with_put database put h)
+in_order-with_all database (change ∷ log) h = in_order-with_all (with_change database change) log (in_order-with_change database change h)
 
 pub names_are_in_order : NamesAreInOrder
 names_are_in_order log = in_order-with_all [] log tt

@@ -1,7 +1,8 @@
 -- Worked rows: the definitions, tried on puts that were worked out by hand.
-use Rattle.std.proofs.Common.{ℕ, zero, suc, ◌≡◌, refl, pos, true, false, List, [], ◌∷◌, codes, Some, Ok, Err, replicate, map, is_ok}
+use Rattle.std.proofs.Common.{Result, ℕ, zero, suc, ◌≡◌, refl, pos, true, false, List, [], ◌∷◌, codes, Some, Ok, Err, replicate, map, is_ok}
 use Rattle.std.specs.List.{range_with_len}
 use Rattle.scan_base.specs.declared.value.Value.TheVariants.{Int, Null, Text}
+use Rattle.scan_base.specs.declared.fault.Fault.{Fault}
 use Rattle.scan_base.specs.declared.fault.Fault.TheVariants.{TableMissing, TableExists, LimitReached, BadBatch, SchemaMismatch}
 use Rattle.arrow_types.specs.declared.data_type.DataType.{DataType}
 use Rattle.arrow_types.specs.declared.data_type.DataType.TheVariants.{Number, Utf8, Dictionary}
@@ -14,9 +15,24 @@ use Rattle.scan_base.specs.declared.put_options.IfExists.TheVariants.{Unspecifie
 use Rattle.scan_base.specs.declared.put_options.IfNotExist.{IfNotExist}
 use Rattle.scan_base.specs.declared.put_options.IfNotExist.TheVariants as absent
 use Rattle.table_versions.specs.Table.{Name, Row, Table}
-use Rattle.table_versions.specs.Database.{Database, Put, after, database_after, version_after, AreAccepted, logged}
+use Rattle.table_versions.specs.Database.{Database, Put, Change, putting, dropping}
+use Rattle.table_versions.specs.Database as changes
 use Rattle.table_versions.specs.StoredTables.{stored_after}
 use Rattle.table_versions.specs.StatsPages.{AreRowsFrom}
+
+-- ---- puts alone
+
+abbrev after : Database → ℕ → Put → Result Database Fault
+after database n one = changes.after database n (putting one)
+
+abbrev database_after : List Put → Database
+database_after puts = changes.database_after (map putting puts)
+
+abbrev version_after : List Put → ℕ → Database
+version_after puts n = changes.version_after (map putting puts) n
+
+abbrev logged : ℕ → List Put → Put → List Change
+logged n puts one = changes.logged n (map putting puts) (putting one)
 
 abbrev field : Name → DataType → Field
 field name data_type = record { name = name; nullable = false; data_type = data_type }
@@ -187,20 +203,54 @@ version-65537-present : after (database_after (created ∷ [])) 65536 created �
 version-65537-present = refl
 
 -- a refused put is not logged, and an accepted one is
-not_logged : logged 1 (created ∷ []) created ≡ created ∷ []
+not_logged : logged 1 (created ∷ []) created ≡ putting created ∷ []
 not_logged = refl
 
-is_logged : logged 1 (created ∷ []) replaced ≡ created ∷ replaced ∷ []
+is_logged : logged 1 (created ∷ []) replaced ≡ putting created ∷ putting replaced ∷ []
 is_logged = refl
 
-logged-65536 : logged 65535 (created ∷ []) replaced ≡ created ∷ replaced ∷ []
+logged-65536 : logged 65535 (created ∷ []) replaced ≡ putting created ∷ putting replaced ∷ []
 logged-65536 = refl
 
-not_logged-65537 : logged 65536 (created ∷ []) replaced ≡ created ∷ []
+not_logged-65537 : logged 65536 (created ∷ []) replaced ≡ putting created ∷ []
 not_logged-65537 = refl
 
-refused_in_log : AreAccepted (created ∷ created ∷ []) → ⊥
-refused_in_log is = let no : Err TableExists ≡ Ok (version_after (created ∷ created ∷ []) 2) = is 1 created refl in cc
+refused_in_log : changes.AreAccepted (putting created ∷ putting created ∷ []) → ⊥
+refused_in_log is = let no : Err TableExists ≡ Ok (version_after (created ∷ created ∷ []) 2) = is 1 (putting created) refl in cc
+
+-- ---- drops
+
+-- a table that was dropped is away, and the others stay in their order
+dropped : changes.database_after (putting (named (codes "b") []) ∷ putting (named (codes "ab") (int 1 ∷ [])) ∷ putting (named (codes "a") []) ∷ dropping (codes "ab") ∷ [])
+    ≡ (codes "a", table int64 []) ∷ (codes "b", table int64 []) ∷ []
+dropped = refl
+
+-- it takes a number, and the version before has the table still
+before_drop : changes.version_after (putting created ∷ dropping (codes "t") ∷ []) 1 ≡ (codes "t", table int64 (int 1 ∷ int 2 ∷ [])) ∷ []
+before_drop = refl
+
+after_drop : changes.version_after (putting created ∷ dropping (codes "t") ∷ []) 2 ≡ []
+after_drop = refl
+
+-- its name may be put again
+put_again : changes.database_after (putting created ∷ dropping (codes "t") ∷ putting created ∷ []) ≡ (codes "t", table int64 (int 1 ∷ int 2 ∷ [])) ∷ []
+put_again = refl
+
+-- the name comes before the table, and it before the versions
+drop-65 : changes.after [] 65536 (dropping (replicate 65 97)) ≡ Err LimitReached
+drop-65 = refl
+
+drop-0 : changes.after [] 0 (dropping []) ≡ Err LimitReached
+drop-0 = refl
+
+drop_absent : changes.after (database_after (created ∷ [])) 65536 (dropping (codes "u")) ≡ Err TableMissing
+drop_absent = refl
+
+drop-65536 : changes.after (database_after (created ∷ [])) 65535 (dropping (codes "t")) ≡ Ok []
+drop-65536 = refl
+
+drop-65537 : changes.after (database_after (created ∷ [])) 65536 (dropping (codes "t")) ≡ Err LimitReached
+drop-65537 = refl
 
 -- batches without rows are not stored, and an append's stand after the old ones
 abbrev batch : ℕ → BatchAt

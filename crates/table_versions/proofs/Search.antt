@@ -33,7 +33,7 @@ other_back a b h = nat_list_eq_equiv.symm b a ∙ other a b h
 
 module _ {T : Type 0} where
   -- what stands before entries stands before all but the first
-  still : (low : Name) (x : Name × T) (es : List (Name × T)) → IsBelow low x.0 → IsInOrder (x ∷ es) → StandsBefore low es
+  pub still : (low : Name) (x : Name × T) (es : List (Name × T)) → IsBelow low x.0 → IsInOrder (x ∷ es) → StandsBefore low es
   still low x [] h g = tt
   still low x (y ∷ es) h g = below-trans low x.0 y.0 h g.0
 

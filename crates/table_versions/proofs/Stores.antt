@@ -13,8 +13,9 @@ use Rattle.arrays.specs.Batch.{BatchAt, rows_of}
 use Rattle.scan_base.specs.declared.put_options.IfExists.{IfExists}
 use Rattle.scan_base.specs.declared.put_options.IfExists.TheVariants.{Unspecified, Fail, Append, Replace}
 use Rattle.table_versions.specs.Table.{Name}
-use Rattle.table_versions.specs.Database.{Database, table_at, with_table, table_after, faults_at, put_faults, after}
-use Rattle.table_versions.specs.StoredTables.{TableAt, CatalogAt, PutAt, table_of, plain, tables_of, put_of, kept, stored_after, catalog_after}
+use Rattle.table_versions.specs.Database.{Database, putting, dropping, table_at, with_table, without_table, table_after, faults_at, put_faults, drop_faults_at, after}
+use Rattle.table_versions.proofs.Removing.{without_table-tables_of}
+use Rattle.table_versions.specs.StoredTables.{TableAt, CatalogAt, PutAt, ChangeAt, storing, removing, table_of, plain, tables_of, put_of, change_of, kept, stored_after, catalog_put, catalog_drop, catalog_after}
 
 -- a batch without rows adds none
 rows-kept : (batches : List BatchAt) → flat_map rows_of (kept batches) ≡ flat_map rows_of batches
@@ -80,8 +81,8 @@ seen (Ok catalog) = Ok (tables_of catalog)
 seen (Err fault) = Err fault
 
 -- the tables after a put are those of the catalog after it
-after-tables_of : (catalog : CatalogAt) (n : ℕ) (put : PutAt) → after (tables_of catalog) n (put_of put) ≡ seen (catalog_after catalog n put)
-after-tables_of catalog n put = kind (first_fault (put_faults (tables_of catalog) n (put_of put)))
+put-tables_of : (catalog : CatalogAt) (n : ℕ) (put : PutAt) → after (tables_of catalog) n (putting (put_of put)) ≡ seen (catalog_put catalog n put)
+put-tables_of catalog n put = kind (first_fault (put_faults (tables_of catalog) n (put_of put)))
   where
     made : with_table put.table (table_after put.if_exists (table_at (tables_of catalog) put.table) (put_of put)) (tables_of catalog)
         ≡ tables_of (with_table put.table (stored_after put.if_exists (table_at catalog put.table) put) catalog)
@@ -95,18 +96,30 @@ after-tables_of catalog n put = kind (first_fault (put_faults (tables_of catalog
     kind (Some fault) = refl
     kind None = ap (λ database. Ok database) made
 
+-- and after a drop
+drop-tables_of : (catalog : CatalogAt) (n : ℕ) (name : Name) → after (tables_of catalog) n (dropping name) ≡ seen (catalog_drop catalog n name)
+drop-tables_of catalog n name = kind (first_fault (drop_faults_at (table_at (tables_of catalog) name) n name))
+  where
+    kind : (refused : Option Fault) → unless refused (without_table name (tables_of catalog)) ≡ seen (unless refused (without_table name catalog))
+    kind (Some fault) = refl
+    kind None = ap (λ database. Ok database) (without_table-tables_of name catalog)
+
+after-tables_of : (catalog : CatalogAt) (n : ℕ) (change : ChangeAt) → after (tables_of catalog) n (change_of change) ≡ seen (catalog_after catalog n change)
+after-tables_of catalog n (storing put) = put-tables_of catalog n put
+after-tables_of catalog n (removing name) = drop-tables_of catalog n name
+
 -- what is right of the batches is right of the rows
-pub gives_tables : (catalog : CatalogAt) (n : ℕ) (put : PutAt) (result : Result CatalogAt Fault) →
-    GivesUnlessMemory (λ (c : CatalogAt). c) result (catalog_after catalog n put) →
-    GivesUnlessMemory tables_of result (after (tables_of catalog) n (put_of put))
-gives_tables catalog n put (Ok new) h = after-tables_of catalog n put ∙ ap seen h
-gives_tables catalog n put (Err fault) h = λ real. after-tables_of catalog n put ∙ ap seen (h real)
+pub gives_tables : (catalog : CatalogAt) (n : ℕ) (change : ChangeAt) (result : Result CatalogAt Fault) →
+    GivesUnlessMemory (λ (c : CatalogAt). c) result (catalog_after catalog n change) →
+    GivesUnlessMemory tables_of result (after (tables_of catalog) n (change_of change))
+gives_tables catalog n change (Ok new) h = after-tables_of catalog n change ∙ ap seen h
+gives_tables catalog n change (Err fault) h = λ real. after-tables_of catalog n change ∙ ap seen (h real)
 
 -- and so is what comes first
-pub refuses_rows : (catalog : CatalogAt) (n : ℕ) (put : PutAt) (result : Result CatalogAt Fault) →
-    RefusesFirst result (catalog_after catalog n put) → RefusesFirst result (after (tables_of catalog) n (put_of put))
-refuses_rows catalog n put result h =
-    subst (λ (read : Result Database Fault). RefusesFirst result read) (sym (after-tables_of catalog n put)) (by (catalog_after catalog n put) h)
+pub refuses_rows : (catalog : CatalogAt) (n : ℕ) (change : ChangeAt) (result : Result CatalogAt Fault) →
+    RefusesFirst result (catalog_after catalog n change) → RefusesFirst result (after (tables_of catalog) n (change_of change))
+refuses_rows catalog n change result h =
+    subst (λ (read : Result Database Fault). RefusesFirst result read) (sym (after-tables_of catalog n change)) (by (catalog_after catalog n change) h)
   where
     by : (read : Result CatalogAt Fault) → RefusesFirst result read → RefusesFirst result (seen read)
     by (Ok new) h = tt
@@ -121,18 +134,36 @@ module _ (catalog : CatalogAt) (n : ℕ) (put : PutAt) (there : Option TableAt) 
       ∙ ap (λ number. faults_at (plain there) number n (put_of put)) (sym count)
 
   pub refused_by : (refused : Option Fault) → refused ≡ first_fault (faults_at (plain there) tables n (put_of put)) →
-      catalog_after catalog n put ≡ unless refused (with_table put.table (stored_after put.if_exists there put) catalog)
+      catalog_put catalog n put ≡ unless refused (with_table put.table (stored_after put.if_exists there put) catalog)
   refused_by refused h =
       ap (λ old. unless (first_fault (put_faults (tables_of catalog) n (put_of put))) (with_table put.table (stored_after put.if_exists old put) catalog)) (sym at)
       ∙ ap (λ rows. unless (first_fault rows) (with_table put.table (stored_after put.if_exists there put) catalog)) faults
       ∙ ap (λ f. unless f (with_table put.table (stored_after put.if_exists there put) catalog)) (sym h)
 
   pub refuses_by : (fault : Fault) → Some fault ≡ first_fault (faults_at (plain there) tables n (put_of put)) →
-      RefusesFirst {X = CatalogAt} (Err fault) (catalog_after catalog n put)
+      RefusesFirst {X = CatalogAt} (Err fault) (catalog_put catalog n put)
   refuses_by fault h =
       subst (λ (read : Result CatalogAt Fault). RefusesFirst {X = CatalogAt} (Err fault) read) (sym (refused_by (Some fault) h)) refl
 
   -- one that passes them may be answered in any way
   pub passes_by : (result : Result CatalogAt Fault) → None ≡ first_fault (faults_at (plain there) tables n (put_of put)) →
-      RefusesFirst result (catalog_after catalog n put)
+      RefusesFirst result (catalog_put catalog n put)
   passes_by result h = subst (λ (read : Result CatalogAt Fault). RefusesFirst result read) (sym (refused_by None h)) tt
+
+-- and a drop as its own
+module _ (catalog : CatalogAt) (n : ℕ) (name : Name) (there : Option TableAt) (at : there ≡ table_at catalog name) where
+  pub drop_refused_by : (refused : Option Fault) → refused ≡ first_fault (drop_faults_at (plain there) n name) →
+      catalog_drop catalog n name ≡ unless refused (without_table name catalog)
+  drop_refused_by refused h =
+      ap (λ old. unless (first_fault (drop_faults_at old n name)) (without_table name catalog)) (table_at-tables_of catalog name ∙ ap plain (sym at))
+      ∙ ap (λ f. unless f (without_table name catalog)) (sym h)
+
+  pub drop_refuses_by : (fault : Fault) → Some fault ≡ first_fault (drop_faults_at (plain there) n name) →
+      RefusesFirst {X = CatalogAt} (Err fault) (catalog_drop catalog n name)
+  drop_refuses_by fault h =
+      subst (λ (read : Result CatalogAt Fault). RefusesFirst {X = CatalogAt} (Err fault) read) (sym (drop_refused_by (Some fault) h)) refl
+
+  -- one that passes them may be answered in any way
+  pub drop_passes_by : (result : Result CatalogAt Fault) → None ≡ first_fault (drop_faults_at (plain there) n name) →
+      RefusesFirst result (catalog_drop catalog n name)
+  drop_passes_by result h = subst (λ (read : Result CatalogAt Fault). RefusesFirst result read) (sym (drop_refused_by None h)) tt

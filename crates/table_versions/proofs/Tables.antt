@@ -16,12 +16,12 @@ use Rattle.scan_base.specs.declared.put_options.IfExists.{IfExists}
 use Rattle.scan_base.specs.declared.put_options.IfExists.TheVariants.{Unspecified, Fail, Append, Replace}
 use Rattle.scan_base.specs.Limits.{most_name_bytes, most_rows}
 use Rattle.table_versions.specs.Table.{Name, Row, Table, same_name, same_fields, has_bad_null, is_long_text}
-use Rattle.table_versions.specs.Database.{Database, Put, table_at, with_table, table_after, columns_of, differs, put_faults, after, accepted, with_put, with_all}
-use Rattle.table_versions.specs.Valid.{IsRow, IsTable, IsName, IsDatabase, HasTypes, IsPut}
-use Rattle.table_versions.specs.Laws.{AcceptedPutsKeepDatabases, VersionsAreDatabases}
+use Rattle.table_versions.specs.Database.{Database, Put, Change, putting, dropping, table_at, with_table, without_table, table_after, columns_of, differs, put_faults, drop_faults_at, after, accepted, with_change, with_all}
+use Rattle.table_versions.specs.Valid.{IsRow, IsTable, IsName, IsDatabase, HasTypes, IsPut, IsChange}
+use Rattle.table_versions.specs.Laws.{AcceptedChangesKeepDatabases, VersionsAreDatabases}
 use Rattle.table_versions.proofs.Accepted.{among, unrefused, given}
 use Rattle.table_versions.proofs.Alike.{row_alike}
-use Rattle.table_versions.proofs.Order.{in_order-with_table}
+use Rattle.table_versions.proofs.Order.{in_order-with_table, in_order-without_table}
 use Rattle.table_versions.proofs.Storable.{first_false, second_false}
 
 -- ---- rows
@@ -67,6 +67,16 @@ module _ {T : Type 0} (P : (Name × T) → Type 0) (name : Name) (table : T) whe
       placed true b rest = All-cons P (name, table) entries new (All-tail P entry entries old)
       placed false true rest = All-cons P (name, table) (entry ∷ entries) new old
       placed false false rest = All-cons P entry (with_table name table entries) (All-head P entry entries old) rest
+
+-- what is left without a table is as it was
+module _ {T : Type 0} (P : (Name × T) → Type 0) (name : Name) where
+  pub all_without_table : (entries : List (Name × T)) → All P entries → All P (without_table name entries)
+  all_without_table [] old = All-nil P
+  all_without_table (entry ∷ entries) old = by (bytes_eq entry.0 name) (all_without_table entries (All-tail P entry entries old))
+    where
+      by : (same : Bool) → All P (without_table name entries) → All P (if same then without_table name entries else entry ∷ without_table name entries)
+      by true rest = rest
+      by false rest = All-cons P entry (without_table name entries) (All-head P entry entries old) rest
 
 -- what stands at a name is a table
 found_is : (entries : Database) (name : Name) (table : Table) → All (λ (entry : Name × Table). IsTable entry.1) entries → table_at entries name ≡ Some table → IsTable table
@@ -143,8 +153,8 @@ name_is name h =
     let few = second_false (length name == 0) (nat_lt most_name_bytes (length name)) h in
     record { some = search (rules, some); few = search (rules, few) }
 
-pub accepted_puts_keep_databases : AcceptedPutsKeepDatabases
-accepted_puts_keep_databases old n put new is rows h =
+put_keeps : (old : Database) (n : ℕ) (put : Put) (new : Database) → IsDatabase old → IsPut put → after old n (putting put) ≡ Ok new → IsDatabase new
+put_keeps old n put new is rows h =
     let there = table_at old put.table in
     let table = table_after put.if_exists there put in
     let refused = first_fault (put_faults old n put) in
@@ -157,16 +167,30 @@ accepted_puts_keep_databases old n put new is rows h =
       ordered = in_order-with_table put.table table old is.ordered;
     })
 
+-- ---- one drop
+
+drop_keeps : (old : Database) (n : ℕ) (name : Name) (new : Database) → IsDatabase old → after old n (dropping name) ≡ Ok new → IsDatabase new
+drop_keeps old n name new is h =
+    subst IsDatabase (given (first_fault (drop_faults_at (table_at old name) n name)) (without_table name old) new h) (record {
+      tables = all_without_table (λ (entry : Name × Table). IsTable entry.1) name old is.tables;
+      names = all_without_table (λ (entry : Name × Table). IsName entry.0) name old is.names;
+      ordered = in_order-without_table name old is.ordered;
+    })
+
+pub accepted_changes_keep_databases : AcceptedChangesKeepDatabases
+accepted_changes_keep_databases old n (putting put) new is rows h = put_keeps old n put new is rows h
+accepted_changes_keep_databases old n (dropping name) new is rows h = drop_keeps old n name new is h
+
 -- ---- logs
 
-kept : (old : Database) (n : ℕ) (put : Put) (result : Result Database Fault) → after old n put ≡ result → IsDatabase old → IsPut put → IsDatabase (accepted old result)
-kept old n put (Ok new) h is rows = accepted_puts_keep_databases old n put new is rows h
-kept old n put (Err fault) h is rows = is
+kept : (old : Database) (n : ℕ) (change : Change) (result : Result Database Fault) → after old n change ≡ result → IsDatabase old → IsChange change → IsDatabase (accepted old result)
+kept old n change (Ok new) h is rows = accepted_changes_keep_databases old n change new is rows h
+kept old n change (Err fault) h is rows = is
 
-all_kept : (old : Database) (log : List Put) → IsDatabase old → All IsPut log → IsDatabase (with_all old log)
-all_kept old [] is puts = is
-all_kept old (put ∷ log) is puts =
-    all_kept (with_put old put) log (kept old 0 put (after old 0 put) refl is (All-head IsPut put log puts)) (All-tail IsPut put log puts)
+all_kept : (old : Database) (log : List Change) → IsDatabase old → All IsChange log → IsDatabase (with_all old log)
+all_kept old [] is changes = is
+all_kept old (change ∷ log) is changes =
+    all_kept (with_change old change) log (kept old 0 change (after old 0 change) refl is (All-head IsChange change log changes)) (All-tail IsChange change log changes)
 
 none : IsDatabase []
 none = record {
@@ -176,4 +200,4 @@ none = record {
 }
 
 pub versions_are_databases : VersionsAreDatabases
-versions_are_databases log puts n = all_kept [] (take n log) none (All-take IsPut n log puts)
+versions_are_databases log changes n = all_kept [] (take n log) none (All-take IsChange n log changes)

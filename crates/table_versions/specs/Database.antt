@@ -1,4 +1,4 @@
--- The database after a put, and after a log of puts.
+-- The database after a change, and after many. A change is a put, or a drop of a table.
 use Rattle.std.specs.Prelude.{◌≡◌, ℕ, ◌+◌, ◌==◌, Bool, false, not, ◌&&◌, ◌||◌, if◌then◌else◌, List}
 use Rattle.std.specs.Prelude.{[], ◌∷◌, ◌++◌, length, take, slice_get, nat_lt, nat_le, Option, Some}
 use Rattle.std.specs.Prelude.{None, is_some, Result, Ok, Err}
@@ -38,6 +38,13 @@ with_table name table (entry ∷ entries) =
     else (if is_lt (slice_cmp nat_cmp name entry.0) then (name, table) ∷ entry ∷ entries
     else entry ∷ with_table name table entries)
 
+-- without the table of a name
+abbrev pub without_table : {T : Type 0} → Name → List (Name × T) → List (Name × T)
+without_table name [] = []
+without_table name (entry ∷ entries) =
+    if bytes_eq entry.0 name then without_table name entries
+    else entry ∷ without_table name entries
+
 -- a put: the table's name, what to do where it is absent and where it is there, columns and rows
 pub record Put : Type 0 where
   pub table : Name
@@ -45,6 +52,11 @@ pub record Put : Type 0 where
   pub if_exists : IfExists
   pub schema : Schema
   pub rows : List Row
+
+-- a change: a put, or a drop of the table of a name
+pub data Change : Type 0 where
+  putting : Put → Change
+  dropping : Name → Change
 
 -- the table after a put: an append goes on with the old rows, else the put's table stands alone
 abbrev pub table_after : IfExists → Option Table → Put → Table
@@ -81,44 +93,62 @@ faults_at there tables n put =
 abbrev pub put_faults : Database → ℕ → Put → List (Bool × Fault)
 put_faults database n put = faults_at (table_at database put.table) (length database) n put
 
--- the database after a put, or the first fault, where n versions stand above the floor
-abbrev pub after : Database → ℕ → Put → Result Database Fault
-after database n put =
-    unless (first_fault (put_faults database n put))
-    (with_table put.table (table_after put.if_exists (table_at database put.table) put) database)
+-- why a drop is refused, in this order, where this is the table of its name, and n versions stand
+-- above the floor
+abbrev pub drop_faults_at : Option Table → ℕ → Name → List (Bool × Fault)
+drop_faults_at there n name =
+    (length name == 0 || nat_lt most_name_bytes (length name), LimitReached) ∷
+    (not (is_some there), TableMissing) ∷ (nat_le most_commits n, LimitReached) ∷ []
 
--- a refused put leaves everything
+-- why a change is refused at a database, where n versions stand above the floor
+abbrev pub change_faults : Database → ℕ → Change → List (Bool × Fault)
+change_faults database n (putting put) = put_faults database n put
+change_faults database n (dropping name) = drop_faults_at (table_at database name) n name
+
+-- the database with a change that is not refused: a put's table stands at its name, and a table
+-- that is dropped is away
+abbrev pub changed : Database → Change → Database
+changed database (putting put) =
+    with_table put.table (table_after put.if_exists (table_at database put.table) put) database
+changed database (dropping name) = without_table name database
+
+-- the database after a change, or the first fault, where n versions stand above the floor
+abbrev pub after : Database → ℕ → Change → Result Database Fault
+after database n change =
+    unless (first_fault (change_faults database n change)) (changed database change)
+
+-- a refused change leaves everything
 abbrev pub accepted : Database → Result Database Fault → Database
 accepted old (Ok new) = new
 accepted old (Err fault) = old
 
--- the database with a put, which no number of versions refuses
-abbrev pub with_put : Database → Put → Database
-with_put database put = accepted database (after database 0 put)
+-- the database with a change, which no number of versions refuses
+abbrev pub with_change : Database → Change → Database
+with_change database change = accepted database (after database 0 change)
 
--- the database with these puts
-abbrev pub with_all : Database → List Put → Database
+-- the database with these changes
+abbrev pub with_all : Database → List Change → Database
 with_all database [] = database
-with_all database (put ∷ puts) = with_all (with_put database put) puts
+with_all database (change ∷ changes) = with_all (with_change database change) changes
 
--- the database after puts, of which those that the tables refuse are passed over
-abbrev pub database_after : List Put → Database
-database_after puts = with_all [] puts
+-- the database after changes, of which those that the tables refuse are passed over
+abbrev pub database_after : List Change → Database
+database_after changes = with_all [] changes
 
--- version n is the database after the first n puts
-abbrev pub version_after : List Put → ℕ → Database
-version_after puts n = database_after (take n puts)
+-- version n is the database after the first n changes
+abbrev pub version_after : List Change → ℕ → Database
+version_after changes n = database_after (take n changes)
 
--- the tables refuse none of these puts: put n gives version n + 1 at version n
-abbrev pub AreAccepted : List Put → Type 0
-AreAccepted puts = (n : ℕ) (put : Put) → slice_get puts n ≡ Some put →
-    after (version_after puts n) 0 put ≡ Ok (version_after puts (n + 1))
+-- the tables refuse none of these changes: change n gives version n + 1 at version n
+abbrev pub AreAccepted : List Change → Type 0
+AreAccepted changes = (n : ℕ) (change : Change) → slice_get changes n ≡ Some change →
+    after (version_after changes n) 0 change ≡ Ok (version_after changes (n + 1))
 
--- the puts after one more, where n versions stand above the floor: an accepted one stands at their
--- end, and a refused one changes nothing
-abbrev pub logged : ℕ → List Put → Put → List Put
-logged n puts put = going (after (database_after puts) n put)
+-- the changes after one more, where n versions stand above the floor: an accepted one stands at
+-- their end, and a refused one changes nothing
+abbrev pub logged : ℕ → List Change → Change → List Change
+logged n changes change = going (after (database_after changes) n change)
   where
-    going : Result Database Fault → List Put
-    going (Ok database) = puts ++ put ∷ []
-    going (Err fault) = puts
+    going : Result Database Fault → List Change
+    going (Ok database) = changes ++ change ∷ []
+    going (Err fault) = changes

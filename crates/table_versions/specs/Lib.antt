@@ -4,6 +4,7 @@ pub mod Table
 pub mod Columns
 pub mod Database
 pub mod StoredTables
+pub mod Changes
 pub mod KeptTables
 pub mod Valid
 pub mod Order

@@ -9,7 +9,8 @@ use Rattle.scan_base.specs.declared.put_options.IfExists.{IfExists}
 use Rattle.scan_base.specs.declared.put_options.IfExists.TheVariants.{Append}
 use Rattle.scan_base.specs.declared.put_options.IfNotExist.{IfNotExist}
 use Rattle.table_versions.specs.Table.{Name, Table}
-use Rattle.table_versions.specs.Database.{Database, Put, table_at, with_table, put_faults}
+use Rattle.table_versions.specs.Database.{Database, Put, Change, putting, dropping, table_at}
+use Rattle.table_versions.specs.Database.{with_table, without_table, put_faults, drop_faults_at}
 
 -- a stored table: its columns, and its batches in order
 pub record TableAt : Type 0 where
@@ -20,7 +21,7 @@ pub record TableAt : Type 0 where
 abbrev pub CatalogAt : Type 0
 CatalogAt = List (Name × TableAt)
 
--- a catalog and the number of puts that it comes after
+-- a catalog and the number of changes that it comes after
 pub record VersionAt : Type 0 where
   pub number : ℕ
   pub catalog : CatalogAt
@@ -57,6 +58,16 @@ put_of put =
       rows = flat_map rows_of put.batches;
     }
 
+-- a change with its rows in batches
+pub data ChangeAt : Type 0 where
+  storing : PutAt → ChangeAt
+  removing : Name → ChangeAt
+
+-- the change of a stored one
+abbrev pub change_of : ChangeAt → Change
+change_of (storing put) = putting (put_of put)
+change_of (removing name) = dropping name
+
 -- whether a batch has rows
 abbrev pub has_rows : BatchAt → Bool
 has_rows batch = nat_lt 0 batch.rows
@@ -72,7 +83,18 @@ stored_after Append (Some old) put =
 stored_after _ _ put = record { schema = put.schema; batches = kept put.batches }
 
 -- the catalog after a put, or the first fault
-abbrev pub catalog_after : CatalogAt → ℕ → PutAt → Result CatalogAt Fault
-catalog_after catalog n put =
+abbrev pub catalog_put : CatalogAt → ℕ → PutAt → Result CatalogAt Fault
+catalog_put catalog n put =
     unless (first_fault (put_faults (tables_of catalog) n (put_of put)))
     (with_table put.table (stored_after put.if_exists (table_at catalog put.table) put) catalog)
+
+-- the catalog after a drop, or the first fault
+abbrev pub catalog_drop : CatalogAt → ℕ → Name → Result CatalogAt Fault
+catalog_drop catalog n name =
+    unless (first_fault (drop_faults_at (table_at (tables_of catalog) name) n name))
+    (without_table name catalog)
+
+-- the catalog after a change, or the first fault
+abbrev pub catalog_after : CatalogAt → ℕ → ChangeAt → Result CatalogAt Fault
+catalog_after catalog n (storing put) = catalog_put catalog n put
+catalog_after catalog n (removing name) = catalog_drop catalog n name

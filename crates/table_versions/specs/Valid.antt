@@ -8,7 +8,7 @@ use Rattle.arrays.specs.TypedLayouts.{IsValueOf}
 use Rattle.scan_base.specs.Value.{is_null}
 use Rattle.scan_base.specs.Limits.{most_name_bytes, most_rows}
 use Rattle.table_versions.specs.Table.{Name, Row, Table, same_name, is_long_text}
-use Rattle.table_versions.specs.Database.{Database, Put, version_after}
+use Rattle.table_versions.specs.Database.{Database, Put, Change, putting, dropping, version_after}
 use Rattle.table_versions.specs.Order.{IsInOrder}
 
 -- a value of a column: of its type, null only where the column takes nulls, and no text above the
@@ -53,6 +53,11 @@ pub record IsPut (put : Put) : Type 0 where
   pub columns : IsSchema put.schema
   pub rows : All (HasTypes put.schema.fields) put.rows
 
+-- the same of the put that a change is; a drop comes with no rows
+abbrev pub IsChange : Change → Type 0
+IsChange (putting put) = IsPut put
+IsChange (dropping name) = Unit {0}
+
 -- each version of a log is a database
-abbrev pub HasDatabases : List Put → Type 0
+abbrev pub HasDatabases : List Change → Type 0
 HasDatabases log = (n : ℕ) → IsDatabase (version_after log n)

@@ -1,11 +1,12 @@
 //! A version of the catalog: tables by name.
 
-ghost use Rattle.std.specs.Prelude.{◌≡◌, ◌==◌, ◌≤◌, ◌<◌, [], Some, All, length, map, IfOk};
-ghost use Rattle.std.specs.Prelude.{slice_get};
+ghost use Rattle.std.specs.Prelude.{◌≡◌, ◌==◌, ◌≤◌, ◌<◌, ◌++◌, ◌∷◌, [], Some, All, length, map};
+ghost use Rattle.std.specs.Prelude.{IfOk, OnOk, if◌then◌else◌, slice_get};
+ghost use Rattle.std.specs.Str.{bytes_eq};
 ghost use Rattle.std.specs.Option.{option_copied};
 ghost use Rattle.std.specs.Arc.{arc_value};
 ghost use Rattle.scan_base.specs.Limits.{most_tables};
-ghost use Rattle.table_versions.specs.Database.{table_at, with_table};
+ghost use Rattle.table_versions.specs.Database.{table_at, with_table, without_table};
 ghost use Rattle.table_versions.specs.Order.{IsInOrder};
 ghost use Rattle.table_versions.specs.Place.{IsPlace};
 ghost use Rattle.table_versions.specs.Valid.{IsName};
@@ -110,6 +111,49 @@ impl CatalogVersion {
             seed: self.seed,
         })
     }
+
+    // The catalog without the table of a name.
+    pub(crate) fn without(&self, alloc: Global, name: &Text) -> Result<CatalogVersion, AllocError>
+        ensures { IfOk result (λ catalog. catalog ≡ without_table name.now self.now) }
+    {
+        Ok(CatalogVersion {
+            tables: others(alloc, self.tables.as_slice(), name)?,
+            seed: self.seed,
+        })
+    }
+}
+
+// Handles of all entries but that of a name.
+fn others(
+    alloc: Global,
+    tables: &[Arc<(Text, TableVersion)>],
+    name: &Text,
+) -> Result<Vec<Arc<(Text, TableVersion)>>, AllocError>
+    ensures { IfOk result (λ left. map arc_value left.items
+        ≡ without_table name.now (map arc_value tables.now)) }
+{
+    let mut left = Vec::with_capacity(alloc, tables.len())?;
+    for entry in tables {
+        push_other(&mut left, entry, name)?;
+    }
+    Ok(left)
+}
+
+// Adds a handle of an entry, unless it is that of a name.
+fn push_other(
+    left: &mut Vec<Arc<(Text, TableVersion)>>,
+    entry: &Arc<(Text, TableVersion)>,
+    name: &Text,
+) -> Result<(), AllocError>
+    ensures { OnOk result (map arc_value left.new.items
+        ≡ (if bytes_eq (arc_value entry.now).0 name.now then map arc_value left.old.items
+        else map arc_value left.old.items ++ arc_value entry.now ∷ [])) }
+{
+    if entry.0 == *name {
+        return Ok(());
+    }
+    left.push(Arc::try_clone(entry)?)?;
+    Ok(())
 }
 
 // The table of a name among entries in byte order of theirs, looked for in the half where it may

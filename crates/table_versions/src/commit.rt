@@ -1,4 +1,4 @@
-//! The next version of the catalog: a put is checked, and then its table is made.
+//! The next version of the catalog: a change is checked, and then its table is made, or is away.
 
 ghost use Rattle.std.specs.Prelude.{◌≡◌, ◌≤◌, ◌||◌, ◌==◌, ◌+◌, ◌++◌, false, None, IfOk};
 ghost use Rattle.std.specs.Prelude.{length, nat_lt, All};
@@ -10,14 +10,16 @@ ghost use Rattle.arrays.specs.TypedLayouts.{AreOfTypes};
 ghost use Rattle.table_versions.specs.KeptTables.{Stands};
 ghost use Rattle.scan_base.specs.Limits.{most_name_bytes, most_rows};
 ghost use Rattle.table_versions.specs.Database.{table_after, columns_of, differs, faults_at};
-ghost use Rattle.table_versions.specs.Database.{after};
+ghost use Rattle.table_versions.specs.Database.{after, drop_faults_at};
 ghost use Rattle.table_versions.specs.StoredTables.{tables_of, put_of, plain, kept};
-ghost use Rattle.table_versions.specs.StoredTables.{stored_after, catalog_after};
+ghost use Rattle.table_versions.specs.StoredTables.{change_of, stored_after};
+ghost use Rattle.table_versions.specs.StoredTables.{catalog_put, catalog_drop, catalog_after};
 ghost use Rattle.table_versions.specs.KeptTables.{IsStorable, AreSound};
-ghost use Rattle.table_versions.specs.Valid.{IsPut};
+ghost use Rattle.table_versions.specs.Valid.{IsPut, IsChange};
 
 use crate::catalog::CatalogVersion;
 use crate::cells::{has_bad_null, has_long_row};
+use crate::change::{Change, Deed};
 use crate::fields::{has_repeat, same_fields};
 use crate::growing_table::GrowingTable;
 use crate::limits::{MAX_COMMITS, MAX_ROWS, MAX_TABLES};
@@ -76,8 +78,8 @@ fn overflows(old: Option<&TableVersion>, put: &Put) -> bool
     }
 }
 
-// Why a put is refused, if it is, where this is the table of its name, there are so many tables, and
-// so many versions above the floor.
+// Why a put is refused, if it is, where this is the table of its name, there are so many tables,
+// and so many versions above the floor.
 fn refusal_at(old: Option<&TableVersion>, tables: usize, above: u64, put: &Put) -> Option<Fault>
     ensures first { result
         ≡ first_fault (faults_at (plain (option_copied old.entry)) tables above (put_of put.now)) }
@@ -172,14 +174,15 @@ fn made(
     Ok((name, table))
 }
 
+// The catalog after a put.
 fn next_catalog(
     alloc: Global,
     catalog: &CatalogVersion,
     above: u64,
     put: Put,
 ) -> Result<CatalogVersion, Fault>
-    ensures exact { GivesUnlessMemory (λ new. new) result (catalog_after catalog.now above put) }
-    ensures refused { RefusesFirst result (catalog_after catalog.now above put) }
+    ensures exact { GivesUnlessMemory (λ new. new) result (catalog_put catalog.now above put) }
+    ensures refused { RefusesFirst result (catalog_put catalog.now above put) }
     ensures typed { IfOk result (λ _. IsPut (put_of put)) }
 {
     values_are_of_their_type();
@@ -191,19 +194,54 @@ fn next_catalog(
     Ok(catalog.with(alloc, name, table)?)
 }
 
-/// The catalog after a put, where it is the tables of the newest version, and so many versions
-/// stand above the floor: a table that is absent is made of the put's schema and batches, an append
-/// goes on with them after the old batches, and a replace has them alone. The old catalog stays as
-/// it is.
+// Why a drop of a name is refused, if it is, where this is its table, and so many versions stand
+// above the floor.
+fn drop_refusal_at(there: Option<&TableVersion>, above: u64, name: &Text) -> Option<Fault>
+    ensures { result
+        ≡ first_fault (drop_faults_at (plain (option_copied there.entry)) above name.now) }
+{
+    if is_bad_name(name) {
+        return Some(Fault::LimitReached);
+    }
+    if there.is_none() {
+        return Some(Fault::TableMissing);
+    }
+    if above >= MAX_COMMITS {
+        return Some(Fault::LimitReached);
+    }
+    None
+}
+
+// The catalog after a drop.
+fn dropped(
+    alloc: Global,
+    catalog: &CatalogVersion,
+    above: u64,
+    name: &Text,
+) -> Result<CatalogVersion, Fault>
+    ensures exact { GivesUnlessMemory (λ new. new) result
+        (catalog_drop catalog.now above name.now) }
+    ensures refused { RefusesFirst result (catalog_drop catalog.now above name.now) }
+{
+    if let Some(fault) = drop_refusal_at(catalog.get(name), above, name) {
+        return Err(fault);
+    }
+    Ok(catalog.without(alloc, name)?)
+}
+
+/// The catalog after a change, where it is the tables of the newest version, and so many versions
+/// stand above the floor. Of a put: a table that is absent is made of the put's schema and batches,
+/// an append goes on with them after the old batches, and a replace has them alone. A drop leaves
+/// all tables but that of its name. The old catalog stays as it is.
 ///
-/// Old tables and batches are shared: a put copies a handle for each table, and an append at most
-/// 255 handles of batches and one for each 256 batches before those. Values are looked at for nulls
-/// only in columns that take none but may have some, and for long texts only in columns of texts.
-/// Of a dictionary, the values count that stand in rows.
+/// Old tables and batches are shared: a change copies a handle for each table, and an append at
+/// most 255 handles of batches and one for each 256 batches before those. Values are looked at for
+/// nulls only in columns that take none but may have some, and for long texts only in columns of
+/// texts. Of a dictionary, the values count that stand in rows.
 ///
 /// # Errors
 ///
-/// The first fault is answered, in this order:
+/// The first fault is answered, of a put in this order:
 ///
 /// - F12 (`Fault::LimitReached`) where the table's name has less than 1 or more than 64 bytes.
 /// - F10 (`Fault::TableExists`) where the table is there and is neither to be extended nor
@@ -217,19 +255,29 @@ fn next_catalog(
 ///   would have more than 16,777,216 rows, for a 257th table, and where 65,536 versions stand above
 ///   the floor.
 ///
-/// F21 (`Fault::OutOfMemory`) is answered where memory is refused, and not for a put that is
+/// And of a drop in this one:
+///
+/// - F12 (`Fault::LimitReached`) where the name has less than 1 or more than 64 bytes.
+/// - F9 (`Fault::TableMissing`) where there is no table of this name.
+/// - F12 (`Fault::LimitReached`) where 65,536 versions stand above the floor.
+///
+/// F21 (`Fault::OutOfMemory`) is answered where memory is refused, and not for a change that is
 /// refused: to check it takes no memory.
 pub fn apply(
     alloc: Global,
     catalog: &CatalogVersion,
     above: u64,
-    put: Put,
+    change: Change,
 ) -> Result<CatalogVersion, Fault>
-    ensures batches { GivesUnlessMemory (λ new. new) result (catalog_after catalog.now above put) }
+    ensures batches { GivesUnlessMemory (λ new. new) result
+        (catalog_after catalog.now above change) }
     ensures rows { GivesUnlessMemory tables_of result
-        (after (tables_of catalog.now) above (put_of put)) }
-    ensures refused { RefusesFirst result (after (tables_of catalog.now) above (put_of put)) }
-    ensures typed { IfOk result (λ _. IsPut (put_of put)) }
+        (after (tables_of catalog.now) above (change_of change)) }
+    ensures refused { RefusesFirst result (after (tables_of catalog.now) above (change_of change)) }
+    ensures typed { IfOk result (λ _. IsChange (change_of change)) }
 {
-    next_catalog(alloc, catalog, above, put)
+    match change.deed {
+        Deed::Put(put) => next_catalog(alloc, catalog, above, put),
+        Deed::Drop(name) => dropped(alloc, catalog, above, &name),
+    }
 }

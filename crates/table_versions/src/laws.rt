@@ -1,8 +1,9 @@
 //! What holds of every database, log and table. Each law is a function whose contract says it.
 
 ghost use Rattle.table_versions.specs.Laws.{TablesAreFound, LogsGrow, LogsStay, NamesAreInOrder};
-ghost use Rattle.table_versions.specs.Laws.{LogsHoldAcceptedPuts, AcceptedPutsAreFew};
-ghost use Rattle.table_versions.specs.Laws.{AcceptedPutsKeepDatabases, VersionsAreDatabases};
+ghost use Rattle.table_versions.specs.Laws.{LogsHoldAcceptedChanges, AcceptedPutsAreFew};
+ghost use Rattle.table_versions.specs.Laws.{AcceptedChangesKeepDatabases, VersionsAreDatabases};
+ghost use Rattle.table_versions.specs.Laws.{DroppedTablesAreAway};
 ghost use Rattle.table_versions.specs.Standing.{BatchesAreRows};
 
 use arrays::laws::batch_slices_keep_rows;
@@ -13,17 +14,23 @@ pub fn tables_are_found()
     ensures { TablesAreFound }
 {}
 
-/// An accepted put is logged, gives the log's database, and changes no earlier version, however many
-/// versions stand above the floor. A refused put is not logged.
+/// Looking a table up after a drop: the dropped one is found no more, and each other name has what
+/// it had.
+pub fn dropped_tables_are_away()
+    ensures { DroppedTablesAreAway }
+{}
+
+/// An accepted change is logged, gives the log's database, and changes no earlier version, however
+/// many versions stand above the floor. A refused one is not logged.
 pub fn logs_grow()
     ensures accepted { LogsGrow }
     ensures refused { LogsStay }
 {}
 
-/// What is logged is a log: the version before each of its puts accepts it, and it gives the version
-/// after it.
-pub fn logs_hold_accepted_puts()
-    ensures { LogsHoldAcceptedPuts }
+/// What is logged is a log: the version before each of its changes accepts it, and it gives the
+/// version after it.
+pub fn logs_hold_accepted_changes()
+    ensures { LogsHoldAcceptedChanges }
 {}
 
 /// An accepted put has at most 16,777,216 rows.
@@ -31,14 +38,14 @@ pub fn accepted_puts_are_few()
     ensures { AcceptedPutsAreFew }
 {}
 
-/// An accepted put of rows of their columns' types leaves tables alone: each row has exactly one
-/// value for each column, of the column's type, null only where the column takes nulls, and no text
-/// of more than 65,536 bytes.
-pub fn accepted_puts_keep_databases()
-    ensures { AcceptedPutsKeepDatabases }
+/// An accepted drop leaves tables alone, and so does an accepted put of rows of their columns'
+/// types: each row has exactly one value for each column, of the column's type, null only where the
+/// column takes nulls, and no text of more than 65,536 bytes.
+pub fn accepted_changes_keep_databases()
+    ensures { AcceptedChangesKeepDatabases }
 {}
 
-/// Every version of a log of such puts has tables alone.
+/// Every version of a log of such changes has tables alone.
 pub fn versions_are_databases()
     ensures { VersionsAreDatabases }
 {}

@@ -3,6 +3,7 @@
 
 pub mod catalog;
 mod cells;
+pub mod change;
 pub mod commit;
 pub mod fields;
 mod growing_table;
@@ -16,6 +17,7 @@ mod stats_page;
 pub mod table;
 
 pub use crate::catalog::CatalogVersion;
+pub use crate::change::Change;
 pub use crate::commit::apply;
 pub use crate::fields::same_fields;
 pub use crate::limits::{MAX_COMMITS, MAX_ROWS, MAX_TABLES, MAX_TEXT_BYTES};

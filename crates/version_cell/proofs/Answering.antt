@@ -1,8 +1,8 @@
--- The same answer of a put, with another value, and of an expiry.
+-- The same answer of a change, with another value, and of an expiry.
 use Rattle.std.proofs.Common.{◌≡◌, ℕ, List, [], ◌∷◌, ◌++◌, length, ap, sym, subst, ◌∙◌, Result, Ok, Err}
 use Rattle.scan_base.specs.declared.fault.Fault.{Fault}
 use Rattle.scan_base.specs.Reading.{RefusesFirst}
-use Rattle.table_versions.specs.Database.{Put}
+use Rattle.table_versions.specs.Database.{Change}
 use Rattle.version_log.specs.Expiry.{IsExpired}
 use Rattle.version_log.specs.Log.{Entry, Log, added, expired, after_log, Begins}
 use Rattle.version_cell.specs.Expiries.{ExpiresBehind}
@@ -24,26 +24,26 @@ refused_first_so X Y fault (Err cause) first = cc first
 at_end : (made more : List Placed) (entries : List SignedEntry) (entry : Entry) → more ≡ made ++ (length entries, entry) ∷ [] → more ≡ made ++ (length (log_of entries), entry) ∷ []
 at_end made more entries entry is = is ∙ ap (λ (place : ℕ). made ++ (place, entry) ∷ []) (sym (log_of-length entries))
 
--- a put that was accepted: the seat has then seen the log after it, and made its entry at the end of the log that it met
-pub accepted_behind : {X Y : Type 0} (x : X) (y : Y) (old new : Seat) (put : Put) (entries : List SignedEntry) (next : Log) → Begins old.log (log_of entries)
-    → IsAnswered (Ok x) (log_of entries) put next → RefusesFirst (Ok x) (after_log (log_of entries) put) → new.log ≡ next
-    → new.made ≡ old.made ++ (length entries, added put) ∷ [] → PutsBehind (Ok y) old put new
-accepted_behind {X} {Y} x y old new put entries next met answered first same made = record {
+-- a change that was accepted: the seat has then seen the log after it, and made its entry at the end of the log that it met
+pub accepted_behind : {X Y : Type 0} (x : X) (y : Y) (old new : Seat) (change : Change) (entries : List SignedEntry) (next : Log) → Begins old.log (log_of entries)
+    → IsAnswered (Ok x) (log_of entries) change next → RefusesFirst (Ok x) (after_log (log_of entries) change) → new.log ≡ next
+    → new.made ≡ old.made ++ (length entries, added change) ∷ [] → PutsBehind (Ok y) old change new
+accepted_behind {X} {Y} x y old new change entries next met answered first same made = record {
   log = log_of entries;
   met = met;
   answered = (same ∙ answered.0, answered.1);
-  first = first_so x y (after_log (log_of entries) put) first;
-  counts = at_end old.made new.made entries (added put) made;
+  first = first_so x y (after_log (log_of entries) change) first;
+  counts = at_end old.made new.made entries (added change) made;
 }
 
--- a put that was refused
-pub refused_behind : (X Y : Type 0) (fault : Fault) (old new : Seat) (put : Put) (log next : Log) → Begins old.log log → IsAnswered {X = X} (Err fault) log put next
-    → RefusesFirst {X = X} (Err fault) (after_log log put) → new.log ≡ next → MakesNone old new → PutsBehind {X = Y} (Err fault) old put new
-refused_behind X Y fault old new put log next met answered first same none = record {
+-- a change that was refused
+pub refused_behind : (X Y : Type 0) (fault : Fault) (old new : Seat) (change : Change) (log next : Log) → Begins old.log log → IsAnswered {X = X} (Err fault) log change next
+    → RefusesFirst {X = X} (Err fault) (after_log log change) → new.log ≡ next → MakesNone old new → PutsBehind {X = Y} (Err fault) old change new
+refused_behind X Y fault old new change log next met answered first same none = record {
   log = log;
   met = met;
   answered = (same ∙ answered.0, answered.1);
-  first = refused_first_so X Y fault (after_log log put) first;
+  first = refused_first_so X Y fault (after_log log change) first;
   counts = none;
 }
 

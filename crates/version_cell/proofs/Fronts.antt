@@ -5,7 +5,7 @@ use lib.Dec.{leb}
 use Rattle.std.proofs.Common.{Bool, true, false, ◌≡◌, ℕ, ◌≤◌, List, [], ◌∷◌, ◌++◌, length, refl, ap, sym, ◌∙◌, arith, append_assoc, append-nil, Result, Ok, Err}
 use mathlib.Core.List.{IsPrefix}
 use Rattle.scan_base.specs.declared.fault.Fault.{Fault}
-use Rattle.table_versions.specs.Database.{Put}
+use Rattle.table_versions.specs.Database.{Change}
 use Rattle.version_log.specs.Log.{Log, added, Begins}
 use Rattle.version_cell.specs.Puts.{IsAnswered}
 use Rattle.version_cell.specs.SignedEntries.{SignedEntry, GoesOn}
@@ -34,13 +34,13 @@ pub either_begins : (b : Bool) (xs ys zs : List SignedEntry) (m n : ℕ) → m �
 either_begins true xs ys zs m n e f p q is = let front = prefix_shorter xs ys zs p q (grind (arith, nat_tests)) in (front.0, sym front.1)
 either_begins false xs ys zs m n e f p q is = let front = prefix_shorter ys xs zs q p (grind (arith, nat_tests)) in (front.0, sym front.1)
 
--- the log after a put goes on from the one that it met
-pub goes_on : {X : Type 0} (result : Result X Fault) (log : Log) (put : Put) (next : Log) → IsAnswered result log put next → Begins log next
-goes_on (Ok receipt) log put next answered = (added put ∷ [], answered.0)
-goes_on (Err fault) log put next answered = ([], answered.0 ∙ sym (append-nil log))
+-- the log after a change goes on from the one that it met
+pub goes_on : {X : Type 0} (result : Result X Fault) (log : Log) (change : Change) (next : Log) → IsAnswered result log change next → Begins log next
+goes_on (Ok receipt) log change next answered = (added change ∷ [], answered.0)
+goes_on (Err fault) log change next answered = ([], answered.0 ∙ sym (append-nil log))
 
 -- so it goes on from all that was seen before
-pub begun_behind : {X : Type 0} (result : Result X Fault) (seen log : Log) (put : Put) (next new : Log) → Begins seen log → IsAnswered result log put next → new ≡ next → Begins seen new
-begun_behind result seen log put next new met answered same =
-    let on = goes_on result log put next answered in
+pub begun_behind : {X : Type 0} (result : Result X Fault) (seen log : Log) (change : Change) (next new : Log) → Begins seen log → IsAnswered result log change next → new ≡ next → Begins seen new
+begun_behind result seen log change next new met answered same =
+    let on = goes_on result log change next answered in
     (met.0 ++ on.0, same ∙ (on.1 ∙ (ap (λ l. l ++ on.0) met.1 ∙ append_assoc seen met.0 on.0)))

@@ -1,7 +1,7 @@
 -- Inside: the rule of the book, and what its step tells.
 use Rattle.std.specs.Prelude.{ℕ, ◌≡◌, ◌≤◌, ◌==◌, true, List, [], ◌∷◌, ◌++◌, length, IsOk, MatchBool}
 use Rattle.std.specs.Prelude.{Option, Some, None}
-use Rattle.version_log.specs.Log.{Entry, Log, added, expired, puts_in, after_log}
+use Rattle.version_log.specs.Log.{Entry, Log, added, expired, changes_in, after_log}
 use Rattle.logbook.specs.Pages.{Cell, Step, View, Book, Named}
 use Rattle.version_cell.specs.SignedEntries.{SignedEntry}
 
@@ -19,11 +19,11 @@ abbrev pub Adds : Step SignedEntry → View SignedEntry ℕ → ℕ → View Sig
 Adds step before found after =
     MatchBool (found == step.old) (after.0 ≡ before.0 ++ step.ask ∷ []) (length after.0 ≡ found)
 
--- what a log takes in: a put that nothing refuses, or an expiry of versions below one that was
+-- what a log takes in: a change that nothing refuses, or an expiry of versions below one that was
 -- reached
 abbrev pub Accepts : Log → Entry → Type 0
-Accepts log (added put) = IsOk (after_log log put)
-Accepts log (expired version) = version ≤ puts_in log
+Accepts log (added change) = IsOk (after_log log change)
+Accepts log (expired version) = version ≤ changes_in log
 
 -- what is read of a value that is there
 abbrev pub read_or : {X Y : Type 0} → Y → (X → Y) → Option X → Y

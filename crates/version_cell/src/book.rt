@@ -1,7 +1,7 @@
 //! The log of a cell, as a history that only grows.
 ghost use Rattle.std.specs.Prelude.{◌≡◌, ◌+◌, ◌<◌, ◌≤◌, ◌^◌, ◌++◌, ◌∷◌, [], length, MatchBool};
 ghost use Rattle.std.specs.Prelude.{IfSome};
-ghost use Rattle.version_log.specs.Log.{puts_in};
+ghost use Rattle.version_log.specs.Log.{changes_in};
 ghost use Rattle.version_cell.specs.Rules.{head_of};
 ghost use Rattle.version_cell.specs.SignedEntries.{log_of, GoesOn};
 
@@ -119,7 +119,7 @@ impl UnnamedBook {
         let UnnamedBook { head, seen } = self;
         let history = History {
             entries: 0,
-            puts: 0,
+            changes: 0,
             seen,
         };
         (head, history)
@@ -133,18 +133,18 @@ pub type Head = Word<SignedEntry, u64, Law>;
 #[derive(Drop)]
 pub struct History {
     entries: u64,
-    puts: u64,
+    changes: u64,
     pub seen: Seen<SignedEntry, u64, Law>,
     pub ghost counted: { entries ≡ length seen.log },
-    pub ghost numbered: { puts ≡ puts_in (log_of seen.log) },
+    pub ghost numbered: { changes ≡ changes_in (log_of seen.log) },
 }
 
 impl History {
-    /// How many puts it has: a mark is none.
-    pub fn puts(&self) -> u64
-        ensures { result ≡ puts_in (log_of self.now.seen.log) }
+    /// How many changes it has: a mark is none.
+    pub fn changes(&self) -> u64
+        ensures { result ≡ changes_in (log_of self.now.seen.log) }
     {
-        self.puts
+        self.changes
     }
 
     /// How many entries it has.
@@ -168,7 +168,7 @@ impl History {
     {
         History {
             entries: self.entries,
-            puts: self.puts,
+            changes: self.changes,
             seen: self.seen.again(),
         }
     }
@@ -198,16 +198,16 @@ impl History {
         }
     }
 
-    // How many puts it has with an entry added.
-    #[tactic(auto, using(crate::proofs::Entries::puts_in_more, crate::proofs::Entries::few_puts))]
-    fn puts_with(&self, entry: &SignedEntry) -> u64
+    // How many changes it has with an entry added.
+    #[tactic(auto, using(crate::proofs::Entries::changes_in_more, crate::proofs::Entries::few_changes))]
+    fn changes_with(&self, entry: &SignedEntry) -> u64
         requires { length self.now.seen.log < 2 ^ 62 }
-        ensures { result ≡ puts_in (log_of (self.now.seen.log ++ entry.now ∷ [])) }
+        ensures { result ≡ changes_in (log_of (self.now.seen.log ++ entry.now ∷ [])) }
     {
         if entry.is_mark() {
-            self.puts
+            self.changes
         } else {
-            self.puts + 1
+            self.changes + 1
         }
     }
 
@@ -238,7 +238,7 @@ impl History {
         }
         Some(History {
             entries: entries + 1,
-            puts: self.puts_with(entry),
+            changes: self.changes_with(entry),
             seen,
         })
     }

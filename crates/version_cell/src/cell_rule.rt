@@ -6,10 +6,10 @@ ghost use Rattle.std.specs.Arc.{arc_value};
 ghost use Rattle.scan_base.specs.Reading.{RefusesFirst};
 ghost use Rattle.scan_base.specs.declared.fault.Fault.TheVariants.{OutOfMemory};
 ghost use Rattle.version_log.specs.Expiry.{RefusesExpiry};
-ghost use Rattle.version_log.specs.Log.{added, expired, puts_in, floor_of, database_of, version};
+ghost use Rattle.version_log.specs.Log.{added, expired, changes_in, floor_of, database_of, version};
 ghost use Rattle.version_log.specs.Log.{after_log};
-ghost use Rattle.table_versions.specs.StoredTables.{put_of, tables_of};
-ghost use Rattle.table_versions.specs.Valid.{IsPut};
+ghost use Rattle.table_versions.specs.StoredTables.{change_of, tables_of};
+ghost use Rattle.table_versions.specs.Valid.{IsChange};
 ghost use Rattle.version_cell.specs.SignedEntries.{log_of};
 ghost use Rattle.version_log.specs.Versions.{IsIndexOf};
 
@@ -23,7 +23,7 @@ use std::alloc::{AllocError, Global};
 use std::collections::LinkedList;
 use std::marker::PhantomData;
 use std::sync::Arc;
-use table_versions::{Put, Snapshot, apply};
+use table_versions::{Change, Snapshot, apply};
 use version_log::VersionIndex;
 
 // All versions of a log, but for those that are expired.
@@ -52,11 +52,11 @@ impl Store {
 
     // The newest version.
     pub(crate) fn newest(&self) -> &Snapshot
-        ensures number { result.now.number ≡ puts_in (log_of self.now.history.seen.log) }
+        ensures number { result.now.number ≡ changes_in (log_of self.now.history.seen.log) }
         ensures tables { tables_of result.now.catalog
             ≡ database_of (log_of self.now.history.seen.log) }
         ensures kept { floor_of (log_of self.now.history.seen.log)
-            ≤ puts_in (log_of self.now.history.seen.log) }
+            ≤ changes_in (log_of self.now.history.seen.log) }
     {
         self.index.newest()
     }
@@ -71,7 +71,7 @@ impl Store {
     // The version of a number that was reached and is not expired.
     pub(crate) fn version(&self, number: u64) -> Result<Snapshot, AllocError>
         requires kept { floor_of (log_of self.now.history.seen.log) ≤ number }
-        requires reached { number ≤ puts_in (log_of self.now.history.seen.log) }
+        requires reached { number ≤ changes_in (log_of self.now.history.seen.log) }
         ensures number { IfOk result (λ snapshot. snapshot.number ≡ number) }
         ensures tables { IfOk result (λ snapshot. tables_of snapshot.catalog
             ≡ version (log_of self.now.history.seen.log) number) }
@@ -80,21 +80,21 @@ impl Store {
     }
 
     // The versions after a put, after a handle.
-    pub(crate) fn after(&self, alloc: Global, put: Put) -> Result<Arc<VersionIndex>, Fault>
+    pub(crate) fn after(&self, alloc: Global, change: Change) -> Result<Arc<VersionIndex>, Fault>
         ensures ok { IfOk result (λ index. IsIndexOf (arc_value index)
-            (log_of self.now.history.seen.log ++ added (put_of put) ∷ [])) }
+            (log_of self.now.history.seen.log ++ added (change_of change) ∷ [])) }
         ensures accepted { IfOk result
-            (λ _. IsOk (after_log (log_of self.now.history.seen.log) (put_of put))) }
+            (λ _. IsOk (after_log (log_of self.now.history.seen.log) (change_of change))) }
         ensures room { IfOk result (λ _. length self.now.history.seen.log < 2 ^ 62) }
-        ensures typed { IfOk result (λ _. IsPut (put_of put)) }
+        ensures typed { IfOk result (λ _. IsChange (change_of change)) }
         ensures err { IfErr result (λ fault. fault ≢ OutOfMemory
-            → after_log (log_of self.now.history.seen.log) (put_of put) ≡ Err fault) }
+            → after_log (log_of self.now.history.seen.log) (change_of change) ≡ Err fault) }
         ensures first { RefusesFirst result
-            (after_log (log_of self.now.history.seen.log) (put_of put)) }
+            (after_log (log_of self.now.history.seen.log) (change_of change)) }
     {
         let newest = self.newest();
         let above = newest.number() - self.floor();
-        let catalog = apply(alloc, newest.catalog(), above, put)?;
+        let catalog = apply(alloc, newest.catalog(), above, change)?;
         if self.history.is_full() {
             return Err(Fault::OutOfMemory);
         }
@@ -106,12 +106,13 @@ impl Store {
     pub(crate) fn without(&self, alloc: Global, version: u64) -> Result<Arc<VersionIndex>, Fault>
         ensures ok { IfOk result (λ index. IsIndexOf (arc_value index)
             (log_of self.now.history.seen.log ++ expired version ∷ [])) }
-        ensures reached { IfOk result (λ _. version ≤ puts_in (log_of self.now.history.seen.log)) }
+        ensures reached { IfOk result
+            (λ _. version ≤ changes_in (log_of self.now.history.seen.log)) }
         ensures room { IfOk result (λ _. length self.now.history.seen.log < 2 ^ 62) }
         ensures err { IfErr result
             (λ fault. RefusesExpiry fault (log_of self.now.history.seen.log) version) }
     {
-        if version > self.history.puts() {
+        if version > self.history.changes() {
             return Err(Fault::VersionUnknown);
         }
         if self.history.is_full() {

@@ -6,9 +6,9 @@ ghost use Rattle.std.specs.Arc.{arc_value};
 ghost use Rattle.scan_base.specs.Reading.{RefusesFirst};
 ghost use Rattle.scan_base.specs.declared.fault.Fault.TheVariants.{OutOfMemory};
 ghost use Rattle.version_log.specs.Expiry.{IsExpired};
-ghost use Rattle.version_log.specs.Log.{added, expired, puts_in, after_log, IsLog};
-ghost use Rattle.table_versions.specs.StoredTables.{put_of};
-ghost use Rattle.table_versions.specs.Valid.{IsPut};
+ghost use Rattle.version_log.specs.Log.{added, expired, changes_in, after_log, IsLog};
+ghost use Rattle.table_versions.specs.StoredTables.{change_of};
+ghost use Rattle.table_versions.specs.Valid.{IsChange};
 ghost use Rattle.version_cell.specs.Puts.{IsAnswered};
 ghost use Rattle.version_cell.specs.Rules.{head_of, Accepts};
 ghost use Rattle.version_cell.specs.SignedEntries.{log_of, signed};
@@ -24,7 +24,7 @@ use std::alloc::Global;
 use std::marker::{Model, PhantomData};
 use std::sync::{Arc, Wait};
 use std::{snapshot, thread};
-use table_versions::Put;
+use table_versions::Change;
 use version_log::{Entry, VersionIndex};
 
 pub(crate) type CellWriter<C> = Writer<Store, Store, LastEnter, CellRule<C>>;
@@ -33,13 +33,13 @@ pub(crate) type CellWriter<C> = Writer<Store, Store, LastEnter, CellRule<C>>;
 #[derive(Drop)]
 pub struct Receipt<C: CellName> {
     pub number: u64,
-    pub put: snapshot::Snapshot<Put>,
+    pub change: snapshot::Snapshot<Change>,
     of: PhantomData<C>,
 }
 
 // Who makes the versions of a cell. Contracts see it as the cell's log, with the seat of each
-// entry; it is a log of accepted puts. It keeps the handle `rt`, since its end waits for the seats
-// that are reading.
+// entry; it is a log of accepted changes. It keeps the handle `rt`, since its end waits for the
+// seats that are reading.
 pub(crate) struct Publisher<C: CellName, R: Wait + Drop> {
     head: Head,
     writer: Option<CellWriter<C>>,
@@ -85,17 +85,18 @@ impl<C: CellName, R: Wait + Drop> Publisher<C, R> {
     }
 
     // The versions after a put, or why it is refused. Nothing has changed yet.
-    fn prepare(&self, alloc: Global, put: Put) -> Result<Arc<VersionIndex>, Fault>
-        ensures ok { IfOk result
-            (λ index. IsIndexOf (arc_value index) (log_of self.now ++ added (put_of put) ∷ [])) }
-        ensures accepted { IfOk result (λ _. IsOk (after_log (log_of self.now) (put_of put))) }
+    fn prepare(&self, alloc: Global, change: Change) -> Result<Arc<VersionIndex>, Fault>
+        ensures ok { IfOk result (λ index. IsIndexOf (arc_value index)
+            (log_of self.now ++ added (change_of change) ∷ [])) }
+        ensures accepted { IfOk result
+            (λ _. IsOk (after_log (log_of self.now) (change_of change))) }
         ensures room { IfOk result (λ _. length self.now < 2 ^ 62) }
-        ensures typed { IfOk result (λ _. IsPut (put_of put)) }
+        ensures typed { IfOk result (λ _. IsChange (change_of change)) }
         ensures err { IfErr result (λ fault. fault ≢ OutOfMemory
-            → after_log (log_of self.now) (put_of put) ≡ Err fault) }
-        ensures first { RefusesFirst result (after_log (log_of self.now) (put_of put)) }
+            → after_log (log_of self.now) (change_of change) ≡ Err fault) }
+        ensures first { RefusesFirst result (after_log (log_of self.now) (change_of change)) }
     {
-        self.store().after(alloc, put)
+        self.store().after(alloc, change)
     }
 
     // Adds an entry to the book and shows the versions after it. From here on nothing can refuse
@@ -156,24 +157,30 @@ impl<C: CellName, R: Wait + Drop> Publisher<C, R> {
 
     // Makes the next version, with this put of the seat with a number. It waits for the seats that
     // are reading the copy which it changes.
-    pub(crate) fn put(&mut self, alloc: Global, seat: u64, put: Put) -> Result<Receipt<C>, Fault>
-        ensures answered { IsAnswered result (log_of self.old) (put_of put) (log_of self.new) }
+    pub(crate) fn put(
+        &mut self,
+        alloc: Global,
+        seat: u64,
+        change: Change,
+    ) -> Result<Receipt<C>, Fault>
+        ensures answered { IsAnswered result (log_of self.old) (change_of change)
+            (log_of self.new) }
         ensures added { MatchResult result
-            (λ _. self.new ≡ self.old ++ signed seat (added (put_of put)) ∷ [])
+            (λ _. self.new ≡ self.old ++ signed seat (added (change_of change)) ∷ [])
             (λ _. self.new ≡ self.old) }
-        ensures first { RefusesFirst result (after_log (log_of self.old) (put_of put)) }
-        ensures receipt { IfOk result (λ receipt. (receipt.number ≡ puts_in (log_of self.new))
-            × (receipt.put.value ≡ put)) }
-        ensures typed { IfOk result (λ _. IsPut (put_of put)) }
+        ensures first { RefusesFirst result (after_log (log_of self.old) (change_of change)) }
+        ensures receipt { IfOk result (λ receipt. (receipt.number ≡ changes_in (log_of self.new))
+            × (receipt.change.value ≡ change)) }
+        ensures typed { IfOk result (λ _. IsChange (change_of change)) }
         ensures few { IfOk result (λ _. length self.new ≤ 2 ^ 62) }
     {
-        let made_by = snapshot::Snapshot::of(&put);
-        let entry = SignedEntry::new(seat, Entry::put(snapshot::Snapshot::of(&put)));
-        let index = self.prepare(alloc, put)?;
+        let made_by = snapshot::Snapshot::of(&change);
+        let entry = SignedEntry::new(seat, Entry::change(snapshot::Snapshot::of(&change)));
+        let index = self.prepare(alloc, change)?;
         self.commit(index, &entry);
         Ok(Receipt {
-            number: self.store().history.puts(),
-            put: made_by,
+            number: self.store().history.changes(),
+            change: made_by,
             of: PhantomData,
         })
     }

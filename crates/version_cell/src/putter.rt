@@ -3,9 +3,9 @@
 ghost use Rattle.std.specs.Prelude.{◌≡◌, [], IfOk};
 ghost use Rattle.scan_base.specs.Reading.{RefusesFirst};
 ghost use Rattle.version_log.specs.Expiry.{IsExpired};
-ghost use Rattle.version_log.specs.Log.{puts_in, after_log, IsLog};
-ghost use Rattle.table_versions.specs.StoredTables.{put_of};
-ghost use Rattle.table_versions.specs.Valid.{IsPut};
+ghost use Rattle.version_log.specs.Log.{changes_in, after_log, IsLog};
+ghost use Rattle.table_versions.specs.StoredTables.{change_of};
+ghost use Rattle.table_versions.specs.Valid.{IsChange};
 ghost use Rattle.version_cell.specs.Counts.{Counted};
 ghost use Rattle.version_cell.specs.Puts.{IsAnswered};
 ghost use Rattle.version_cell.specs.SignedEntries.{log_of};
@@ -18,7 +18,7 @@ use scan_base::Fault;
 use std::alloc::Global;
 use std::marker::Model;
 use std::sync::Wait;
-use table_versions::Put;
+use table_versions::Change;
 
 // The number of entries that are made through no seat.
 const NO_SEAT: u64 = u64::MAX;
@@ -75,14 +75,14 @@ impl<C: CellName, R: Wait + Drop> Putter<C, R> {
     ///
     /// Those of [`table_versions::apply`], and F21 (`Fault::OutOfMemory`) only for a put that none
     /// of them refuses. Nothing has changed then, and no seat sees it later.
-    pub fn put(&mut self, alloc: Global, put: Put) -> Result<Receipt<C>, Fault>
-        ensures answered { IsAnswered result self.old (put_of put) self.new }
-        ensures first { RefusesFirst result (after_log self.old (put_of put)) }
-        ensures receipt { IfOk result (λ receipt. (receipt.number ≡ puts_in self.new)
-            × (receipt.put.value ≡ put)) }
-        ensures typed { IfOk result (λ _. IsPut (put_of put)) }
+    pub fn put(&mut self, alloc: Global, change: Change) -> Result<Receipt<C>, Fault>
+        ensures answered { IsAnswered result self.old (change_of change) self.new }
+        ensures first { RefusesFirst result (after_log self.old (change_of change)) }
+        ensures receipt { IfOk result (λ receipt. (receipt.number ≡ changes_in self.new)
+            × (receipt.change.value ≡ change)) }
+        ensures typed { IfOk result (λ _. IsChange (change_of change)) }
     {
-        self.publisher.put(alloc, NO_SEAT, put)
+        self.publisher.put(alloc, NO_SEAT, change)
     }
 
     /// Marks the versions below a number as expired, and gives the floor: the greatest number that
@@ -91,8 +91,8 @@ impl<C: CellName, R: Wait + Drop> Putter<C, R> {
     ///
     /// # Errors
     ///
-    /// F18 (`Fault::VersionUnknown`) where the log has fewer puts, and F21 (`Fault::OutOfMemory`)
-    /// only where it has as many. Nothing has changed then.
+    /// F18 (`Fault::VersionUnknown`) where the log has fewer changes, and F21
+    /// (`Fault::OutOfMemory`) only where it has as many. Nothing has changed then.
     pub fn expire(&mut self, alloc: Global, version: u64) -> Result<u64, Fault>
         ensures { IsExpired result self.old version self.new }
     {

@@ -3,7 +3,7 @@
 ghost use Rattle.std.specs.Prelude.{◌≡◌, ◌+◌, ◌⊎◌, ◌≤◌, ◌<◌, [], IfOk, IfErr, IfSome, MatchBool};
 ghost use Rattle.scan_base.specs.declared.fault.Fault.TheVariants.{OutOfMemory, VersionExpired};
 ghost use Rattle.scan_base.specs.declared.fault.Fault.TheVariants.{VersionUnknown};
-ghost use Rattle.version_log.specs.Log.{puts_in, floor_of, database_of, version, Begins};
+ghost use Rattle.version_log.specs.Log.{changes_in, floor_of, database_of, version, Begins};
 ghost use Rattle.table_versions.specs.StoredTables.{tables_of};
 ghost use Rattle.version_cell.specs.Seats.{seat, AsksNone, EntersOnce, MakesNone, MayEnter};
 ghost use Rattle.version_cell.specs.SignedEntries.{log_of, maker_at};
@@ -105,7 +105,7 @@ impl<C: CellName> Scanner<C> {
         ensures asks { AsksNone self.old self.new }
         ensures begins { Begins self.old.log self.new.log }
         ensures ok { IfOk result (λ snapshot. EntersOnce self.old self.new
-            × (snapshot.number ≡ puts_in self.new.log)
+            × (snapshot.number ≡ changes_in self.new.log)
             × (tables_of snapshot.catalog ≡ database_of self.new.log)) }
         ensures err { IfErr result (λ fault. (fault ≡ OutOfMemory) × MayEnter self.old self.new) }
     {
@@ -113,30 +113,31 @@ impl<C: CellName> Scanner<C> {
         Ok(store.newest().clone()?)
     }
 
-    /// The version of a number: the one after the first so many puts of the log that is entered.
+    /// The version of a number: the one after the first so many changes of the log that is entered.
     ///
     /// # Errors
     ///
-    /// F18 (`Fault::VersionUnknown`) where that log has fewer puts, F19 (`Fault::VersionExpired`)
-    /// where the number is below its floor, and F21 (`Fault::OutOfMemory`) as `current` does.
+    /// F18 (`Fault::VersionUnknown`) where that log has fewer changes, F19
+    /// (`Fault::VersionExpired`) where the number is below its floor, and F21
+    /// (`Fault::OutOfMemory`) as `current` does.
     pub fn at(&mut self, number: u64) -> Result<Snapshot, Fault>
         ensures number { self.new.number ≡ self.old.number }
         ensures made { MakesNone self.old self.new }
         ensures asks { AsksNone self.old self.new }
         ensures begins { Begins self.old.log self.new.log }
         ensures ok { IfOk result (λ snapshot. EntersOnce self.old self.new
-            × (number ≤ puts_in self.new.log) × (snapshot.number ≡ number)
+            × (number ≤ changes_in self.new.log) × (snapshot.number ≡ number)
             × (tables_of snapshot.catalog ≡ version self.new.log number)) }
         ensures kept { IfOk result (λ _. floor_of self.new.log ≤ number) }
         ensures err { IfErr result (λ fault.
             ((fault ≡ VersionUnknown) × EntersOnce self.old self.new
-            × (puts_in self.new.log < number))
+            × (changes_in self.new.log < number))
             ⊎ (((fault ≡ VersionExpired) × EntersOnce self.old self.new
-            × (number ≤ puts_in self.new.log) × (number < floor_of self.new.log))
+            × (number ≤ changes_in self.new.log) × (number < floor_of self.new.log))
             ⊎ ((fault ≡ OutOfMemory) × MayEnter self.old self.new))) }
     {
         let store = self.enter()?;
-        if number > store.history.puts() {
+        if number > store.history.changes() {
             return Err(Fault::VersionUnknown);
         }
         if number < store.floor() {

@@ -2,9 +2,9 @@
 
 ghost use Rattle.std.specs.Prelude.{◌≡◌, ◌+◌, ◌<◌, [], true, length, IfOk, IfSome};
 ghost use Rattle.version_log.specs.Expiry.{IsExpired};
-ghost use Rattle.version_log.specs.Log.{puts_in, Begins, IsLog};
-ghost use Rattle.table_versions.specs.StoredTables.{put_of};
-ghost use Rattle.table_versions.specs.Valid.{IsPut};
+ghost use Rattle.version_log.specs.Log.{changes_in, Begins, IsLog};
+ghost use Rattle.table_versions.specs.StoredTables.{change_of};
+ghost use Rattle.table_versions.specs.Valid.{IsChange};
 ghost use Rattle.version_cell.specs.Counts.{Counted};
 ghost use Rattle.version_cell.specs.Expiries.{ExpiresBehind};
 ghost use Rattle.version_cell.specs.Merges.{MergesAll};
@@ -27,7 +27,7 @@ use scan_base::Fault;
 use std::alloc::Global;
 use std::sync::{Arc, Mutex, Wait};
 use std::thread;
-use table_versions::Put;
+use table_versions::Change;
 use version_log::{Entry, VersionIndex};
 
 // Who publishes, how many entries were made through all seats, and how many through each, by the
@@ -94,17 +94,17 @@ impl<C: CellName, R: Wait + Drop> CountedPublisher<C, R> {
     }
 
     // Puts through a seat, which asks first, and gives the put's number.
-    fn put(&mut self, alloc: Global, seat: &mut Scanner<C>, put: Put) -> Result<u64, Fault>
+    fn put(&mut self, alloc: Global, seat: &mut Scanner<C>, change: Change) -> Result<u64, Fault>
         requires within { Begins seat.old.log (log_of self.old.publisher) }
         requires known { seat.old.number < length self.old.counts.items }
         requires counted { length seat.old.made ≡ length (own seat.old.number self.old.publisher) }
-        ensures answered { IsAnswered result (log_of self.old.publisher) (put_of put)
+        ensures answered { IsAnswered result (log_of self.old.publisher) (change_of change)
             (log_of self.new.publisher) }
-        ensures put { PutsBehind result seat.old (put_of put) seat.new }
+        ensures put { PutsBehind result seat.old (change_of change) seat.new }
         ensures asks { AsksOnce seat.old seat.new }
         ensures seat { seat.new.number ≡ seat.old.number }
-        ensures number { IfOk result (λ number. number ≡ puts_in seat.new.log) }
-        ensures typed { IfOk result (λ _. IsPut (put_of put)) }
+        ensures number { IfOk result (λ number. number ≡ changes_in seat.new.log) }
+        ensures typed { IfOk result (λ _. IsChange (change_of change)) }
         ensures begins { Begins seat.old.log seat.new.log }
         ensures enters { (seat.new.enters ≡ seat.old.enters)
             × (seat.new.entered ≡ seat.old.entered) }
@@ -116,9 +116,9 @@ impl<C: CellName, R: Wait + Drop> CountedPublisher<C, R> {
         } = self;
         let maker = &mut seat.maker;
         catch_up(publisher, tally, maker);
-        let receipt = publisher.put(alloc, maker.seat(), put)?;
-        let Receipt { number, put, .. } = receipt;
-        maker.make(tally, &publisher.history(), &Entry::put(put));
+        let receipt = publisher.put(alloc, maker.seat(), change)?;
+        let Receipt { number, change, .. } = receipt;
+        maker.make(tally, &publisher.history(), &Entry::change(change));
         counts[maker.seat() as usize] = maker.count();
         Ok(number)
     }
@@ -246,13 +246,13 @@ impl<C: CellName, R: Wait + Drop> SharedPutter<C, R> {
         rt: &impl Wait,
         alloc: Global,
         seat: &mut Scanner<C>,
-        put: Put,
+        change: Change,
     ) -> Result<u64, Fault>
-        ensures put { PutsBehind result seat.old (put_of put) seat.new }
+        ensures put { PutsBehind result seat.old (change_of change) seat.new }
         ensures asks { AsksOnce seat.old seat.new }
         ensures seat { seat.new.number ≡ seat.old.number }
-        ensures number { IfOk result (λ number. number ≡ puts_in seat.new.log) }
-        ensures typed { IfOk result (λ _. IsPut (put_of put)) }
+        ensures number { IfOk result (λ number. number ≡ changes_in seat.new.log) }
+        ensures typed { IfOk result (λ _. IsChange (change_of change)) }
         ensures begins { Begins seat.old.log seat.new.log }
         ensures enters { (seat.new.enters ≡ seat.old.enters)
             × (seat.new.entered ≡ seat.old.entered) }
@@ -260,7 +260,7 @@ impl<C: CellName, R: Wait + Drop> SharedPutter<C, R> {
         for _ in rt.forever() {
             let mut counting = self.counting.lock(rt);
             if counting.accounts_for(seat) {
-                return counting.put(alloc, seat, put);
+                return counting.put(alloc, seat, change);
             }
             drop(counting);
             thread::yield_now();

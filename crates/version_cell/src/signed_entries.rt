@@ -1,7 +1,7 @@
 //! Entries of the log of a cell, each with the number of the seat through which it was made.
 
 ghost use Rattle.std.specs.Prelude.{◌≡◌, ◌∷◌, [], MatchBool};
-ghost use Rattle.version_log.specs.Log.{puts_in};
+ghost use Rattle.version_log.specs.Log.{changes_in};
 ghost use Rattle.version_cell.specs.SignedEntries.{signed};
 
 use std::marker::Model;
@@ -31,8 +31,8 @@ impl SignedEntry {
 
     /// Whether it is a mark.
     pub fn is_mark(&self) -> bool
-        ensures { MatchBool result (puts_in (self.now.entry ∷ []) ≡ 0)
-            (puts_in (self.now.entry ∷ []) ≡ 1) }
+        ensures { MatchBool result (changes_in (self.now.entry ∷ []) ≡ 0)
+            (changes_in (self.now.entry ∷ []) ≡ 1) }
     {
         self.entry.is_mark()
     }

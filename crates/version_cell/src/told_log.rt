@@ -1,7 +1,7 @@
 //! What one thread tells another of the log.
 
 ghost use Rattle.std.specs.Prelude.{◌≡◌};
-ghost use Rattle.version_log.specs.Log.{puts_in};
+ghost use Rattle.version_log.specs.Log.{changes_in};
 ghost use Rattle.version_cell.specs.SignedEntries.{log_of};
 
 use crate::book::{CellName, History};
@@ -44,10 +44,10 @@ impl<C: CellName> Told<C> {
         &self.history
     }
 
-    /// How many puts the log has: the number of its newest version.
+    /// How many changes the log has: the number of its newest version.
     pub fn number(&self) -> u64
-        ensures { result ≡ puts_in self.now }
+        ensures { result ≡ changes_in self.now }
     {
-        self.history.puts()
+        self.history.changes()
     }
 }

@@ -3,11 +3,11 @@ use Rattle.std.specs.Prelude.{ℕ, ◌+◌, [], ◌∷◌, ◌++◌, Option, Som
 use Rattle.version_log.specs.declared.log_entries.Deed.{Deed}
 use Rattle.version_log.specs.declared.log_entries.Deed.TheVariants.{Added, Expired}
 use Rattle.version_log.specs.Log.{Entry, Log, added, expired}
-use Rattle.table_versions.specs.StoredTables.{put_of}
+use Rattle.table_versions.specs.StoredTables.{change_of}
 
 -- what was done, as the log has it
 abbrev pub entry_of : Deed → Entry
-entry_of (Added put) = added (put_of put.value)
+entry_of (Added change) = added (change_of change.value)
 entry_of (Expired version) = expired version
 
 -- entries, in order, and how many times one was added

@@ -1,21 +1,22 @@
 //! Entries of a log, as contracts see them.
 
 ghost use Rattle.std.specs.Prelude.{◌≡◌, ◌++◌, ◌∷◌, [], MatchBool};
-ghost use Rattle.version_log.specs.Log.{added, expired, puts_in};
-ghost use Rattle.table_versions.specs.StoredTables.{put_of};
+ghost use Rattle.version_log.specs.Log.{added, expired, changes_in};
+ghost use Rattle.table_versions.specs.StoredTables.{change_of};
 
 use std::marker::Model;
 use std::snapshot::Snapshot;
-use table_versions::Put;
+use table_versions::Change;
 
 // What was done.
 #[derive(Drop)]
 enum Deed {
-    Added(Snapshot<Put>),
+    Added(Snapshot<Change>),
     Expired(u64),
 }
 
-/// An entry of a log: a put by its rows, and not by its batches, or the mark of an expiry.
+/// An entry of a log: a change, of a put by its rows and not by its batches, or the mark of an
+/// expiry.
 #[derive(Drop)]
 pub struct Entry {
     deed: Deed,
@@ -31,12 +32,12 @@ impl Model for Entry {
 }
 
 impl Entry {
-    /// A put. Its rows take no memory here.
-    pub fn put(put: Snapshot<Put>) -> Entry
-        ensures { result ≡ added (put_of put.value) }
+    /// A change. The rows of a put take no memory here.
+    pub fn change(change: Snapshot<Change>) -> Entry
+        ensures { result ≡ added (change_of change.value) }
     {
         Entry {
-            deed: Deed::Added(put),
+            deed: Deed::Added(change),
         }
     }
 
@@ -51,7 +52,8 @@ impl Entry {
 
     /// Whether it is a mark.
     pub fn is_mark(&self) -> bool
-        ensures { MatchBool result (puts_in (self.now ∷ []) ≡ 0) (puts_in (self.now ∷ []) ≡ 1) }
+        ensures { MatchBool result (changes_in (self.now ∷ []) ≡ 0)
+            (changes_in (self.now ∷ []) ≡ 1) }
     {
         matches!(&self.deed, Deed::Expired(_))
     }

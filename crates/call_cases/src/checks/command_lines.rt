@@ -236,12 +236,13 @@ fn told(alloc: Global, request: Request<'_>) -> Result<String, AllocError> {
         }
         Request::Tables { port } => format!(in alloc; "tables {port}"),
         Request::Describe { port, table } => format!(in alloc; "describe {port} {table}"),
+        Request::Drop { port, table } => format!(in alloc; "drop {port} {table}"),
         Request::Expire { port, version } => format!(in alloc; "expire {port} {version}"),
     }
 }
 
 // Command lines, and what they ask for.
-static TAKEN: [(&'static str, &'static str); 23] = [
+static TAKEN: [(&'static str, &'static str); 24] = [
     ("pipe", "pipe 1 1"),
     ("pipe --workers 16 --parts=64", "pipe 64 16"),
     ("serve --port 0", "serve 0 4 0 300 0 1 1"),
@@ -305,6 +306,7 @@ static TAKEN: [(&'static str, &'static str); 23] = [
     ),
     ("tables --port 4711", "tables 4711"),
     ("describe --table t --port 4711", "describe 4711 t"),
+    ("drop --table t --port 4711", "drop 4711 t"),
     ("expire --version 3 --port 4711", "expire 4711 3"),
     (
         "expire --port=0 --version=4294967295",

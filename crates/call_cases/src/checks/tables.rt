@@ -10,10 +10,11 @@ use scan_base::{Fault, HashSeed, Text};
 use std::alloc::{AllocError, Global};
 use std::sync::Arc;
 use table_versions::laws::{
-    accepted_puts_are_few, accepted_puts_keep_databases, batches_are_rows, logs_grow,
-    logs_hold_accepted_puts, names_are_in_order, tables_are_found, versions_are_databases,
+    accepted_changes_keep_databases, accepted_puts_are_few, batches_are_rows,
+    dropped_tables_are_away, logs_grow, logs_hold_accepted_changes, names_are_in_order,
+    tables_are_found, versions_are_databases,
 };
-use table_versions::{CatalogVersion, MAX_ROWS, Put, Snapshot, apply};
+use table_versions::{CatalogVersion, Change, MAX_ROWS, Put, Snapshot, apply};
 
 // The first payload of a put into a table of a name of one byte: an append that may create it, or a
 // replace.
@@ -93,7 +94,12 @@ fn bare(alloc: Global, seed: HashSeed, number: u64) -> Result<Snapshot, Fault> {
 
 // The version after a put, where none is expired.
 fn after(alloc: Global, snapshot: &Snapshot, put: Put) -> Result<Snapshot, Fault> {
-    let catalog = apply(alloc, snapshot.catalog(), snapshot.number(), put)?;
+    let catalog = apply(
+        alloc,
+        snapshot.catalog(),
+        snapshot.number(),
+        Change::put(put),
+    )?;
     let number = snapshot.number().saturating_add(1);
     Ok(Snapshot::new(number, Arc::new(alloc, catalog)?))
 }
@@ -137,7 +143,13 @@ fn fault_of(
     rows: usize,
 ) -> Result<Option<Fault>, Fault> {
     let put = put(alloc, first(alloc, b't', is_append)?, zeros(alloc, rows)?)?;
-    Ok(apply(alloc, snapshot.catalog(), snapshot.number(), put).err())
+    Ok(apply(
+        alloc,
+        snapshot.catalog(),
+        snapshot.number(),
+        Change::put(put),
+    )
+    .err())
 }
 
 // The version of a table of the most rows.
@@ -169,7 +181,7 @@ fn most_commits(alloc: Global, seed: HashSeed) -> Result<()> {
     let before = bare(alloc, seed, 65_535)?;
     let last = after(alloc, &before, two(alloc, b't')?)?;
     for (above, fault) in [(65_536, Some(Fault::LimitReached)), (65_535, None)] {
-        let past = apply(alloc, last.catalog(), above, two(alloc, b't')?);
+        let past = apply(alloc, last.catalog(), above, Change::put(two(alloc, b't')?));
         ensure!(past.err() == fault);
     }
     Ok(())
@@ -178,10 +190,11 @@ fn most_commits(alloc: Global, seed: HashSeed) -> Result<()> {
 // The laws are functions, which give what they say.
 fn laws() -> Result<()> {
     tables_are_found();
+    dropped_tables_are_away();
     logs_grow();
-    logs_hold_accepted_puts();
+    logs_hold_accepted_changes();
     accepted_puts_are_few();
-    accepted_puts_keep_databases();
+    accepted_changes_keep_databases();
     versions_are_databases();
     names_are_in_order();
     batches_are_rows();

@@ -6,7 +6,7 @@ ghost use Rattle.scan_base.specs.Limits.{most_commits};
 use crate::cells::rows::{one_row, rows_of};
 use scan_base::{Fault, HashSeed, Text};
 use std::alloc::Global;
-use table_versions::apply;
+use table_versions::{Change, apply};
 use version_log::VersionIndex;
 
 // The versions so far, and the one after a put of one row.
@@ -17,7 +17,12 @@ fn longer(alloc: Global, index: &VersionIndex) -> Result<VersionIndex, Fault>
 {
     let newest = index.newest();
     let above = newest.number() - index.floor();
-    let catalog = apply(alloc, newest.catalog(), above, one_row(alloc, "t")?)?;
+    let catalog = apply(
+        alloc,
+        newest.catalog(),
+        above,
+        Change::put(one_row(alloc, "t")?),
+    )?;
     Ok(index.with(alloc, catalog)?)
 }
 

@@ -6,6 +6,7 @@ use crate::cells::rows::{one_row, put_one};
 use scan_base::{Fault, HashSeed};
 use std::alloc::Global;
 use std::sync::Wait;
+use table_versions::Change;
 use version_cell::{Blank, Brand, CellName, Putter, Scanner, UnnamedBook, open};
 
 // The fault of a put into a table with no name, if it is refused.
@@ -14,7 +15,7 @@ fn fault_of_put<C: CellName, R: Wait + Drop>(
     putter: &mut Putter<C, R>,
 ) -> Result<Option<Fault>, Fault> {
     let put = one_row(alloc, "")?;
-    Ok(putter.put(alloc, put).err())
+    Ok(putter.put(alloc, Change::put(put)).err())
 }
 
 // The number of version 1, and how many tables version 0 has.

@@ -13,7 +13,7 @@ use batch_stats::MeasuredBatch;
 use scan_base::{Fault, Items, Text};
 use std::alloc::{AllocError, Global};
 use std::sync::Wait;
-use table_versions::{IfExists, IfNotExist, Put, Snapshot};
+use table_versions::{Change, IfExists, IfNotExist, Put, Snapshot};
 use version_cell::{CellName, Putter, Scanner, SharedPutter};
 
 // One nullable Int64 column `a`.
@@ -51,7 +51,7 @@ pub(crate) fn put_one<C: CellName, R: Wait + Drop>(
     putter: &mut Putter<C, R>,
 ) -> Result<u64, Fault> {
     let put = one_row(alloc, "t")?;
-    let receipt = putter.put(alloc, put)?;
+    let receipt = putter.put(alloc, Change::put(put))?;
     Ok(receipt.number)
 }
 
@@ -63,7 +63,7 @@ pub(crate) fn put_through<C: CellName, R: Wait + Drop>(
     seat: &mut Scanner<C>,
 ) -> Result<u64, Fault> {
     let put = one_row(alloc, "t")?;
-    putter.put(rt, alloc, seat, put)
+    putter.put(rt, alloc, seat, Change::put(put))
 }
 
 // How many rows the table of a name has.

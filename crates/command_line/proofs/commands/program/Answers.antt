@@ -14,7 +14,8 @@ returns-clause-shape c =
     let four = shape_with_below _ _ _ _ _ three c.query.ensures.shape c.query.ensures.local c.in_ok-asking.ensures in
     let five = shape_with_below _ _ _ _ _ four c.tables.ensures.shape c.tables.ensures.local c.in_ok-listing.ensures in
     let six = shape_with_below _ _ _ _ _ five c.describe.ensures.shape c.describe.ensures.local c.in_ok-describing.ensures in
-    last_shape_with_below _ _ _ _ _ six c.expire.ensures.shape c.expire.ensures.local c.with_below-7.ensures
+    let seven = shape_with_below _ _ _ _ _ six c.drop_table.ensures.shape c.drop_table.ensures.local c.in_ok-dropping.ensures in
+    last_shape_with_below _ _ _ _ _ seven c.expire.ensures.shape c.expire.ensures.local c.with_below-8.ensures
 
 pub returns-clause-local : goal.returns-clause-local
 returns-clause-local c =
@@ -26,4 +27,5 @@ returns-clause-local c =
     let four = local_with_below _ _ _ three c.query.ensures.local c.in_ok-asking.ensures in
     let five = local_with_below _ _ _ four c.tables.ensures.local c.in_ok-listing.ensures in
     let six = local_with_below _ _ _ five c.describe.ensures.local c.in_ok-describing.ensures in
-    last_local_with_below _ _ _ six c.expire.ensures.local c.with_below-7.ensures
+    let seven = local_with_below _ _ _ six c.drop_table.ensures.local c.in_ok-dropping.ensures in
+    last_local_with_below _ _ _ seven c.expire.ensures.local c.with_below-8.ensures

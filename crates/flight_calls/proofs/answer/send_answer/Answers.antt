@@ -19,3 +19,14 @@ returns-in-Floor-clause-bytes g c asked log new answered =
       fits = one_fits [] (floor_bytes floor) none_fit (floor_fits floor);
       sent = c.send_floor.ensures;
     })
+
+pub returns-in-Dropped-clause-bytes : goal.returns-in-Dropped-clause-bytes
+returns-in-Dropped-clause-bytes g c asked log new answered =
+    let version = c.in-Dropped.version in
+    let accepted = rw c.in-Dropped.is at answered in
+    rw c.in-Dropped.is (record {
+      reply = whole (floor_bytes version ∷ []);
+      right = (accepted.0, refl);
+      fits = one_fits [] (floor_bytes version) none_fit (floor_fits version);
+      sent = c.send_floor-in-Dropped.ensures;
+    })

@@ -1,8 +1,8 @@
 use Rattle.std.proofs.Common.{◌≡◌, [], map, arith, ap, ◌∙◌, subst}
 use Rattle.table_versions.proofs.Tables.{versions_are_databases}
-use Rattle.version_log.specs.Log.{Log, puts_of}
+use Rattle.version_log.specs.Log.{Log, changes_of}
 use Rattle.version_log.proofs.Logs.{is_log-none}
-use Rattle.flight_core.proofs.Runs.{ArePuts, run_more, whole_run, refusals_leave_nothing, run_is_log}
+use Rattle.flight_core.proofs.Runs.{AreChanges, run_more, whole_run, refusals_leave_nothing, run_is_log}
 use Rattle.flight_core.specs.Event.{asked_in}
 use Rattle.flight_core.specs.PlacedEntries.{log_in}
 use Rattle.flight_core.proofs.Placing.{log_in-placed}
@@ -27,8 +27,8 @@ returns-clause-ok g c =
     let log = c.loop-event.backend.log in
     let run = whole_run c.args.events.now replies log c.loop-event.event-index (omega (arith, c.loop-event-test.false)) c.loop-event.invariant.run in
     let made : log_in c.loop-event.backend.made ≡ log = ap log_in c.loop-event.invariant.own ∙ log_in-placed 0 log in
-    let puts = subst (λ (l : Log). ArePuts l) made c.loop-event.invariant.puts in
-    (log, run, run_is_log [] asked replies log is_log-none run, versions_are_databases (puts_of log) puts, refusals_leave_nothing asked replies log run)
+    let puts = subst (λ (l : Log). AreChanges l) made c.loop-event.invariant.puts in
+    (log, run, run_is_log [] asked replies log is_log-none run, versions_are_databases (changes_of log) puts, refusals_leave_nothing asked replies log run)
 
 pub returns-clause-headline : goal.returns-clause-headline
 returns-clause-headline g c =

@@ -14,3 +14,8 @@ pub returns-in-Accepted-clause-reply : goal.returns-in-Accepted-clause-reply
 returns-in-Accepted-clause-reply g c asked log new answered =
     let accepted = rw c.in-Accepted.is at answered in
     rw (c.in-Accepted.is, c.whole.ensures) (accepted.0, refl)
+
+pub returns-in_ok-floor_answer-in-Dropped-clause-reply : goal.returns-in_ok-floor_answer-in-Dropped-clause-reply
+returns-in_ok-floor_answer-in-Dropped-clause-reply g c asked log new answered =
+    let accepted = rw c.in-Dropped.is at answered in
+    rw (c.in-Dropped.is, c.whole-in-Dropped.ensures, c.in_ok-floor_answer-in-Dropped.ensures.said) (accepted.0, refl)

@@ -1,6 +1,6 @@
 use Rattle.std.proofs.Common.{Ok}
 use Rattle.flight_core.specs.StepAnswer.{ReactsBy, fault_in}
-use Rattle.flight_core.specs.Asked.{Asked, info, tables, schema, fetch, expire}
+use Rattle.flight_core.specs.Asked.{Asked, info, tables, schema, fetch, expire, remove}
 use Rattle.flight_core.specs.Machine.{AsShown}
 use Rattle.flight_core.proofs.Reacting.{same_puts}
 use Rattle.flight_core.proofs.Stepping.{asks_so, put_stands}
@@ -81,3 +81,32 @@ returns-in-Expire-clause-shown g c knows asked stands = asks_so (λ (one : Asked
 
 pub returns-in-Expire-clause-accepted : goal.returns-in-Expire-clause-accepted
 returns-in-Expire-clause-accepted g c payloads stands = let same = rw c.in-Expire.is at stands in absurd cc
+
+pub returns-in-Put-clause-dropped : goal.returns-in-Put-clause-dropped
+returns-in-Put-clause-dropped g c action stands = let same = rw c.in-Put.is at stands in absurd same
+
+pub returns-in-Info-clause-dropped : goal.returns-in-Info-clause-dropped
+returns-in-Info-clause-dropped g c action stands = let same = rw c.in-Info.is at stands in absurd cc
+
+pub returns-in-Tables-clause-dropped : goal.returns-in-Tables-clause-dropped
+returns-in-Tables-clause-dropped g c action stands = let same = rw c.in-Tables.is at stands in absurd cc
+
+pub returns-in-Schema-clause-dropped : goal.returns-in-Schema-clause-dropped
+returns-in-Schema-clause-dropped g c action stands = let same = rw c.in-Schema.is at stands in absurd cc
+
+pub returns-in-Fetch-clause-dropped : goal.returns-in-Fetch-clause-dropped
+returns-in-Fetch-clause-dropped g c action stands = let same = rw c.in-Fetch.is at stands in absurd cc
+
+pub returns-in-Expire-clause-dropped : goal.returns-in-Expire-clause-dropped
+returns-in-Expire-clause-dropped g c action stands = let same = rw c.in-Expire.is at stands in absurd cc
+
+pub returns-in-Drop-clause-step : goal.returns-in-Drop-clause-step
+returns-in-Drop-clause-step g c asked stands =
+    asks_so (λ (one : Asked). ReactsBy g.B.Backend.moves (Ok one) (g.B.Backend.seat c.args.backend.now) c.step_drop.result (g.B.Backend.seat c.step_drop.new.backend)) asked (remove c.in-Drop.action.now)
+    (rw c.in-Drop.is at stands) c.step_drop.ensures.step
+
+pub returns-in-Drop-clause-shown : goal.returns-in-Drop-clause-shown
+returns-in-Drop-clause-shown g c knows asked stands = asks_so (λ (one : Asked). AsShown (g.B.Backend.seat c.step_drop.new.backend).log one (fault_in c.step_drop.result)) asked (remove c.in-Drop.action.now) (rw c.in-Drop.is at stands) tt
+
+pub returns-in-Drop-clause-accepted : goal.returns-in-Drop-clause-accepted
+returns-in-Drop-clause-accepted g c payloads stands = let same = rw c.in-Drop.is at stands in absurd cc

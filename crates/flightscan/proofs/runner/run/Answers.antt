@@ -12,3 +12,6 @@ returns-in-Expire-clause-asks g c = rw c.in-Expire.is (rw c.from-version.ensures
 
 pub returns-in-Describe-clause-asks : goal.returns-in-Describe-clause-asks
 returns-in-Describe-clause-asks g c = rw c.in-Describe.is (c.describe.ensures, refl)
+
+pub returns-in-Drop-clause-asks : goal.returns-in-Drop-clause-asks
+returns-in-Drop-clause-asks g c = rw c.in-Drop.is (c.drop_table.ensures, refl)

@@ -226,7 +226,7 @@ JoinState::feed_next-returns-then-is_over-clause-feeds t c =
     let finds : FindsPiece left c.in-Given.given c.turn.new.self = rw (c.in_ok-given.was, c.in-Given.is) at c.turn.ensures.found in (
       rw c.feed.ensures (fed_none left self.joiner self.number c.in-Given.given c.turn.new.self c.requires.none finds),
       (
-        has_end c.args.looking.now.patience c.turn.new.looking.patience c.is_over.result c.turn.ensures.endless c.is_over.ensures.endless c.if-is_over.true,
+        has_end c.args.looking.now.patience c.spend_weighted.new.self.patience c.is_over.result (λ e. c.spend_weighted.ensures.endless (c.turn.ensures.endless e)) c.is_over.ensures.endless c.if-is_over.true,
         λ _. rw c.feed.ensures (fed_looked left self.joiner self.number c.in-Given.given c.turn.new.self c.requires.none finds),
       ),
     )

@@ -2,10 +2,11 @@ use Rattle.scan_base.specs.declared.fault.Fault.TheVariants.{BadProto}
 use Rattle.std.proofs.Common.{Ok, Err, refl}
 use Rattle.flight_info.specs.Replies.{refusal}
 use Rattle.flight_core.specs.declared.answer.Answer.TheVariants.{Whole}
+use Rattle.flight_core.specs.Asked.{put}
 use Rattle.flight_calls.specs.Calls.{asked_with}
 use Rattle.flight_calls.proofs.Asking.{refused_now, asks_put, asks_none, asks_one}
 use Rattle.flight_core.proofs.Reacting.{unasked}
-use Rattle.flight_calls.proofs.Keeping.{all_kept, no_put}
+use Rattle.flight_calls.proofs.Keeping.{all_kept, refused_keeps}
 use Rattle.flight_calls.proofs.Reacting.{settled}
 use Rattle.flight_calls.proofs.request.Request.answer.Goals as goal
 
@@ -13,7 +14,7 @@ pub returns-in-Put-clause-reply : goal.returns-in-Put-clause-reply
 returns-in-Put-clause-reply g c call holds =
     let puts = rw c.in-Put.is at holds in
     let asked = asks_put c.args.options call puts.0 in
-    rw asked (c.answer_put.ensures.reply call.messages (c.into_put.ensures.read call.messages puts.1))
+    rw asked (c.answer_keeping.ensures.reply (put call.messages) (c.into_put.ensures.read call.messages puts.1))
 
 pub returns-in-Awaits-clause-reply : goal.returns-in-Awaits-clause-reply
 returns-in-Awaits-clause-reply g c call holds =
@@ -25,10 +26,8 @@ pub returns-in-Asks-clause-reply : goal.returns-in-Asks-clause-reply
 returns-in-Asks-clause-reply g c call holds =
     let has = rw c.in-Asks.is at holds in
     let asked = asks_one c.args.options call c.in-Asks.method c.in-Asks.message has.0 has.1 in
-    let stands = rw c.as_slice.ensures at c.operation_of.ensures in
-    let reply = c.step.ensures.step (asked_with c.args.options c.in-Asks.method c.in-Asks.message) stands in
-    rw asked (all_kept g.B.Backend.moves c.args.options.keep (Ok (asked_with c.args.options c.in-Asks.method c.in-Asks.message)) _ _ _ reply
-    (no_put c.args.options.keep c.args.options c.in-Asks.method c.in-Asks.message _ _))
+    let stands = rw c.as_slice.ensures at c.operation_of-operation.ensures in
+    rw asked (c.answer_keeping-in-Asks.ensures.reply (asked_with c.args.options c.in-Asks.method c.in-Asks.message) stands)
 
 pub returns-in-Settled-clause-reply : goal.returns-in-Settled-clause-reply
 returns-in-Settled-clause-reply g c call holds =
@@ -36,7 +35,7 @@ returns-in-Settled-clause-reply g c call holds =
     let asked = asks_one c.args.options call has.one has.message has.at has.alone in
     rw (asked, c.refusal-in-Settled.ensures.reply)
     (all_kept g.B.Backend.moves c.args.options.keep (Ok (asked_with c.args.options has.one has.message)) _ _ (Whole (refusal c.in-Settled.fault))
-    (settled g.B.Backend.moves g.met.B.Backend.stays _ c.args.options has.one has.message c.in-Settled.fault has.refused) (no_put c.args.options.keep c.args.options has.one has.message _ _))
+    (settled g.B.Backend.moves g.met.B.Backend.stays _ c.args.options has.one has.message c.in-Settled.fault has.refused) (refused_keeps c.args.options.keep (asked_with c.args.options has.one has.message) c.in-Settled.fault _))
 
 pub returns-in-Refused-clause-reply : goal.returns-in-Refused-clause-reply
 returns-in-Refused-clause-reply g c call holds =

@@ -1,6 +1,6 @@
 use Rattle.std.proofs.Common.{map, arith, ap}
 use Rattle.std.proofs.lemmas.List.{length-map}
-use Rattle.version_log.specs.Log.{puts_in}
+use Rattle.version_log.specs.Log.{changes_in}
 use Rattle.flight_core.specs.Versions.{numbered}
 use Rattle.flight_core.proofs.Versions.{kept_length}
 use Rattle.flight_core.proofs.plain.Plain.newest.Goals as goal
@@ -10,7 +10,7 @@ returns-clause-number c =
     let kept = c.self.inside.kept.items in
     let log = c.self.inside.log.value.entries in
     let long = kept_length c.self.inside.floor (map numbered kept) log c.self.invariant in
-    omega (arith, long, length-map kept numbered, c.len.ensures, ap puts_in c.self.view_is)
+    omega (arith, long, length-map kept numbered, c.len.ensures, ap changes_in c.self.view_is)
 
 pub returns-clause-kept : goal.returns-clause-kept
 returns-clause-kept c = rw (← c.self.view_is) c.self.invariant.there

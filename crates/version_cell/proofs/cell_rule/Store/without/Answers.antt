@@ -1,6 +1,6 @@
 use Rattle.std.proofs.Common.{rules, arith, ◌≡◌, ◌≤◌}
 use Rattle.std.specs.Arc.{arc_value}
-use Rattle.version_log.specs.Log.{puts_in, floor_of}
+use Rattle.version_log.specs.Log.{changes_in, floor_of}
 use Rattle.version_log.specs.Versions.{IsIndexOf}
 use Rattle.version_log.proofs.Versions.{is_there, kept_cut, kept_so}
 use Rattle.version_cell.specs.SignedEntries.{log_of}
@@ -21,7 +21,7 @@ without-requires-clause-newest c =
     let before : IsIndexOf c.deref.result.now log = rw c.deref.ensures c.args.self.now.kept in
     let kept : IsIndexOf c.deref-2.result.now log = rw c.deref-2.ensures c.args.self.now.kept in
     let low : floor_of log ≤ c.args.version = omega (arith, c.floor.ensures, before.floor, c.if-version-floor.false) in
-    let within : c.args.version ≤ puts_in log = omega (arith, c.puts.ensures, c.if-version-puts.false) in
+    let within : c.args.version ≤ changes_in log = omega (arith, c.changes.ensures, c.if-version-puts.false) in
     (is_there c.deref-2.result.now log kept c.args.version low within).1
 
 pub returns-clause-ok : goal.returns-clause-ok

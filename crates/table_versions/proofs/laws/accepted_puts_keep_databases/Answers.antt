@@ -1,5 +1,0 @@
-use Rattle.table_versions.proofs.Tables.{accepted_puts_keep_databases}
-use Rattle.table_versions.proofs.laws.accepted_puts_keep_databases.Goals as goal
-
-pub returns : goal.returns
-returns c = accepted_puts_keep_databases
