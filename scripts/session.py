@@ -53,7 +53,8 @@ def end(running: list[subprocess.Popen]) -> None:
 
 
 def done(command: str) -> str:
-    return subprocess.run(command, timeout=SECONDS, **TYPED).stdout
+    printed = subprocess.run(command, timeout=SECONDS, **TYPED).stdout
+    return re.sub(r"^waiting: .*\n", "", printed, flags=re.MULTILINE)  # (of a slow machine)
 
 
 def main() -> int:

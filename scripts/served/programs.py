@@ -38,10 +38,13 @@ ENDED = b"the connection or the output failed; `head` ends the output early\n"
 STRANGE = "what listens at this port is no flightscan server"
 
 
+WAITING = b"waiting: the server is at work, or all its seats are taken\n"
+
+
 def typed(run: Run, *words: str, data: bytes = b"", out: int = subprocess.PIPE) -> tuple[int, bytes, bytes]:
-    """Runs the program: its exit status, and what it printed on both outputs."""
+    """Runs the program: its exit status, and what it printed on both outputs, but for the line of a slow server."""
     done = subprocess.run([run.path, *words], input=data, stdout=out, stderr=subprocess.PIPE, timeout=SECONDS)
-    return done.returncode, done.stdout or b"", done.stderr
+    return done.returncode, done.stdout or b"", done.stderr.replace(WAITING, b"")
 
 
 def put(run: Run, server: Server, table: str, data: bytes, mode: str = "create") -> tuple[int, bytes, bytes]:
@@ -207,7 +210,7 @@ def copied_table(run: Run) -> None:
                 same("rows", query(run, server, text), query(run, server, "SELECT * FROM copy"))
         _, data, _ = query(run, server, "SELECT a FROM many", "--format", "arrow")
         same("each row", [[row] for row in range(70_000)], rows_in(data))
-        same("no stream", answered("F14 UnknownName", NAMES), query(run, server, "SELECT b FROM many", "--format", "arrow"))
+        same("no stream", answered("F14 UnknownName", NAMES, "its columns: a:int64", "no column has the name b"), query(run, server, "SELECT b FROM many", "--format", "arrow"))
 
 
 def hand_on(source: socket.socket, sink: socket.socket, came: bytearray) -> None:
@@ -471,6 +474,7 @@ def ends_of_streams(run: Run) -> None:
 # ---- how they end
 
 
+COLUMNS = "its columns: id:int64 town:utf8? rider:utf8? km:int64? paid:bool?"
 MISSING = "`flightscan tables` prints the names; their case counts"
 CLASSES = "compare numbers with numbers, 'texts' with texts, else by a word: DATE '2026-11-28'"
 GROUPS = "with groups or aggregates, select only columns of GROUP BY, and no *"
@@ -487,9 +491,14 @@ REFUSED_QUERIES = [
     ("SELECT id,\n\ttown,, km\nFROM t", "F13 BadSql at byte 17", *marked(" town,, km", 6)),
     ("SELECT 'é' FROM", "F13 BadSql at byte 7", *marked("SELECT 'é' FROM", 7)),
     ("", "F13 BadSql at byte 0", *marked("", 0)),
-    ("SELECT x FROM t", "F14 UnknownName", NAMES),
+    ("SELECT x FROM t", "F14 UnknownName", NAMES, COLUMNS, "no column has the name x"),
+    ("SELECT ID, km FROM t", "F14 UnknownName", NAMES, COLUMNS, "no column has the name ID; near: id"),
+    ("SELECT t.town AS place FROM t WHERE twon = 'Delft'", "F14 UnknownName", NAMES, COLUMNS, "no column has the name twon; near: town"),
+    ("SELECT id FROM t AS x JOIN t AS y ON x.id = y.id", "F14 UnknownName", NAMES),
     ("SELECT id FROM t WHERE id = 'x'", "F15 TypeClash", CLASSES),
-    ("SELECT * FROM u", "F9 TableMissing", MISSING),
+    ("SELECT * FROM many", "F9 TableMissing", MISSING, "no table has the name many"),
+    ("SELECT * FROM u", "F9 TableMissing", MISSING, "no table has the name u; near: t"),
+    ('SELECT * FROM t JOIN "T\t" AS u ON t.id = u.id', "F9 TableMissing", MISSING, "no table has the name T ; near: t"),
     ("SELECT id FROM t LIMIT 1", "F16 NotInSubset", *marked("SELECT id FROM t LIMIT 1", 17, 'left out: LIMIT; as a name: "LIMIT"')),
     ("SELECT date FROM t", "F16 NotInSubset", *marked("SELECT date FROM t", 7, 'left out: date; as a name: "date"')),
     ("SELECT id + 1 FROM t", "F16 NotInSubset", *marked("SELECT id + 1 FROM t", 10, "left out: +")),
@@ -504,11 +513,18 @@ REFUSED_QUERIES = [
 def answered_faults(run: Run) -> None:
     with run.serving() as server:
         absent = "no table has this name: --mode create makes it"
-        same("append to none", answered("F9 TableMissing", absent), put(run, server, "t", TRIPS, "append"))
+        none = "no table has the name t"
+        same("append to none", answered("F9 TableMissing", absent, none), put(run, server, "t", TRIPS, "append"))
         same("put", printed("7 rows"), put(run, server, "t", TRIPS))
         same("create again", answered("F10 TableExists", EXISTS), put(run, server, "t", TRIPS))
         others = "the table has other columns: names, types and nulls must agree, in their order"
-        same("another schema", answered("F11 SchemaMismatch", others), put(run, server, "t", stream(A, [(1,)]), "append"))
+        first = "column 1: the table has id:int64, and the input a:int64"
+        same("another schema", answered("F11 SchemaMismatch", others, first), put(run, server, "t", stream(A, [(1,)]), "append"))
+        same("near", answered("F9 TableMissing", absent, "no table has the name tt; near: t"), put(run, server, "tt", TRIPS, "append"))
+        words = ("put", "--port", str(server.port), "--table", "t", "--mode", "append", "--format", "csv")
+        wide = "column 1: the table has id:int64, and the input id:int8"
+        given = typed(run, *words, "--columns", "id:int8", data=b"1\n")
+        same("another type", answered("F11 SchemaMismatch", others, wide), given)
         twice = stream((*A, *A), [(1, 1)])
         same("one name twice", answered("F11 SchemaMismatch", "two columns have one name"), put(run, server, "u", twice))
         same("a name of no byte", answered("F12 LimitReached", "a table's name has 1 to 64 bytes"), put(run, server, "", TRIPS))
@@ -539,7 +555,30 @@ def described(run: Run) -> None:
         copy = ("put", "--port", port, "--table", "u", "--mode", "create", "--format", "csv", "--columns", columns)
         same("a put of such columns", printed("1 rows"), typed(run, *copy, data=b"1,Delft,Ada,5,True\n"))
         same("the columns of the copy", (0, line, b""), typed(run, *words, "u"))
-        same("no table", answered("F9 TableMissing", MISSING), typed(run, *words, "T"))
+        same("no table", answered("F9 TableMissing", MISSING, "no table has the name T; near: u"), typed(run, *words, "T"))
+
+
+@case("--separator: what stands between the fields of CSV, and no other name of one")
+def separated_fields(run: Run) -> None:
+    with run.serving() as server:
+        words = ("put", "--port", str(server.port), "--table", "t", "--mode", "replace", "--format", "csv", "--columns", "a:int8, b:utf8")
+        for name, byte in ((",", b","), (";", b";"), ("|", b"|"), ("tab", b"\t")):
+            same(name, printed("2 rows"), typed(run, *words, "--separator", name, data=b'1%bx\n2%b"%b,"\n' % (byte, byte, byte)))
+            given = typed(run, "query", "--port", str(server.port), "--format", "csv", "SELECT * FROM t")
+            same("its rows", printed("a,b", "1,x", f'2,"{byte.decode()},"'), given)
+        status, _, said = typed(run, *words, "--separator", ":", data=b"1:x\n")
+        same("another", (2, True), (status, b"--separator" in said))
+
+
+@case("a client that waits for a seat says so after a second; and a question after a fault waits for two")
+def waiting_clients(run: Run) -> None:
+    with run.serving("--seats", "1") as server:
+        same("put", printed("7 rows"), put(run, server, "t", TRIPS))
+        with Connection(server.port):
+            words = [run.path, "tables", "--port", str(server.port)]
+            with subprocess.Popen(words, stdout=subprocess.PIPE, stderr=subprocess.PIPE) as waiting:
+                same("its line", WAITING, waiting.stderr.readline() if waiting.stderr else b"")
+                waiting.terminate()
 
 
 LINES = [[], ["another"], ["--help"], ["put", "--help"], ["pipe", "--parts", "0"], ["pipe", "--parts", "65"],

@@ -9,10 +9,9 @@ use Rattle.sql_text.specs.Values.{quoted}
 use Rattle.flight_proto.specs.Drop.{drop_bytes}
 use Rattle.flight_proto.specs.Expiry.{expiry_bytes}
 use Rattle.flight_proto.specs.InfoCommand.{InfoCommand, rows_of, tables}
-use Rattle.fault_hints.specs.Hints.{call_line, drop_hint, expiry_hint, query_hint}
+use Rattle.fault_hints.specs.Hints.{call_line, drop_hint, expiry_hint}
 use Rattle.table_versions.specs.Table.{Table}
 use Rattle.row_text.specs.Lines.{name_line}
-use Rattle.csv_input.specs.Lines.{columns_line}
 use Rattle.client_calls.specs.declared.call.Method.TheVariants.{DoAction}
 use Rattle.client_calls.specs.declared.failure.Failure.{Failure}
 use Rattle.client_calls.specs.declared.failure.Failure.TheVariants.{Found}
@@ -112,22 +111,3 @@ Drops Gives table status old new =
 abbrev pub columns_query : List ℕ → List ℕ
 columns_query table =
     codes "SELECT * FROM " ++ quoted (byte "\"") table ++ codes " WHERE 0 = 1"
-
--- the line that spells the columns of rows that were fetched; or what failed
-abbrev pub FetchesColumns : {A : Type 0} → (A → List ℕ) → InfoCommand → Result A Failure → Line →
-    Line → Type 0
-FetchesColumns view wanted (Ok text) old new =
-    (rows : Table) × Fetches wanted (Ok rows) old new
-    × (view text ≡ columns_line rows.schema.fields)
-FetchesColumns view wanted (Err failure) old new =
-    Fetches wanted (Err failure) old new
-    ⊎ ((rows : Table) × Fetches wanted (Ok rows) old new × (failure ≡ Found OutOfMemory))
-
--- the line that spells the columns of a table; or memory for the query is refused, and no
--- connection is made
-abbrev pub Describes : Type 0 → (Option Ends → Type 0) → List ℕ → ExitStatus → Desk → Desk → Type 0
-Describes untouched Gives table status old new =
-    (untouched × EndsBy (fault_line OutOfMemory) status old new)
-    ⊎ Connects Gives
-    (FetchesColumns (λ (text : List ℕ). text) (rows_of (columns_query table)))
-    (Tells (query_hint (columns_query table)) (λ text. text)) status old new

@@ -9,6 +9,8 @@ pub mod InTurn
 pub mod Names
 pub mod RowsPut
 pub mod Commands
+pub mod Asking
+pub mod Describing
 pub mod Puts
 pub mod Queries
 pub mod inside

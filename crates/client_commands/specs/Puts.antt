@@ -2,7 +2,8 @@
 use Rattle.std.specs.Prelude.{◌≡◌, ◌⊎◌, ℕ, List, [], ◌∷◌, ◌++◌, Option, Some, None, Result, Ok, Err}
 use Rattle.scan_base.specs.declared.fault.Fault.{Fault}
 use Rattle.scan_base.specs.declared.fault.Fault.TheVariants.{BadFlatbuffer, OutOfMemory}
-use Rattle.fault_hints.specs.Hints.{put_hint, spelling_lines}
+use Rattle.fault_hints.specs.Hints.{spelling_lines}
+use Rattle.fault_hints.specs.ServerLines.{put_speech, records_speech}
 use Rattle.fault_hints.specs.InputKinds.{input_line}
 use Rattle.ipc_stream.specs.declared.message.IpcMessage.{IpcMessage}
 use Rattle.ipc_stream.specs.Stream.{Framed, IsStream}
@@ -11,16 +12,16 @@ use Rattle.client_calls.specs.declared.put_call.Target.{Target}
 use Rattle.client_calls.specs.Answers.{AnswersOne}
 use Rattle.client_calls.specs.Commands.{put_payloads, ReadsCount}
 use Rattle.client_calls.specs.Outcome.{Calls}
-use Rattle.command_ends.specs.Network.{Ends}
 use Rattle.command_ends.specs.Printing.{Said, count_line, fault_line}
 use Rattle.command_ends.specs.WholeInput.{Source, ReadsWhole}
 use Rattle.command_ends.specs.declared.exit_status.ExitStatus.{ExitStatus}
 use Rattle.csv_columns.specs.Refusals.{WhyNoColumns}
 use Rattle.csv_columns.specs.TextRecords.{records_in}
 use Rattle.csv_input.specs.Input.{Form, ReadsCsv, TextAt}
-use Rattle.client_commands.specs.Commands.{Connects, Desk, EndsBy, desk_of, reading_lines}
+use Rattle.client_commands.specs.Commands.{Desk, EndsBy, desk_of, reading_lines}
+use Rattle.client_commands.specs.Asking.{ConnectsThenAsks}
+use Rattle.client_commands.specs.Handles.{Giving}
 use Rattle.client_commands.specs.RowsPut.{PutsRows}
-use Rattle.client_commands.specs.CallOutcome.{Tells}
 
 -- ---- a stream
 
@@ -44,27 +45,29 @@ first_header [] = None
 first_header (message ∷ messages) = Some message.header
 
 -- bytes are the stream of these messages, which are put, and the line of their count is printed
-pub record IsPut (bytes : List ℕ) (Gives : Option Ends → Type 0) (target : Target)
-    (status : ExitStatus) (desk desk' : Desk) : Type 0 where
+pub record IsPut {N : Type 0} (bytes : List ℕ) (Gives : Giving N) (target : Target)
+    (before behind : N) (status : ExitStatus) (desk desk' : Desk) : Type 0 where
   pub messages : List IpcMessage
   pub rest : List ℕ
   pub framed : Framed bytes messages rest
-  pub puts : Connects Gives (Calls DoPut (put_payloads target messages) (AnswersOne ReadsCount))
-      (Tells (put_hint target.table.now target.mode (first_header messages)) count_line)
+  pub puts : ConnectsThenAsks Gives
+      (Calls DoPut (put_payloads target messages) (AnswersOne ReadsCount))
+      (put_speech target.table.now target.mode (first_header messages)) count_line before behind
       status desk desk'
 
 -- bytes are put, or no connection is made
-abbrev pub PutsBytes : List ℕ → Type 0 → (Option Ends → Type 0) → Target → ExitStatus → Desk →
+abbrev pub PutsBytes : {N : Type 0} → List ℕ → Giving N → Target → N → N → ExitStatus → Desk →
     Desk → Type 0
-PutsBytes bytes untouched Gives target status desk desk' =
-    (untouched × IsUnput bytes status desk desk') ⊎ IsPut bytes Gives target status desk desk'
+PutsBytes bytes Gives target before behind status desk desk' =
+    ((behind ≡ before) × IsUnput bytes status desk desk')
+    ⊎ IsPut bytes Gives target before behind status desk desk'
 
-abbrev pub Puts : Source → Source → Type 0 → (Option Ends → Type 0) → Target → ExitStatus → Desk →
+abbrev pub Puts : {N : Type 0} → Source → Source → Giving N → Target → N → N → ExitStatus → Desk →
     Desk → Type 0
-Puts old new untouched Gives target status desk desk' =
-    IsUnread old new untouched status desk desk'
+Puts old new Gives target before behind status desk desk' =
+    IsUnread old new (behind ≡ before) status desk desk'
     ⊎ ((bytes : List ℕ) × ReadsWhole (Ok bytes) old new
-    × PutsBytes bytes untouched Gives target status desk desk')
+    × PutsBytes bytes Gives target before behind status desk desk')
 
 -- ---- CSV
 
@@ -88,18 +91,18 @@ pub record IsNoCsv (form : Form) (old new : Source) (untouched : Type 0) (status
 
 -- each record of the whole input says a row. The rows are put, and the line of their count is
 -- printed.
-pub record IsPutCsv (form : Form) (old new : Source) (Gives : Option Ends → Type 0)
-    (target : Target) (status : ExitStatus) (desk desk' : Desk) : Type 0 where
+pub record IsPutCsv {N : Type 0} (form : Form) (old new : Source) (Gives : Giving N)
+    (target : Target) (before behind : N) (status : ExitStatus) (desk desk' : Desk) : Type 0 where
   pub text : TextAt
   pub middle : Said
   pub reads : ReadsCsv form (λ (text : TextAt). text) (Ok text) old new desk.faults middle
-  pub puts : Connects Gives (PutsRows target text)
-      (Tells (put_hint target.table.now target.mode (Some [])) count_line) status
-      (desk_of desk.out middle) desk'
+  pub puts : ConnectsThenAsks Gives (PutsRows target text)
+      (records_speech target.table.now target.mode text.schema.fields) count_line before behind
+      status (desk_of desk.out middle) desk'
 
-abbrev pub PutsCsv : Form → Source → Source → Type 0 → (Option Ends → Type 0) → Target →
+abbrev pub PutsCsv : {N : Type 0} → Form → Source → Source → Giving N → Target → N → N →
     ExitStatus → Desk → Desk → Type 0
-PutsCsv form old new untouched Gives target status desk desk' =
-    IsMisspelled form ((new ≡ old) × untouched) status desk desk'
-    ⊎ IsNoCsv form old new untouched status desk desk'
-    ⊎ IsPutCsv form old new Gives target status desk desk'
+PutsCsv form old new Gives target before behind status desk desk' =
+    IsMisspelled form ((new ≡ old) × (behind ≡ before)) status desk desk'
+    ⊎ IsNoCsv form old new (behind ≡ before) status desk desk'
+    ⊎ IsPutCsv form old new Gives target before behind status desk desk'

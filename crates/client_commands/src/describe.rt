@@ -3,15 +3,19 @@
 ghost use Rattle.std.specs.Prelude.{◌≡◌, IfOk, string_bytes};
 ghost use Rattle.grpc_frame.specs.Ends.{CanFail};
 ghost use Rattle.flight_proto.specs.InfoCommand.{rows_of};
-ghost use Rattle.fault_hints.specs.Hints.{query_hint};
+ghost use Rattle.fault_hints.specs.ServerLines.{speech_of};
 ghost use Rattle.command_ends.specs.Printing.{said_of};
-ghost use Rattle.client_commands.specs.CallOutcome.{Tells};
-ghost use Rattle.client_commands.specs.Commands.{Describes, FetchesColumns, columns_query, desk_of};
+ghost use Rattle.client_calls.specs.Outcome.{Line};
+ghost use Rattle.client_commands.specs.Asking.{TellsOrAsks};
+ghost use Rattle.client_commands.specs.Commands.{columns_query, desk_of};
+ghost use Rattle.client_commands.specs.Describing.{Describes, FetchesColumns};
+ghost use Rattle.client_commands.specs.Lines.{CanCount};
 
-use crate::call_outcome::{end_by_failure, end_by_printing};
+use crate::call_outcome::end_by_printing;
 use crate::connecting::{end_unconnected, open};
 use crate::fetching::fetch_rows;
 use crate::quoted_name::quoted_name;
+use crate::server_inquiry::{Asked, end_by_asking};
 use client_calls::{Connection, Failure};
 use command_ends::{Connect, ExitStatus, end_by_fault};
 use csv_columns::columns_text;
@@ -36,8 +40,8 @@ pub fn describe<C: Connect, W: Output, E: Output>(
     requires prints { CanFail (E.failures faults.old) }
 
     // The columns are printed; or what failed is, and where no connection was made, why.
-    ensures { Describes (network.new ≡ network.old)
-        (λ ends. C.connects network.old port ends network.new) table.now result
+    ensures { Describes (λ old ends new. C.connects old port ends new) table.now network.old
+        network.new result
         (desk_of (said_of W.Output output.old) (said_of E.Output faults.old))
         (desk_of (said_of W.Output output.new) (said_of E.Output faults.new)) }
 {
@@ -45,57 +49,71 @@ pub fn describe<C: Connect, W: Output, E: Output>(
         Ok(sql) => sql,
         Err(AllocError) => return end_by_fault(faults, Fault::OutOfMemory),
     };
-    let mut connection = match open(alloc, network, port) {
+    let connection = match open(alloc, network, port) {
         Ok(connection) => connection,
         Err(error) => return end_unconnected(alloc, faults, port, &error),
     };
-    let fetched = fetch_columns(alloc, &mut connection, sql.as_str());
-    tell_columns(alloc, output, faults, fetched, sql.as_str())
+    let fetched = fetch_columns(alloc, connection, sql.as_str());
+    let question = Question::Rows(sql.as_str());
+    tell_columns(
+        alloc,
+        network,
+        output,
+        faults,
+        Asked { port, question },
+        fetched,
+    )
 }
 
-// A query that has the columns of a table, and none of its rows.
-fn columns_query(alloc: Global, table: &str) -> Result<String, AllocError>
+/// A query that has the columns of a table, and none of its rows.
+///
+/// # Errors
+///
+/// `AllocError` where memory is refused.
+pub(crate) fn columns_query(alloc: Global, table: &str) -> Result<String, AllocError>
     ensures { IfOk result (λ sql. string_bytes sql ≡ columns_query table.now) }
 {
     let name = quoted_name(alloc, table)?;
     format!(in alloc; "SELECT * FROM {name} WHERE 0 = 1")
 }
 
-// Fetches the columns that a query has, in the line that spells them.
-fn fetch_columns<R: Input, W: Output>(
+// Fetches the columns that a query has, in the line that spells them. The connection is closed.
+fn fetch_columns<R: Input + Drop, W: Output + Drop>(
     alloc: Global,
-    connection: &mut Connection<R, W>,
+    connection: Connection<R, W>,
     sql: &str,
 ) -> Result<Vec<u8>, Failure>
-    requires reads { CanFail (connection.old.incoming.failed) }
-    requires writes { CanFail (connection.old.outgoing.failed) }
-    ensures { FetchesColumns (λ text. text.items) (rows_of sql.now) result connection.old
-        connection.new }
+    requires { CanCount connection }
+    ensures { (last : Line) × FetchesColumns (λ text. text.items) (rows_of sql.now) result
+        connection last }
 {
-    let rows = fetch_rows(alloc, connection, InfoCommand::Rows(sql))?;
+    let mut connection = connection;
+    let rows = fetch_rows(alloc, &mut connection, InfoCommand::Rows(sql))?;
     let text = columns_text(alloc, rows.schema().fields.as_slice())?;
     Ok(text)
 }
 
 // Tells the columns that were fetched, or why none were.
-fn tell_columns<W: Output, E: Output>(
+fn tell_columns<C: Connect, W: Output, E: Output>(
     alloc: Global,
+    network: &mut C,
     output: &mut W,
     faults: &mut E,
+    asked: Asked<'_>,
     fetched: Result<Vec<u8>, Failure>,
-    sql: &str,
 ) -> ExitStatus
     requires writes { CanFail (W.failures output.old) }
     requires prints { CanFail (E.failures faults.old) }
-    ensures { Tells (query_hint sql.now) (λ text. text.items) fetched result
-        (said_of W.Output output.old) (said_of W.Output output.new)
-        (said_of E.Output faults.old) (said_of E.Output faults.new) }
+    ensures { TellsOrAsks (λ old ends new. C.connects old asked.entry.port ends new)
+        (speech_of asked.entry.question) (λ text. text.items) network.old network.new fetched
+        result (desk_of (said_of W.Output output.old) (said_of E.Output faults.old))
+        (desk_of (said_of W.Output output.new) (said_of E.Output faults.new)) }
 {
     match fetched {
         Ok(text) => {
             let printed = output.write(text.as_slice());
             end_by_printing(faults, printed)
         }
-        Err(failure) => end_by_failure(alloc, faults, failure, Question::Rows(sql)),
+        Err(failure) => end_by_asking(alloc, network, faults, asked, failure),
     }
 }

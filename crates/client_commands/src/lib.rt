@@ -6,7 +6,9 @@
 //! how over several. `specs/Formats.antt` says what is written of rows in each format,
 //! `specs/Streaming.antt` how it is written as they come, and `specs/InTurn.antt` how over several
 //! connections. `specs/RowsPut.antt` says how the rows of CSV are put, batch by batch.
-//! `specs/Commands.antt` and `specs/Queries.antt` say what each command does.
+//! `specs/Asking.antt` says what the server
+//! is asked after a fault. `specs/Commands.antt`, `specs/Describing.antt`, `specs/Puts.antt` and
+//! `specs/Queries.antt` say what each command does.
 #![tactic(auto)]
 
 mod call_outcome;
@@ -26,6 +28,7 @@ mod quoted_name;
 mod row_writer;
 mod rows_put;
 mod run_relay;
+mod server_inquiry;
 mod stream_relay;
 mod stream_rows;
 mod table_rows;

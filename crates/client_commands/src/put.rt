@@ -1,27 +1,30 @@
 //! `flightscan put`: an Arrow IPC stream, or CSV, into a table.
 
-ghost use Rattle.std.specs.Prelude.{◌≡◌, [], ℕ, List, Some, IfSome};
+ghost use Rattle.std.specs.Prelude.{◌≡◌, ℕ, List, Some, IfSome};
 ghost use Rattle.grpc_frame.specs.Ends.{CanFail};
 ghost use Rattle.client_calls.specs.declared.call.Method.TheVariants.{DoPut};
 ghost use Rattle.client_calls.specs.Answers.{AnswersOne};
 ghost use Rattle.client_calls.specs.Commands.{ReadsCount, put_payloads};
-ghost use Rattle.client_calls.specs.Outcome.{Calls};
+ghost use Rattle.client_calls.specs.Outcome.{Calls, Line};
 ghost use Rattle.command_ends.specs.Printing.{count_line, said_of};
-ghost use Rattle.fault_hints.specs.Hints.{hint_of, lent, put_hint};
+ghost use Rattle.fault_hints.specs.Hints.{lent};
+ghost use Rattle.fault_hints.specs.ServerLines.{put_speech, records_speech, speech_of};
 ghost use Rattle.command_ends.specs.WholeInput.{source_of};
-ghost use Rattle.client_commands.specs.CallOutcome.{Tells};
-ghost use Rattle.client_commands.specs.Commands.{Connects, desk_of};
+ghost use Rattle.client_commands.specs.Asking.{ConnectsThenAsks, TellsOrAsks};
+ghost use Rattle.client_commands.specs.Commands.{desk_of};
+ghost use Rattle.client_commands.specs.Lines.{CanCount};
 ghost use Rattle.client_commands.specs.Puts.{Puts, PutsBytes, PutsCsv, first_header};
 ghost use Rattle.client_commands.specs.RowsPut.{PutsRows};
 ghost use Rattle.csv_columns.specs.Refusals.{WhyNoColumns};
 ghost use Rattle.csv_columns.specs.TextRecords.{records_in};
 ghost use Rattle.csv_input.specs.Input.{form_of};
 
-use crate::call_outcome::{end_by_failure, end_by_printing, print_fault};
+use crate::call_outcome::{end_by_printing, print_fault};
 use crate::connecting::{end_unconnected, open};
 use crate::rows_put::put_rows;
+use crate::server_inquiry::{Asked, end_by_asking};
 use bytes::Bytes;
-use client_calls::{Failure, Target};
+use client_calls::{Connection, Failure, Target};
 use command_ends::{Connect, ExitStatus, end_by_cause, end_by_fault, print_count, read_whole};
 use command_line::CsvForm;
 use csv_columns::columns_in;
@@ -60,9 +63,8 @@ pub fn put<C: Connect, I: Input, W: Output, E: Output>(
     // The input is no stream or was not read, and why is printed; or its messages were put, and
     // what came of it is.
     ensures { Puts (source_of I.Input input.old) (source_of I.Input input.new)
-        (network.new ≡ network.old)
-        (λ ends. C.connects network.old putting.entry.port ends network.new)
-        putting.entry.target result
+        (λ old ends new. C.connects old putting.entry.port ends new) putting.entry.target
+        network.old network.new result
         (desk_of (said_of W.Output output.old) (said_of E.Output faults.old))
         (desk_of (said_of W.Output output.new) (said_of E.Output faults.new)) }
 {
@@ -84,9 +86,8 @@ fn put_bytes<C: Connect, W: Output, E: Output>(
 ) -> ExitStatus
     requires writes { CanFail (W.failures output.old) }
     requires prints { CanFail (E.failures faults.old) }
-    ensures { PutsBytes stream.now (network.new ≡ network.old)
-        (λ ends. C.connects network.old putting.entry.port ends network.new)
-        putting.entry.target result
+    ensures { PutsBytes stream.now (λ old ends new. C.connects old putting.entry.port ends new)
+        putting.entry.target network.old network.new result
         (desk_of (said_of W.Output output.old) (said_of E.Output faults.old))
         (desk_of (said_of W.Output output.new) (said_of E.Output faults.new)) }
 {
@@ -128,9 +129,9 @@ pub fn put_csv<C: Connect, I: Input, W: Output, E: Output>(
     // No columns are spelled, or the input says no rows or was not read, and why is printed; or its
     // rows were put, and what came of it is.
     ensures { PutsCsv (form_of putting.entry.form) (source_of I.Input input.old)
-        (source_of I.Input input.new) (network.new ≡ network.old)
-        (λ ends. C.connects network.old putting.entry.putting.port ends network.new)
-        putting.entry.putting.target result
+        (source_of I.Input input.new)
+        (λ old ends new. C.connects old putting.entry.putting.port ends new)
+        putting.entry.putting.target network.old network.new result
         (desk_of (said_of W.Output output.old) (said_of E.Output faults.old))
         (desk_of (said_of W.Output output.new) (said_of E.Output faults.new)) }
 {
@@ -167,9 +168,10 @@ fn put_text<C: Connect, W: Output, E: Output>(
 ) -> ExitStatus
     requires writes { CanFail (W.failures output.old) }
     requires prints { CanFail (E.failures faults.old) }
-    ensures { Connects (λ ends. C.connects network.old putting.entry.port ends network.new)
-        (PutsRows putting.entry.target text.now) (Tells (put_hint putting.entry.target.table.now
-        putting.entry.target.mode (Some [])) count_line) result
+    ensures { ConnectsThenAsks (λ old ends new. C.connects old putting.entry.port ends new)
+        (PutsRows putting.entry.target text.now)
+        (records_speech putting.entry.target.table.now putting.entry.target.mode
+        text.now.schema.fields) count_line network.old network.new result
         (desk_of (said_of W.Output output.old) (said_of E.Output faults.old))
         (desk_of (said_of W.Output output.new) (said_of E.Output faults.new)) }
 {
@@ -178,8 +180,13 @@ fn put_text<C: Connect, W: Output, E: Output>(
         Err(error) => return end_unconnected(alloc, faults, putting.port, &error),
     };
     let counted = put_rows(alloc, connection, putting.target, text);
-    let question = Question::Put(putting.target.table, putting.target.mode, Some(&[]));
-    tell_count(alloc, output, faults, counted, question)
+    let target = putting.target;
+    let question = Question::Records(target.table, target.mode, text.columns());
+    let asked = Asked {
+        port: putting.port,
+        question,
+    };
+    tell_count(alloc, network, output, faults, asked, counted)
 }
 
 // Puts these messages over a connection.
@@ -193,24 +200,40 @@ fn put_messages<C: Connect, W: Output, E: Output>(
 ) -> ExitStatus
     requires writes { CanFail (W.failures output.old) }
     requires prints { CanFail (E.failures faults.old) }
-    ensures { Connects (λ ends. C.connects network.old putting.entry.port ends network.new)
+    ensures { ConnectsThenAsks (λ old ends new. C.connects old putting.entry.port ends new)
         (Calls DoPut (put_payloads putting.entry.target messages.now) (AnswersOne ReadsCount))
-        (Tells (put_hint putting.entry.target.table.now putting.entry.target.mode
-        (first_header messages.now)) count_line) result
+        (put_speech putting.entry.target.table.now putting.entry.target.mode
+        (first_header messages.now)) count_line network.old network.new result
         (desk_of (said_of W.Output output.old) (said_of E.Output faults.old))
         (desk_of (said_of W.Output output.new) (said_of E.Output faults.new)) }
 {
-    let mut connection = match open(alloc, network, putting.port) {
+    let connection = match open(alloc, network, putting.port) {
         Ok(connection) => connection,
         Err(error) => return end_unconnected(alloc, faults, putting.port, &error),
     };
-    let counted = client_calls::put(alloc, &mut connection, putting.target, messages);
-    let question = Question::Put(
-        putting.target.table,
-        putting.target.mode,
-        first_header(messages),
-    );
-    tell_count(alloc, output, faults, counted, question)
+    let target = putting.target;
+    let counted = put_over(alloc, connection, target, messages);
+    let question = Question::Put(target.table, target.mode, first_header(messages));
+    let asked = Asked {
+        port: putting.port,
+        question,
+    };
+    tell_count(alloc, network, output, faults, asked, counted)
+}
+
+// Puts these messages over a connection, and closes it.
+fn put_over<R: Input + Drop, W: Output + Drop>(
+    alloc: Global,
+    connection: Connection<R, W>,
+    target: Target<'_>,
+    messages: &[IpcMessage],
+) -> Result<u64, Failure>
+    requires { CanCount connection }
+    ensures { (last : Line) × Calls DoPut (put_payloads target.entry messages.now)
+        (AnswersOne ReadsCount) result connection last }
+{
+    let mut connection = connection;
+    client_calls::put(alloc, &mut connection, target, messages)
 }
 
 // The header of the first message.
@@ -224,24 +247,26 @@ fn first_header(messages: &[IpcMessage]) -> Option<&[u8]>
 }
 
 // Tells how many rows were put, or why none were.
-fn tell_count<W: Output, E: Output>(
+fn tell_count<C: Connect, W: Output, E: Output>(
     alloc: Global,
+    network: &mut C,
     output: &mut W,
     faults: &mut E,
+    asked: Asked<'_>,
     counted: Result<u64, Failure>,
-    question: Question<'_>,
 ) -> ExitStatus
     requires writes { CanFail (W.failures output.old) }
     requires prints { CanFail (E.failures faults.old) }
-    ensures { Tells (hint_of question.entry) count_line counted result
-        (said_of W.Output output.old) (said_of W.Output output.new)
-        (said_of E.Output faults.old) (said_of E.Output faults.new) }
+    ensures { TellsOrAsks (λ old ends new. C.connects old asked.entry.port ends new)
+        (speech_of asked.entry.question) count_line network.old network.new counted result
+        (desk_of (said_of W.Output output.old) (said_of E.Output faults.old))
+        (desk_of (said_of W.Output output.new) (said_of E.Output faults.new)) }
 {
     match counted {
         Ok(rows) => {
             let printed = print_count(alloc, output, rows);
             end_by_printing(faults, printed)
         }
-        Err(failure) => end_by_failure(alloc, faults, failure, question),
+        Err(failure) => end_by_asking(alloc, network, faults, asked, failure),
     }
 }

@@ -3,17 +3,17 @@
 ghost use Rattle.std.specs.Prelude.{◌≡◌};
 ghost use Rattle.grpc_frame.specs.Ends.{CanFail};
 ghost use Rattle.command_ends.specs.Printing.{said_of};
-ghost use Rattle.fault_hints.specs.Hints.{query_hint};
+ghost use Rattle.fault_hints.specs.ServerLines.{query_speech};
 ghost use Rattle.client_commands.specs.Commands.{desk_of};
 ghost use Rattle.command_ends.specs.WholeInput.{source_of};
 ghost use Rattle.client_commands.specs.Queries.{Queries, QueriesInput};
 ghost use Rattle.client_commands.specs.inside.WrittenRuns.{TellsStreamed};
 
-use crate::call_outcome::end_by_failure;
 use crate::connecting::{end_unconnected, open};
 use crate::fetch_failure::FetchFailure;
 use crate::row_writer::RowWriter;
 use crate::run_relay::stream_rows;
+use crate::server_inquiry::{Asked, end_by_asking};
 use crate::table_rows::TableWriter;
 use crate::text_rows::{LineText, RecordText, TextWriter};
 use command_ends::{Connect, ExitStatus, end_by_cause, end_by_fault, read_whole};
@@ -49,8 +49,8 @@ pub struct QueryCommand<'a> {
 /// of one is printed, the next one is made and its first stream is begun, in a thread of its own.
 /// Where the network gives none, it is asked once more after the endpoints before.
 ///
-/// A fault is printed on `faults` in a line, as far as that takes it, and lines after it say more.
-/// What was printed before it stays.
+/// A fault is printed on `faults` in a line, as far as that takes it, and lines after it say more;
+/// for these the server may be asked once more. What was printed before stays.
 pub fn query<T: Threads, C: Connect + Drop + Send, W: Output, E: Output>(
     rt: &T,
     alloc: Global,
@@ -164,24 +164,31 @@ where
         Err(error) => return end_unconnected(alloc, faults, query.port, &error),
     };
     let streamed = stream_rows::<_, _, _, F>(rt, alloc, network, connection, output, query);
-    end_by_streaming(alloc, faults, query, streamed)
+    end_by_streaming(alloc, network, faults, query, streamed)
 }
 
 // Tells why rows were not written whole, if so.
-fn end_by_streaming<E: Output>(
+fn end_by_streaming<C: Connect, E: Output>(
     alloc: Global,
+    network: &mut C,
     faults: &mut E,
     query: QueryCommand<'_>,
     streamed: Result<(), FetchFailure>,
 ) -> ExitStatus
     requires { CanFail (E.failures faults.old) }
-    ensures { TellsStreamed (query_hint query.entry.sql.now) streamed result
+    ensures { TellsStreamed (λ old ends new. C.connects old query.entry.port ends new)
+        (query_speech query.entry.sql.now) network.old network.new streamed result
         (said_of E.Output faults.old) (said_of E.Output faults.new) }
 {
     match streamed {
         Ok(()) => ExitStatus::Done,
         Err(FetchFailure::Failed(failure)) => {
-            end_by_failure(alloc, faults, failure, Question::Rows(query.sql))
+            let question = Question::Rows(query.sql);
+            let asked = Asked {
+                port: query.port,
+                question,
+            };
+            end_by_asking(alloc, network, faults, asked, failure)
         }
         Err(FetchFailure::Unconnected(error)) => {
             end_unconnected(alloc, faults, query.port, &error)

@@ -70,8 +70,12 @@ fn tell_names<W: Output, E: Output>(
     }
 }
 
-// Fetches the names of the tables.
-fn fetch_names<R: Input, W: Output>(
+/// Fetches the names of the tables.
+///
+/// # Errors
+///
+/// Those of `fetch_rows`, and of `names_of`.
+pub(crate) fn fetch_names<R: Input, W: Output>(
     alloc: Global,
     connection: &mut Connection<R, W>,
 ) -> Result<Vec<Text>, Failure>

@@ -71,6 +71,7 @@ pub fn answer(alloc: Global, row: &str) -> Result<String, AllocError> {
     let form = CsvForm {
         columns: (columns != "-").then_some(columns),
         header: header == "+",
+        separator: b',',
     };
     let text = text.replace(alloc, "|", "\n")?;
     match text_answer(alloc, form, &text) {

@@ -21,6 +21,29 @@ pub fn end_by_fault<E: Output>(faults: &mut E, fault: Fault) -> ExitStatus
     ExitStatus::FaultAtThisEnd
 }
 
+/// Prints a fault of this end in a line, and more after it, as far as `faults` takes them.
+pub fn end_by_fault_and<E: Output>(faults: &mut E, fault: Fault, more: &[u8]) -> ExitStatus
+    requires { CanFail (E.failures faults.old) }
+    ensures status { result ≡ FaultAtThisEnd }
+    ensures lines { Prints (fault_line fault ++ more.now)
+        (said_of E.Output faults.old) (said_of E.Output faults.new) }
+{
+    let _ = write_more(faults, fault, more);
+    ExitStatus::FaultAtThisEnd
+}
+
+// Writes a fault in a line, and more after it.
+fn write_more<E: Output>(faults: &mut E, fault: Fault, more: &[u8]) -> Result<(), Fault>
+    requires { CanFail (E.failures faults.old) }
+    ensures bytes { Writes result (E.contents faults.old) (E.contents faults.new)
+        (fault_line fault ++ more.now) }
+    ensures counted { CountsFailure result (E.failures faults.old) (E.failures faults.new) }
+    ensures kind { FailsByTransport result }
+{
+    write_fault(faults, fault)?;
+    faults.write(more)
+}
+
 /// Prints a fault that the server answered in a line, as far as `faults` takes it.
 pub fn end_by_answer<E: Output>(faults: &mut E, fault: Fault) -> ExitStatus
     requires { CanFail (E.failures faults.old) }

@@ -35,6 +35,19 @@ pub trait Connect {
         ensures reads { IfOk result (λ ends. Self.Reader.failures ends.0 ≡ 0) }
         ensures writes { IfOk result (λ ends. Self.Writer.failures ends.1 ≡ 0) };
 
+    /// The same, for a question that may stay without an answer: a read or a write of the
+    /// connection's ends fails after a time without a byte.
+    ///
+    /// # Errors
+    ///
+    /// The system's.
+    fn connect_briefly(&mut self, port: u16) -> io::Result<(Self::Reader, Self::Writer)>
+        ensures made { IfOk result (λ ends. connects self.old port
+            (Some (ends_of (Self.Reader.tape ends.0) (Self.Writer.contents ends.1))) self.new) }
+        ensures refused { IfErr result (λ _. connects self.old port None self.new) }
+        ensures reads { IfOk result (λ ends. Self.Reader.failures ends.0 ≡ 0) }
+        ensures writes { IfOk result (λ ends. Self.Writer.failures ends.1 ≡ 0) };
+
     /// Another handle of the same network, by which another thread connects.
     fn share(&mut self) -> Self
         ensures { shares self.old result self.new };

@@ -51,6 +51,11 @@ columns_rule = text_rule (codes "columns")
 abbrev pub header_rule : Rule
 header_rule = flag_rule (codes "header")
 
+-- `--separator`, whose values a parser takes
+abbrev pub separator_rule : ValueParser → Rule
+separator_rule separators =
+    record (text_rule (codes "separator")) { parser = Some separators }
+
 -- `--progress`, which has no value
 abbrev pub progress_rule : Rule
 progress_rule = flag_rule (codes "progress")
@@ -76,21 +81,30 @@ format_names = codes "lines" ∷ codes "arrow" ∷ codes "csv" ∷ codes "table"
 abbrev pub form_names : List Text
 form_names = codes "arrow" ∷ codes "csv" ∷ []
 
+-- the names of the separators
+abbrev pub separator_names : List Text
+separator_names = codes "," ∷ codes ";" ∷ codes "|" ∷ codes "tab" ∷ []
+
 -- the parsers of the options that take names
 pub record Parsers : Type 0 where
   pub modes : ValueParser
   pub formats : ValueParser
   pub forms : ValueParser
+  pub separators : ValueParser
 
 -- each takes its own
 abbrev pub TakeNames : Parsers → Type 0
 TakeNames parsers = TakesNames mode_names parsers.modes × TakesNames format_names parsers.formats
-    × TakesNames form_names parsers.forms
+    × TakesNames form_names parsers.forms × TakesNames separator_names parsers.separators
 
 -- those of these names
 abbrev pub parsers_of : TakenNames → Parsers
-parsers_of names =
-    record { modes = Names names.modes; formats = Names names.formats; forms = Names names.forms }
+parsers_of names = record {
+  modes = Names names.modes;
+  formats = Names names.formats;
+  forms = Names names.forms;
+  separators = Names names.separators;
+}
 
 -- ---- commands
 
@@ -106,13 +120,13 @@ serve =
     let keep = with_rule idle (number_rule (codes "keep") keep_taken) in
     with_rule (with_rule keep parts_rule) workers_rule
 
-abbrev pub put : ValueParser → ValueParser → App
-put modes forms =
+abbrev pub put : Parsers → App
+put parsers =
     let targeted = with_rule (with_rule (with_rule (new_app (codes "put")) port_rule) table_rule)
-    (mode_rule modes) in
-    let formed =
-    with_rule (with_rule (with_rule targeted (format_rule forms)) columns_rule) header_rule in
-    with_rule formed progress_rule
+    (mode_rule parsers.modes) in
+    let formed = with_rule (with_rule (with_rule targeted (format_rule parsers.forms))
+    columns_rule) header_rule in
+    with_rule (with_rule formed (separator_rule parsers.separators)) progress_rule
 
 abbrev pub query : ValueParser → App
 query formats =
@@ -140,7 +154,7 @@ program parsers =
     let bare =
     record named { top = record named.top { has_version = true; subcommand_required = true } } in
     let served = with_subcommand (with_subcommand bare pipe.top) serve.top in
-    let putting = with_subcommand served (put parsers.modes parsers.forms).top in
+    let putting = with_subcommand served (put parsers).top in
     let listing =
     with_subcommand (with_subcommand putting (query parsers.formats).top) tables.top in
     let dropping = with_subcommand (with_subcommand listing describe.top) drop_table.top in

@@ -56,6 +56,15 @@ flag_given rows name = bytes_eq (text_given rows name) (codes "true")
 abbrev pub is_csv : List Row → Bool
 is_csv rows = bytes_eq (text_given rows (codes "format")) (codes "csv")
 
+-- The byte of a separator's name, and a comma where there is none. clap's definitions refuse every
+-- other name.
+abbrev pub separator_named : Text → ℕ
+separator_named name =
+    if bytes_eq name (codes ";") then 59 else
+    if bytes_eq name (codes "|") then 124 else
+    if bytes_eq name (codes "tab") then 9 else
+    44
+
 -- what rows that are put are read as: an Arrow stream where no format is given; clap's definitions
 -- refuse every other name
 abbrev pub IsForm : List Row → PutForm → Type 0
@@ -64,11 +73,13 @@ IsForm rows (Records form) =
     (is_csv rows ≡ true)
     × (option_map (λ (text : Bor Text). text.now) form.columns ≡ first_of (codes "columns") rows)
     × (form.header ≡ flag_given rows (codes "header"))
+    × (form.separator ≡ separator_named (text_given rows (codes "separator")))
 
 -- options of CSV are given, and the rows are no CSV
 abbrev pub is_misused : List Row → Bool
 is_misused rows = not (is_csv rows)
-    && (is_some (first_of (codes "columns") rows) || flag_given rows (codes "header"))
+    && (is_some (first_of (codes "columns") rows) || (flag_given rows (codes "header")
+    || is_some (first_of (codes "separator") rows)))
 
 -- how `serve` with these options serves
 pub record AreServeOptions (rows : List Row) (serving : ServeOptions) : Type 0 where

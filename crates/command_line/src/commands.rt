@@ -97,6 +97,19 @@ fn columns<'a>(alloc: Global) -> Arg<'a>
         .help("Columns of CSV, as 'id:int64, town:utf8?' [default: found, and printed]")
 }
 
+// The option `--separator`, of these names.
+fn separator<'a>(alloc: Global, names: &'a [&'a str]) -> Arg<'a>
+    ensures rule { rule_of result ≡ line.separator_rule (Names names.entry) }
+    ensures local { result.global ≡ false }
+{
+    Arg::new(alloc, "separator")
+        .long("separator")
+        .action(ArgAction::Set)
+        .value_parser(ValueParser::Names(names))
+        .value_name("S")
+        .help("What stands between the fields of CSV [default: ,]")
+}
+
 // The option of this name, which has no value.
 fn flag<'a>(alloc: Global, name: &'a str, help: &'a str) -> Arg<'a>
     ensures rule { rule_of result ≡ line.flag_rule name.entry.now }
@@ -227,25 +240,21 @@ fn serve<'a>(alloc: Global) -> Result<Command<'a>, AllocError>
     with_two(kept, parts(alloc), workers(alloc))
 }
 
-// `put`: the rows from standard input, in a form of these names, into a table, by a mode of these
+// `put`: the rows from standard input, in a form, into a table, by a mode. Options take these
 // names.
-fn put<'a>(
-    alloc: Global,
-    modes: &'a [&'a str],
-    forms: &'a [&'a str],
-) -> Result<Command<'a>, AllocError>
+fn put<'a>(alloc: Global, names: TakenNames<'a>) -> Result<Command<'a>, AllocError>
     ensures shape { IfOk result
-        (λ command. app_of command ≡ line.put (Names modes.entry) (Names forms.entry)) }
+        (λ command. app_of command ≡ line.put (line.parsers_of names.entry)) }
     ensures local { IfOk result (λ command. (out-Command command).has_globals ≡ false) }
 {
     let about =
         "Puts an Arrow IPC stream or CSV from standard input into a table, and counts its rows";
     let example = "Example: flightscan put --port 4711 --table trips --mode create < trips.arrows";
     let at_port = with_one(command(alloc, "put", about, example), port(alloc))?;
-    let targeted = with_two(at_port, table(alloc), mode(alloc, modes))?;
-    let formed = with_one(targeted, format(alloc, forms, FORMS_HELP))?;
+    let targeted = with_two(at_port, table(alloc), mode(alloc, names.modes))?;
+    let formed = with_one(targeted, format(alloc, names.forms, FORMS_HELP))?;
     let named = with_two(formed, columns(alloc), header(alloc))?;
-    with_one(named, progress(alloc))
+    with_two(named, separator(alloc, names.separators), progress(alloc))
 }
 
 // `query`: the rows of an answer, in a format of these names.
@@ -345,7 +354,7 @@ pub(crate) fn program<'a>(alloc: Global, names: TakenNames<'a>) -> Result<Comman
         .subcommand_required(true);
     let piping = with_below(bare, pipe(alloc))?;
     let serving = with_below(piping, serve(alloc))?;
-    let putting = with_below(serving, put(alloc, names.modes, names.forms))?;
+    let putting = with_below(serving, put(alloc, names))?;
     let asking = with_below(putting, query(alloc, names.formats))?;
     let listing = with_below(asking, tables(alloc))?;
     let describing = with_below(listing, describe(alloc))?;

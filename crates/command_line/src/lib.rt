@@ -31,12 +31,15 @@ static FORMATS: [&str; 4] = ["lines", "arrow", "csv", "table"];
 // The names of the forms of what `put` reads.
 static FORMS: [&str; 2] = ["arrow", "csv"];
 
+// The names of the separators of CSV.
+static SEPARATORS: [&str; 4] = [",", ";", "|", "tab"];
+
 // The error of a line that gives options of CSV to a `put` of another form.
 fn misuse(alloc: Global, names: TakenNames<'_>) -> Result<Error, Error>
     ensures { MatchResult result (λ error. kind_of error ≡ ArgumentConflict)
         (λ error. kind_of error ≡ OutOfMemory) }
 {
-    let message = "'--columns' and '--header' stand beside '--format csv' alone";
+    let message = "'--columns', '--header' and '--separator' stand next to '--format csv' only";
     Ok(program(alloc, names)?.error(ErrorKind::ArgumentConflict, message)?)
 }
 
@@ -55,6 +58,7 @@ pub fn options<'a>(alloc: Global, words: &'a [String]) -> Result<Request<'a>, Er
         modes: MODES.as_slice(),
         formats: FORMATS.as_slice(),
         forms: FORMS.as_slice(),
+        separators: SEPARATORS.as_slice(),
     };
     read_words(alloc, names, words)
 }

@@ -9,4 +9,6 @@ pub(crate) struct TakenNames<'a> {
     pub formats: &'a [&'a str],
     /// The forms of what `put` reads.
     pub forms: &'a [&'a str],
+    /// The separators of CSV.
+    pub separators: &'a [&'a str],
 }

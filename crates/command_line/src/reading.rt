@@ -6,6 +6,7 @@ ghost use Rattle.clap.specs.Words.{first_of, found_of, rows_of};
 ghost use Rattle.command_line.specs.Numbers as taken;
 ghost use Rattle.command_line.specs.Request.{Asks, IsForm, IsGiven, AreServeOptions, flag_given};
 ghost use Rattle.command_line.specs.Request.{format_named, is_csv, is_misused, mode_named};
+ghost use Rattle.command_line.specs.Request.{separator_named};
 ghost use Rattle.command_line.specs.Request.{text_given};
 
 use crate::number::{ACCEPT, IDLE, KEEP, PARTS, PORT, SEATS, STREAMS, VERSION, WORKERS, number_of};
@@ -64,12 +65,29 @@ fn flag_of(matches: &ArgMatches<'_>, name: &str) -> bool
     text_of(matches, name) == "true"
 }
 
-// The text that spells the columns of CSV.
-fn columns_of<'a>(matches: &ArgMatches<'a>) -> Option<&'a str>
+// The text that is given to this name, if there is one.
+fn option_of<'a>(matches: &ArgMatches<'a>, name: &str) -> Option<&'a str>
     ensures { option_map (λ text. text.now) result
-        ≡ first_of (codes "columns") (rows_of (found_of matches.now)) }
+        ≡ first_of name.now (rows_of (found_of matches.now)) }
 {
-    matches.get_str("columns")
+    matches.get_str(name)
+}
+
+// The separator that is given, and a comma where none is.
+fn separator_of(matches: &ArgMatches<'_>) -> u8
+    ensures { result
+        ≡ separator_named (text_given (rows_of (found_of matches.now)) (codes "separator")) }
+{
+    let name = text_of(matches, "separator");
+    if name == ";" {
+        b';'
+    } else if name == "|" {
+        b'|'
+    } else if name == "tab" {
+        b'\t'
+    } else {
+        b','
+    }
 }
 
 // Whether rows that are put are CSV.
@@ -87,8 +105,9 @@ fn form_of<'a>(matches: &ArgMatches<'a>) -> PutForm<'a>
         return PutForm::Arrow;
     }
     PutForm::Csv(CsvForm {
-        columns: columns_of(matches),
+        columns: option_of(matches, "columns"),
         header: flag_of(matches, "header"),
+        separator: separator_of(matches),
     })
 }
 
@@ -100,7 +119,9 @@ pub(crate) fn is_misused(name: &str, matches: &ArgMatches<'_>) -> bool
     if name != "put" || is_csv(matches) {
         return false;
     }
-    columns_of(matches).is_some() || flag_of(matches, "header")
+    option_of(matches, "columns").is_some()
+        || flag_of(matches, "header")
+        || option_of(matches, "separator").is_some()
 }
 
 // How `serve` is asked to serve.

@@ -51,6 +51,8 @@ pub struct CsvForm<'a> {
     pub columns: Option<&'a str>,
     /// Whether the first record has the columns' names.
     pub header: bool,
+    /// The byte between two fields.
+    pub separator: u8,
 }
 
 /// What the command line asks for. Texts are taken as they stand.

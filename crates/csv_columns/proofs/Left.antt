@@ -3,7 +3,7 @@ use Rattle.std.proofs.Common.{◌≡◌, ℕ, zero, suc, ◌+◌, ◌-◌, ◌<�
 use Rattle.std.proofs.lemmas.Bool.{cases_Bool}
 use Rattle.std.proofs.lemmas.Option.{none-some, same_Some}
 use Rattle.csv.specs.Machine.{Read, ends_at_end, field_after, fields_after, is_end, next_record, step}
-use Rattle.csv.specs.Reading.{default_config, records_from, records_next}
+use Rattle.csv.specs.Reading.{records_from, records_next}
 use Rattle.csv.specs.declared.parser.Config.{Config}
 use Rattle.csv.specs.declared.parser.State.{State}
 use Rattle.csv.specs.declared.parser.State.TheVariants as st
@@ -81,17 +81,17 @@ module _ (cfg : Config) where
       let many : length (c ∷ rest) ≡ (length rest - length p.2) + (length p.2 + 1) = omega (arith, fewer) in
       sym (turns_more (length rest - length p.2) (length p.2 + 1) (length (c ∷ rest)) p.1 p.2 (omega arith) many)
 
-left_by : (s : State) (bytes : List ℕ) (o : Option Read) → next_record default_config s [] [] bytes ≡ o
-    → records_behind s (Some bytes) ≡ records_next (records_from default_config (length bytes)) o
+left_by : (cfg : Config) (s : State) (bytes : List ℕ) (o : Option Read) → next_record cfg s [] [] bytes ≡ o
+    → records_behind cfg s (Some bytes) ≡ records_next (records_from cfg (length bytes)) o
 unfolding records_from
-left_by s bytes o e =
+left_by cfg s bytes o e =
     let one : length bytes + 1 ≡ suc (length bytes) = omega arith in
-    ap (λ (n : ℕ). records_from default_config n s bytes) one ∙ ap (records_next (records_from default_config (length bytes))) e
+    ap (λ (n : ℕ). records_from cfg n s bytes) one ∙ ap (records_next (records_from cfg (length bytes))) e
 
 -- a record that was read, and those after it
-pub record_more : (s : State) (bytes : List ℕ) (p : Read) → next_record default_config s [] [] bytes ≡ Some p → records_behind s (Some bytes) ≡ p.0 ∷ records_behind p.1 (Some p.2)
-record_more s bytes p e = left_by s bytes (Some p) e ∙ ap (λ (l : List (List (List ℕ))). p.0 ∷ l) (rest_left default_config s bytes p e)
+pub record_more : (cfg : Config) (s : State) (bytes : List ℕ) (p : Read) → next_record cfg s [] [] bytes ≡ Some p → records_behind cfg s (Some bytes) ≡ p.0 ∷ records_behind cfg p.1 (Some p.2)
+record_more cfg s bytes p e = left_by cfg s bytes (Some p) e ∙ ap (λ (l : List (List (List ℕ))). p.0 ∷ l) (rest_left cfg s bytes p e)
 
 -- there was none
-pub record_none : (s : State) (bytes : List ℕ) → next_record default_config s [] [] bytes ≡ None → records_behind s (Some bytes) ≡ []
-record_none s bytes e = left_by s bytes None e
+pub record_none : (cfg : Config) (s : State) (bytes : List ℕ) → next_record cfg s [] [] bytes ≡ None → records_behind cfg s (Some bytes) ≡ []
+record_none cfg s bytes e = left_by cfg s bytes None e

@@ -1,6 +1,7 @@
 -- The columns that a whole CSV text fits: their names, their types, and whether they may have
 -- nulls.
-use Rattle.std.specs.Prelude.{◌≡◌, ◌⊎◌, ◌<◌, ℕ, ◌+◌, ◌==◌, ◌||◌, Bool as Truth, true, false, List}
+use Rattle.std.specs.Prelude.{◌≡◌, ◌⊎◌, ◌<◌, ℕ, ◌+◌, ◌==◌, ◌||◌, Bool as Truth, true, false, not}
+use Rattle.std.specs.Prelude.{List}
 use Rattle.std.specs.Prelude.{[], ◌∷◌, ◌++◌, length, map, drop, get_or, codes, if◌then◌else◌}
 use Rattle.std.specs.Fmt.{decimal}
 use Rattle.std.specs.List.{list_all, list_any}
@@ -52,6 +53,10 @@ abbrev pub rows_behind : Truth → List (List (List ℕ)) → List (List (List �
 rows_behind true records = drop 1 records
 rows_behind false records = records
 
+-- whether a record says a row
+abbrev pub has_row : Truth → List (List (List ℕ)) → Truth
+has_row header records = not (length (rows_behind header records) == 0)
+
 -- a column, as it is found, whose rows these are
 abbrev pub column_seen : Truth → List (List ℕ) → List (List (List ℕ)) → ℕ → Field
 column_seen header first rows k = record {
@@ -74,10 +79,12 @@ WhyNoNames header first fault = FailsFirst (length first) (λ k. IsName (name_of
     (λ k. WhyNoName (name_of header first k) fault)
 
 -- Why no columns are found. The first record has more fields than a schema may have columns, which
--- is F12. Or no record has a field, which is F8. Or the first name that is none says why.
+-- is F12. Or no record has a field, or none says a row, which is F8. Or the first name that is none
+-- says why.
 abbrev pub WhyNoneFound : Truth → List (List (List ℕ)) → Fault → Type 0
 WhyNoneFound header records fault =
     (fault ≡ OutOfMemory)
     ⊎ ((fault ≡ LimitReached) × IsTooWide records)
     ⊎ ((fault ≡ BadBatch) × (get_or records 0 [] ≡ []))
+    ⊎ ((fault ≡ BadBatch) × ¬ IsTooWide records × (has_row header records ≡ false))
     ⊎ (¬ IsTooWide records × WhyNoNames header (get_or records 0 []) fault)

@@ -1,18 +1,19 @@
 //! The columns that are found.
 
 ghost use Rattle.std.specs.Prelude.{◌≡◌, ◌<◌, ◌∷◌, [], ◌++◌, ℕ, List, None, All, IfErr, IfOk};
-ghost use Rattle.std.specs.Prelude.{length, get_or};
+ghost use Rattle.std.specs.Prelude.{length, get_or, true};
 ghost use Rattle.csv.specs.Records.{fields_of};
 ghost use Rattle.arrow_types.specs.Schema.{IsField, IsSchema};
 ghost use Rattle.arrow_types.specs.DataType.{encoding_of};
-ghost use Rattle.csv_columns.specs.TextRecords.{records_in};
+ghost use Rattle.csv_columns.specs.TextRecords.{records_by};
 ghost use Rattle.csv_columns.specs.FittingColumns.{AreFound, WhyNoNames, WhyNoneFound, column_seen};
+ghost use Rattle.csv_columns.specs.FittingColumns.{has_row};
 ghost use Rattle.csv_columns.specs.FittingColumns.{rows_behind};
 ghost use Rattle.csv_columns.specs.inside.Tests.{HaveSeen, PassesOne};
 
 use crate::column_naming::name_in;
 use crate::type_candidates::TypeCandidates;
-use crate::{Records, field_in};
+use crate::{RecordForm, Records, field_in};
 use arrow_types::{Field, MAX_COLUMNS, Schema};
 use csv::ByteRecord;
 use scan_base::{Fault, Items};
@@ -99,40 +100,60 @@ fn pass_one(alloc: Global, records: &mut Records<'_>) -> Result<bool, AllocError
 fn rows_seen(
     alloc: Global,
     text: &[u8],
-    header: bool,
+    form: RecordForm,
     width: usize,
 ) -> Result<Vec<TypeCandidates>, AllocError>
     ensures many { IfOk result (λ all. length all.items ≡ width) }
     ensures seen { IfOk result
-        (λ all. HaveSeen all.items (rows_behind header (records_in text.now))) }
+        (λ all. HaveSeen all.items
+        (rows_behind form.header (records_by form.separator text.now))) }
 {
-    let mut records = Records::new(alloc, text);
-    if header && !pass_one(alloc, &mut records)? {
+    let mut records = Records::separated_by(alloc, text, form.separator);
+    if form.header && !pass_one(alloc, &mut records)? {
         return none_seen(alloc, width);
     }
     seen_in(alloc, width, &mut records)
 }
 
-/// The columns that a whole text fits, in two passes over it. The first record has the names where
-/// `header` says so.
+/// Whether a record of a text says a row.
+///
+/// # Errors
+///
+/// `AllocError` where memory is refused.
+pub fn has_row(alloc: Global, text: &[u8], form: RecordForm) -> Result<bool, AllocError>
+    ensures { IfOk result
+        (λ found. found ≡ has_row form.header (records_by form.separator text.now)) }
+{
+    let mut records = Records::separated_by(alloc, text, form.separator);
+    let mut fields = ByteRecord::new(alloc);
+    if form.header && !records.next(&mut fields)? {
+        return Ok(false);
+    }
+    records.next(&mut fields)
+}
+
+/// The columns that a whole text fits, in passes over it.
 ///
 /// # Errors
 ///
 /// - `Fault::LimitReached` (F12) where there are more than 64 columns, or a name has more than 64
 ///   bytes.
-/// - `Fault::BadBatch` (F8) where there is no record, or a name is no text of a byte or more.
+/// - `Fault::BadBatch` (F8) where no record says a row, or a name is no text of a byte or more.
 /// - `Fault::OutOfMemory` (F21) where memory is refused.
 ///
 /// The number of columns is looked at before the names, and these in order.
-pub fn found_columns(alloc: Global, text: &[u8], header: bool) -> Result<Schema, Fault>
-    ensures found { IfOk result (AreFound header (records_in text.now)) }
+pub fn found_columns(alloc: Global, text: &[u8], form: RecordForm) -> Result<Schema, Fault>
+    ensures found { IfOk result (AreFound form.header (records_by form.separator text.now)) }
+    ensures some { IfOk result
+        (λ _. has_row form.header (records_by form.separator text.now) ≡ true) }
     ensures schema { IfOk result IsSchema }
     ensures plain { IfOk result
         (λ schema. All (λ column. encoding_of column.data_type ≡ None) schema.fields) }
-    ensures refused { IfErr result (WhyNoneFound header (records_in text.now)) }
+    ensures refused { IfErr result
+        (WhyNoneFound form.header (records_by form.separator text.now)) }
 {
     let mut first = ByteRecord::new(alloc);
-    if !Records::new(alloc, text).next(&mut first)? {
+    if !Records::separated_by(alloc, text, form.separator).next(&mut first)? {
         return Err(Fault::BadBatch);
     }
     let width = first.len();
@@ -142,8 +163,11 @@ pub fn found_columns(alloc: Global, text: &[u8], header: bool) -> Result<Schema,
     if width > MAX_COLUMNS {
         return Err(Fault::LimitReached);
     }
-    let seen = rows_seen(alloc, text, header, width)?;
+    if !has_row(alloc, text, form)? {
+        return Err(Fault::BadBatch);
+    }
+    let seen = rows_seen(alloc, text, form, width)?;
     Ok(Schema {
-        fields: fields_in(alloc, header, &first, &seen)?,
+        fields: fields_in(alloc, form.header, &first, &seen)?,
     })
 }

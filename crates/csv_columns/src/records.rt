@@ -2,7 +2,7 @@
 
 ghost use Rattle.std.specs.Prelude.{◌≡◌};
 ghost use Rattle.csv.specs.Records.{fields_of};
-ghost use Rattle.csv_columns.specs.TextRecords.{TakesRecord, records_in};
+ghost use Rattle.csv_columns.specs.TextRecords.{TakesRecord, records_by, records_in};
 
 use csv::{ByteRecord, Reader, ReaderBuilder};
 use std::alloc::{AllocError, Global};
@@ -26,13 +26,21 @@ impl<'a> Model for Records<'a> {
 }
 
 impl<'a> Records<'a> {
-    /// All records of a text. It takes no memory.
+    /// All records of a text whose fields commas part. It takes no memory.
     pub fn new(alloc: Global, text: &'a [u8]) -> Records<'a>
         ensures { result ≡ records_in text.now }
+    {
+        Records::separated_by(alloc, text, b',')
+    }
+
+    /// All records of a text whose fields a separator parts. It takes no memory.
+    pub fn separated_by(alloc: Global, text: &'a [u8], separator: u8) -> Records<'a>
+        ensures { result ≡ records_by separator text.now }
     {
         let reader = ReaderBuilder::new()
             .has_headers(false)
             .flexible(true)
+            .delimiter(separator)
             .from_reader(alloc, text);
         Records { reader }
     }

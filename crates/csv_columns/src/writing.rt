@@ -19,8 +19,12 @@ fn mark_for(nullable: bool) -> &'static str
     if nullable { "?" } else { "" }
 }
 
-// How a column is spelled.
-fn spelling(alloc: Global, column: &Field) -> Result<String, AllocError>
+/// How a column is spelled.
+///
+/// # Errors
+///
+/// `AllocError` where memory is refused.
+pub fn spelling(alloc: Global, column: &Field) -> Result<String, AllocError>
     ensures { IfOk result (λ text. string_bytes text ≡ spelled column.now) }
 {
     let name = column.name.as_str();

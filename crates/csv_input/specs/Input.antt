@@ -1,6 +1,6 @@
 -- An input as CSV: its columns, its rows, and what is printed of them or of a wrong record.
-use Rattle.std.specs.Prelude.{◌≡◌, ◌⊎◌, ◌<◌, ◌^◌, ℕ, ◌+◌, Bool, List, Option, Some, None, Result}
-use Rattle.std.specs.Prelude.{Ok, Err, codes, option_map}
+use Rattle.std.specs.Prelude.{◌≡◌, ◌⊎◌, ◌<◌, ◌^◌, ℕ, ◌+◌, Bool, List, [], ◌++◌, Option, Some}
+use Rattle.std.specs.Prelude.{None, Result, Ok, Err, codes, option_map}
 use Rattle.std.specs.Borrow.{Bor}
 use Rattle.std.specs.Io.KnownBytes.{Appends}
 use Rattle.scan_base.specs.declared.fault.Fault.{Fault}
@@ -13,25 +13,27 @@ use Rattle.command_ends.specs.Printing.{Said, Prints, cause_lines, fault_line}
 use Rattle.command_ends.specs.WholeInput.{Source, Gives, StopsReading}
 use Rattle.command_ends.specs.declared.exit_status.ExitStatus.{ExitStatus}
 use Rattle.command_ends.specs.declared.exit_status.ExitStatus.TheVariants.{FaultAtThisEnd}
-use Rattle.csv_columns.specs.TextRecords.{records_in}
+use Rattle.csv_columns.specs.TextRecords.{records_by, records_in}
 use Rattle.csv_columns.specs.Refusals.{WhyNoColumns}
 use Rattle.csv_columns.specs.SpelledColumns.{Spells}
-use Rattle.csv_input.specs.Lines.{columns_line, wrong_line}
+use Rattle.csv_input.specs.Lines.{columns_line, none_line, wrong_line}
 use Rattle.csv_columns.specs.FittingColumns.{AreFound, WhyNoneFound, rows_behind}
 use Rattle.csv_input.specs.Long.{WhyNoneTold}
 use Rattle.csv_input.specs.Rows.{AreRight, IsFirstWrong}
 use Rattle.csv_input.specs.declared.outcome.WrongRecord.{WrongRecord}
 
--- how CSV is read: the text that spells its columns, if there is one, and whether its first record
--- has their names
+-- how CSV is read: the text that spells its columns, if there is one, whether its first record has
+-- their names, and the byte between two fields
 pub record Form : Type 0 where
   pub columns : Option (List ℕ)
   pub header : Bool
+  pub separator : ℕ
 
 abbrev pub form_of : CsvForm → Form
 form_of form = record {
   columns = option_map (λ (text : Bor (List ℕ)). text.now) form.columns;
   header = form.header;
+  separator = form.separator;
 }
 
 -- the columns are those that a text spells, and else those that the records fit
@@ -94,11 +96,18 @@ ChecksRows header schema records (Ok done) old new =
 ChecksRows header schema records (Err status) old new =
     (status ≡ FaultAtThisEnd) × Refuses header schema records old new
 
+-- why there are no columns is printed, and after it what there is to say of that, unless memory for
+-- it is refused
+abbrev pub TellsNone : Form → List (List (List ℕ)) → Fault → Said → Said → Type 0
+TellsNone form records fault old new =
+    (more : List ℕ) × ((more ≡ none_line form.columns form.header records) ⊎ (more ≡ []))
+    × Prints (fault_line fault ++ more) old new
+
 -- No columns: why is printed. Or they were not printed; or they were, as far as they are found, and
 -- then which record is wrong.
 abbrev pub RefusesText : Form → List (List (List ℕ)) → Said → Said → Type 0
 RefusesText form records old new =
-    ((fault : Fault) × WhyNoneOf form records fault × Prints (fault_line fault) old new)
+    ((fault : Fault) × WhyNoneOf form records fault × TellsNone form records fault old new)
     ⊎ ((schema : Schema) × AreColumnsOf form records schema × IsUntold form schema.fields old new)
     ⊎ ((schema : Schema) × AreColumnsOf form records schema × ((middle : Said)
     × IsTold form schema.fields old middle × Refuses form.header schema records middle new))
@@ -141,7 +150,7 @@ pub record GivesText {A : Type 0} (form : Form) (view : A → TextAt) (result : 
     (old new : Source) (said said' : Said) : Type 0 where
   pub text : List ℕ
   pub gives : Gives text old new
-  pub reads : ReadsText form (records_in text) view result said said'
+  pub reads : ReadsText form (records_by form.separator text) view result said said'
 
 abbrev pub ReadsCsv : {A : Type 0} → Form → (A → TextAt) → Result A ExitStatus → Source → Source →
     Said → Said → Type 0

@@ -1,9 +1,11 @@
 -- The lines that are printed of columns and of a record that is wrong.
-use Rattle.std.specs.Prelude.{ℕ, ◌+◌, Bool, true, false, List, [], ◌++◌, length, map, codes}
-use Rattle.std.specs.Prelude.{option_map, slice_get, unwrap_or}
+use Rattle.std.specs.Prelude.{ℕ, ◌+◌, ◌&&◌, Bool, true, false, not, List, [], ◌++◌, length, map}
+use Rattle.std.specs.Prelude.{Option, Some, None, codes, option_map, slice_get, unwrap_or}
+use Rattle.std.specs.Prelude.{if◌then◌else◌}
 use Rattle.std.specs.Fmt.{decimal}
 use Rattle.csv.specs.Writing.{default_writer, row_text}
 use Rattle.arrow_types.specs.declared.schema.Field.{Field}
+use Rattle.csv_columns.specs.FittingColumns.{has_row}
 use Rattle.csv_columns.specs.SpelledColumns.{spelled}
 use Rattle.csv_input.specs.declared.outcome.RecordFault.{RecordFault}
 use Rattle.csv_input.specs.declared.outcome.RecordFault.TheVariants.{Fields, Cell}
@@ -12,6 +14,17 @@ use Rattle.csv_input.specs.declared.outcome.WrongRecord.{WrongRecord}
 -- the text that spells the columns
 abbrev pub columns_line : List Field → List ℕ
 columns_line columns = row_text default_writer (map spelled columns)
+
+-- whether records are those of names only
+abbrev pub are_names : Bool → List (List (List ℕ)) → Bool
+are_names header records = header && (has_row false records && not (has_row true records))
+
+-- what is said where no columns are found: of a header alone, what gives its columns their types
+abbrev pub none_line : Option (List ℕ) → Bool → List (List (List ℕ)) → List ℕ
+none_line (Some text) header records = []
+none_line None header records =
+    if are_names header records then codes "a header alone has no types: --columns gives them\n"
+    else []
 
 -- how many records stand before those that say rows
 abbrev pub head_rows : Bool → ℕ

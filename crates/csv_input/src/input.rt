@@ -1,23 +1,24 @@
 //! Reading an input as CSV.
 
-ghost use Rattle.std.specs.Prelude.{◌≡◌, IfErr, MatchResult, OnOk};
+ghost use Rattle.std.specs.Prelude.{◌≡◌, IfErr, IfOk, MatchResult, OnOk};
 ghost use Rattle.grpc_frame.specs.Ends.{CanFail};
-ghost use Rattle.csv_columns.specs.TextRecords.{records_in};
+ghost use Rattle.csv_columns.specs.TextRecords.{records_by};
 ghost use Rattle.command_ends.specs.Printing.{Prints, said_of};
 ghost use Rattle.command_ends.specs.WholeInput.{source_of};
 ghost use Rattle.command_ends.specs.declared.exit_status.ExitStatus.TheVariants.{FaultAtThisEnd};
 ghost use Rattle.csv_input.specs.Input.{ChecksRows, IsTold, IsUntold, ReadsCsv, ReadsText};
-ghost use Rattle.csv_input.specs.Input.{TellsWrong, form_of};
+ghost use Rattle.csv_input.specs.Input.{TellsNone, TellsWrong, form_of};
+ghost use Rattle.csv_input.specs.Lines.{none_line};
 
 use crate::WrongRecord;
-use crate::reading::{columns_of, wrong_record};
+use crate::reading::{columns_of, record_form, wrong_record};
 use crate::text::CsvText;
 use crate::wrong_lines::wrong_line;
 use arrow_types::{Field, Schema};
 use bytes::Bytes;
-use command_ends::{ExitStatus, end_by_cause, end_by_fault, read_whole};
+use command_ends::{ExitStatus, end_by_cause, end_by_fault, end_by_fault_and, read_whole};
 use command_line::CsvForm;
-use csv_columns::columns_text;
+use csv_columns::{RecordForm, columns_text, has_row};
 use grpc_frame::{Input, Output};
 use scan_base::Fault;
 use std::alloc::{AllocError, Global};
@@ -56,6 +57,43 @@ pub fn read_csv<I: Input, E: Output>(
         Ok(text) => read_text(alloc, text, faults, form),
         Err(Fault::Transport) => Err(end_by_cause(faults, "cannot read the input")),
         Err(fault) => Err(end_by_fault(faults, fault)),
+    }
+}
+
+// What is said where no columns are found.
+fn none_line(alloc: Global, text: &[u8], form: CsvForm<'_>) -> Result<&'static [u8], AllocError>
+    ensures { IfOk result (λ line. line.now ≡ none_line (form_of form.entry).columns
+        form.entry.header (records_by form.entry.separator text.now)) }
+{
+    if form.columns.is_some() || !form.header {
+        return Ok(b"");
+    }
+    let separator = form.separator;
+    let header = false;
+    let has_names = has_row(alloc, text, RecordForm { separator, header })?;
+    let has_rows = has_row(alloc, text, record_form(form))?;
+    if has_names && !has_rows {
+        return Ok(b"a header alone has no types: --columns gives them\n");
+    }
+    Ok(b"")
+}
+
+// Prints why there are no columns, and what there is to say of that.
+fn end_by_none<E: Output>(
+    alloc: Global,
+    text: &[u8],
+    faults: &mut E,
+    form: CsvForm<'_>,
+    fault: Fault,
+) -> ExitStatus
+    requires { CanFail (E.failures faults.old) }
+    ensures status { result ≡ FaultAtThisEnd }
+    ensures lines { TellsNone (form_of form.entry) (records_by form.entry.separator text.now) fault
+        (said_of E.Output faults.old) (said_of E.Output faults.new) }
+{
+    match none_line(alloc, text, form) {
+        Ok(line) => end_by_fault_and(faults, fault, line),
+        Err(AllocError) => end_by_fault_and(faults, fault, &[]),
     }
 }
 
@@ -115,18 +153,18 @@ fn check_rows<E: Output>(
     text: &[u8],
     faults: &mut E,
     schema: &Schema,
-    header: bool,
+    form: RecordForm,
 ) -> Result<(), ExitStatus>
     requires { CanFail (E.failures faults.old) }
-    ensures checks { ChecksRows header schema.now (records_in text.now) result
+    ensures checks { ChecksRows form.header schema.now (records_by form.separator text.now) result
         (said_of E.Output faults.old) (said_of E.Output faults.new) }
     ensures quiet { OnOk result (E.failures faults.new ≡ E.failures faults.old) }
 {
-    match wrong_record(alloc, text, schema, header) {
+    match wrong_record(alloc, text, schema, form) {
         Ok(None) => Ok(()),
         Ok(Some(wrong)) => {
             let columns = schema.fields.as_slice();
-            Err(end_by_wrong(alloc, faults, columns, header, wrong))
+            Err(end_by_wrong(alloc, faults, columns, form.header, wrong))
         }
         Err(fault) => Err(end_by_fault(faults, fault)),
     }
@@ -140,19 +178,23 @@ fn read_text<E: Output>(
     form: CsvForm<'_>,
 ) -> Result<CsvText, ExitStatus>
     requires { CanFail (E.failures faults.old) }
-    ensures reads { ReadsText (form_of form.entry) (records_in text) (λ text. text) result
+    ensures reads { ReadsText (form_of form.entry) (records_by form.entry.separator text)
+        (λ text. text) result
         (said_of E.Output faults.old) (said_of E.Output faults.new) }
     ensures quiet { OnOk result (E.failures faults.new ≡ E.failures faults.old) }
 {
     let schema = match columns_of(alloc, text.as_slice(), form) {
         Ok(schema) => schema,
-        Err(fault) => return Err(end_by_fault(faults, fault)),
+        Err(fault) => {
+            return Err(end_by_none(alloc, text.as_slice(), faults, form, fault));
+        }
     };
     tell_columns(alloc, faults, schema.fields.as_slice(), form)?;
-    check_rows(alloc, text.as_slice(), faults, &schema, form.header)?;
+    let rows = record_form(form);
+    check_rows(alloc, text.as_slice(), faults, &schema, rows)?;
     Ok(CsvText {
         text,
         schema,
-        header: form.header,
+        form: rows,
     })
 }

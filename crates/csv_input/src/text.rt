@@ -6,9 +6,9 @@ ghost use Rattle.csv_input.specs.Rows.{SaysRecords, TakesMessage};
 
 use crate::reading::records_behind;
 use crate::{next_message, schema_message};
-use arrow_types::Schema;
+use arrow_types::{Field, Schema};
 use bytes::Bytes;
-use csv_columns::Records;
+use csv_columns::{RecordForm, Records};
 use ipc_stream::IpcMessage;
 use scan_base::Fault;
 use std::alloc::{AllocError, Global};
@@ -19,14 +19,14 @@ use std::marker::Model;
 pub struct CsvText {
     pub(crate) text: Bytes,
     pub(crate) schema: Schema,
-    pub(crate) header: bool,
+    pub(crate) form: RecordForm,
 }
 
 impl Model for CsvText {
     ghost use Rattle.std.specs.Prelude.{◌≡◌, None, All};
     ghost use Rattle.arrow_types.specs.Schema.{IsSchema};
     ghost use Rattle.arrow_types.specs.DataType.{encoding_of};
-    ghost use Rattle.csv_columns.specs.TextRecords.{records_in};
+    ghost use Rattle.csv_columns.specs.TextRecords.{records_by};
     ghost use Rattle.csv_columns.specs.FittingColumns.{rows_behind};
     ghost use Rattle.csv_input.specs.Rows.{AreRight};
     ghost use Rattle.csv_input.specs.Input.{TextAt};
@@ -34,14 +34,25 @@ impl Model for CsvText {
     ghost Value = { TextAt };
 
     ghost view = { λ text.
-        record { schema = text.schema; records = rows_behind text.header (records_in text.text) } };
+        record {
+          schema = text.schema;
+          records = rows_behind text.form.header (records_by text.form.separator text.text);
+        } };
 
     ghost invariant = { λ text. IsSchema text.schema
         × All (λ column. encoding_of column.data_type ≡ None) text.schema.fields
-        × AreRight text.schema.fields (rows_behind text.header (records_in text.text)) };
+        × AreRight text.schema.fields
+        (rows_behind text.form.header (records_by text.form.separator text.text)) };
 }
 
 impl CsvText {
+    /// Its columns.
+    pub fn columns(&self) -> &[Field]
+        ensures { result.now ≡ self.now.schema.fields }
+    {
+        self.schema.fields.as_slice()
+    }
+
     /// The message of its columns, which is the first of their stream.
     ///
     /// # Errors
@@ -61,7 +72,7 @@ impl CsvText {
     pub fn rows(&self, alloc: Global) -> Result<CsvRows<'_>, AllocError>
         ensures { IfOk result (λ rows. rows ≡ self.now) }
     {
-        let records = records_behind(alloc, self.text.as_slice(), self.header)?;
+        let records = records_behind(alloc, self.text.as_slice(), self.form)?;
         Ok(CsvRows {
             schema: &self.schema,
             records,

@@ -16,7 +16,8 @@ use Rattle.scan_base.specs.declared.put_options.PutMode.{PutMode}
 use Rattle.scan_base.specs.declared.put_options.PutMode.TheVariants.{Append}
 use Rattle.number_words.specs.NumberTexts.{spelling_line}
 use Rattle.fault_hints.specs.declared.question.Question.{Question}
-use Rattle.fault_hints.specs.declared.question.Question.TheVariants.{Rows, Put, Names, Expiry, Drop}
+use Rattle.fault_hints.specs.declared.question.Question.TheVariants.{Rows, Put, Records, Names}
+use Rattle.fault_hints.specs.declared.question.Question.TheVariants.{Expiry, Drop}
 use Rattle.fault_hints.specs.LeftOut.{left_out_lines}
 use Rattle.fault_hints.specs.MarkedLines.{marked}
 use Rattle.fault_hints.specs.RefusedTypes.{column_line, refused_type_line}
@@ -129,6 +130,7 @@ abbrev pub hint_of : Question → Fault → List ℕ
 hint_of (Rows sql) fault = query_hint sql.now fault
 hint_of (Put table mode header) fault =
     put_hint table.now mode (lent header) fault
+hint_of (Records table mode columns) fault = put_hint table.now mode (Some []) fault
 hint_of Names fault = call_line fault
 hint_of Expiry fault = expiry_hint fault
 hint_of Drop fault = drop_hint fault

@@ -197,6 +197,7 @@ pub fn hint(alloc: Global, question: Question<'_>, fault: Fault) -> Result<Vec<u
     match question {
         Question::Rows(sql) => query_hint(alloc, sql, fault),
         Question::Put(table, mode, header) => put_hint(alloc, table, mode, header, fault),
+        Question::Records(table, mode, _) => put_hint(alloc, table, mode, Some(&[]), fault),
         Question::Names => Vec::from_slice(alloc, call_line(fault)),
         Question::Expiry => Vec::from_slice(alloc, expiry_hint(fault)),
         Question::Drop => Vec::from_slice(alloc, drop_hint(fault)),

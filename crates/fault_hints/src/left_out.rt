@@ -104,8 +104,8 @@ fn is_mark_left_out(before: TokenKind, mark: Symbol) -> bool
     }
 }
 
-// The kind of the first of these tokens, and `;` where there is none.
-fn kind_at_front(tokens: &[Token<'_>]) -> TokenKind
+/// The kind of the first of these tokens, and `;` where there is none.
+pub(crate) fn kind_at_front(tokens: &[Token<'_>]) -> TokenKind
     ensures { result ≡ kind_at_front (map lexeme_of tokens.now) }
 {
     match tokens {

@@ -2,16 +2,23 @@
 //!
 //! `specs/Hints.antt` says which lines a fault has, by what was asked. `specs/MarkedLines.antt` has
 //! the line of a query with a mark under a byte, `specs/LeftOut.antt` what a query has that is left
-//! out, and `specs/InputKinds.antt` what an input is by its first bytes.
+//! out, and `specs/InputKinds.antt` what an input is by its first bytes. `specs/ServerLines.antt`
+//! says what is said after the server was asked.
 #![tactic(auto)]
 
 pub mod hints;
 mod input_kinds;
+pub mod inquiry;
 mod left_out;
 mod marked_lines;
+mod near_names;
+mod query_names;
 pub mod question;
 mod refused_types;
+mod server_lines;
 
 pub use crate::hints::{hint, spelling_lines};
 pub use crate::input_kinds::input_line;
+pub use crate::inquiry::Inquiry;
 pub use crate::question::Question;
+pub use crate::server_lines::{columns_told, inquiry_of, names_told};

@@ -53,8 +53,8 @@ fn begins_character(byte: u8) -> bool
     byte < 128 || byte >= 192
 }
 
-// Adds the bytes of a line, as they are shown.
-fn push_shown(lines: &mut Vec<u8>, line: &[u8]) -> Result<(), AllocError>
+/// Adds the bytes of a line, as they are shown.
+pub(crate) fn push_shown(lines: &mut Vec<u8>, line: &[u8]) -> Result<(), AllocError>
     ensures { OnOk result (lines.new.items ≡ lines.old.items ++ map shown_byte line.now) }
 {
     for byte in line {

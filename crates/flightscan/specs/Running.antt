@@ -22,7 +22,9 @@ use Rattle.command_ends.specs.WholeInput.{Source, source_of}
 use Rattle.command_ends.specs.declared.exit_status.ExitStatus.{ExitStatus}
 use Rattle.command_ends.specs.declared.exit_status.ExitStatus.TheVariants.{FaultAtThisEnd}
 use Rattle.client_calls.specs.declared.put_call.Target.{Target}
-use Rattle.client_commands.specs.Commands.{Describes, Desk, Drops, Expires, ListsTables, desk_of}
+use Rattle.client_commands.specs.Commands.{Desk, Drops, Expires, ListsTables, desk_of}
+use Rattle.client_commands.specs.Describing.{Describes}
+use Rattle.client_commands.specs.Handles.{Giving}
 use Rattle.client_commands.specs.Puts.{Puts, PutsCsv}
 use Rattle.client_commands.specs.Queries.{Queries, QueriesInput}
 use Rattle.flightscan.specs.declared.runner.Streams.{Streams}
@@ -65,12 +67,12 @@ abbrev pub target_of : Bor Text → PutMode → Target
 target_of table mode = record { table = table; mode = mode }
 
 -- the rows that the input says in a form are put
-abbrev pub PutsForm : PutForm → Type 0 → (Option Ends → Type 0) → Target → ExitStatus → Standard →
+abbrev pub PutsForm : {N : Type 0} → PutForm → Giving N → Target → N → N → ExitStatus → Standard →
     Standard → Type 0
-PutsForm Arrow untouched Gives target status old new =
-    Puts old.input new.input untouched Gives target status (desk_in old) (desk_in new)
-PutsForm (Csv form) untouched Gives target status old new =
-    PutsCsv (form_of form) old.input new.input untouched Gives target status (desk_in old)
+PutsForm Arrow Gives target before behind status old new =
+    Puts old.input new.input Gives target before behind status (desk_in old) (desk_in new)
+PutsForm (Csv form) Gives target before behind status old new =
+    PutsCsv (form_of form) old.input new.input Gives target before behind status (desk_in old)
     (desk_in new)
 
 -- hashes begin with a seed, and the system gave no random bytes for one: F22 is printed, and
@@ -99,8 +101,8 @@ QueriesWith None connects shares streams sql format status before behind old new
 abbrev pub CallsServer : {S N : Type 0} → Option S → Connecting N → (N → N → N → Type 0) → Request →
     ExitStatus → N → N → Standard → Standard → Type 0
 CallsServer seed connects shares (Put port table mode form progress) status before behind old new =
-    PutsForm form (behind ≡ before) (λ ends. connects before port ends behind)
-    (target_of table mode) status old new
+    PutsForm form (λ one ends other. connects one port ends other) (target_of table mode) before
+    behind status old new
 CallsServer seed connects shares (Query port format streams sql progress) status before
     behind old new =
     QueriesWith seed (λ one ends other. connects one port ends other) shares streams sql.now format
@@ -109,7 +111,7 @@ CallsServer seed connects shares (Tables port) status before behind old new =
     ListsTables (λ ends. connects before port ends behind) status (desk_in old) (desk_in new)
     × (new.input ≡ old.input)
 CallsServer seed connects shares (Describe port table) status before behind old new =
-    Describes (behind ≡ before) (λ ends. connects before port ends behind) table.now status
+    Describes (λ one ends other. connects one port ends other) table.now before behind status
     (desk_in old) (desk_in new)
     × (new.input ≡ old.input)
 CallsServer seed connects shares (Drop port table) status before behind old new =

@@ -13,7 +13,7 @@ use command_line::Request;
 use commands::arguments::refuse_arguments;
 use commands::program_words::read_words;
 use grpc_frame::{CountedEnd, Output};
-use loopback::{Loopback, Port};
+use loopback::{Loopback, Port, TellingNetwork};
 use progress::{Meter, MeteredNetwork};
 use scan_base::HashSeed;
 use std::alloc::Global;
@@ -98,8 +98,10 @@ fn main(rt: HostRuntime) -> ExitCode {
         seed: HashSeed::new(&rt).ok(),
     };
     let meter = tells_progress(&request).then(|| Meter::new(&rt, alloc, rt.stderr()));
+    // (both by handles of their own)
+    let sockets = TellingNetwork::new(Loopback::new(&rt), rt.stderr());
     let mut network = Network {
-        connector: MeteredNetwork::new(Loopback::new(&rt), alloc, meter.as_ref()),
+        connector: MeteredNetwork::new(sockets, alloc, meter.as_ref()),
         listener: Port::new(&rt),
     };
     let status = run(

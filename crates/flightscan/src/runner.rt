@@ -69,9 +69,9 @@ fn run_put<C: Connect, I: Input, W: Output, E: Output>(
     requires reads { CanFail (I.failures streams.old.input) }
     requires writes { CanFail (W.failures streams.old.output) }
     requires prints { CanFail (E.failures streams.old.faults) }
-    ensures { PutsForm form.entry (connector.new ≡ connector.old)
-        (λ ends. C.connects connector.old putting.entry.port ends connector.new)
-        putting.entry.target result (standard_of I.Input W.Output E.Output streams.old)
+    ensures { PutsForm form.entry (λ one ends other. C.connects one putting.entry.port ends other)
+        putting.entry.target connector.old connector.new result
+        (standard_of I.Input W.Output E.Output streams.old)
         (standard_of I.Input W.Output E.Output streams.new) }
 {
     let (input, output, faults) = (&mut streams.input, &mut streams.output, &mut streams.faults);

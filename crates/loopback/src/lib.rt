@@ -5,6 +5,9 @@ ghost use Rattle.std.specs.Prelude.{◌≡◌, ◌-◌, ◌<◌, ◌↔◌, [], 
 ghost use Rattle.std.specs.Time.{instant_nanos};
 
 mod patient_stream;
+mod silence;
+
+pub use crate::silence::{Await, TellingNetwork, TellingReader};
 
 use crate::patient_stream::PatientStream;
 use command_ends::{AcceptFailure, Connect, Listen, PortLine, SeatView};
@@ -17,6 +20,9 @@ use std::time::{Clock, Duration, Instant};
 
 // A client that has ended what it sends is waited for so long, where no byte goes out to it.
 const WAIT_SECONDS: u64 = 5;
+
+// A server is waited for so long where a question may stay without an answer.
+const ANSWER_SECONDS: u64 = 2;
 
 /// The end of a client's stream that is written to. It can look whether the client is still there.
 #[derive(Drop)]
@@ -145,7 +151,16 @@ impl<R: Net<Listener = TcpListener, Stream = TcpStream>> Connect for Loopback<'_
     ghost shares = { λ _ _ _. Unit {0} };
 
     fn connect(&mut self, port: u16) -> io::Result<(CountedEnd<TcpStream>, CountedEnd<TcpStream>)> {
-        ends_of(TcpStream::connect(self.rt, (Ipv4Addr::LOCALHOST, port))?)
+        let stream = TcpStream::connect(self.rt, (Ipv4Addr::LOCALHOST, port))?;
+        ends_of(stream, None)
+    }
+
+    fn connect_briefly(
+        &mut self,
+        port: u16,
+    ) -> io::Result<(CountedEnd<TcpStream>, CountedEnd<TcpStream>)> {
+        let stream = TcpStream::connect(self.rt, (Ipv4Addr::LOCALHOST, port))?;
+        ends_of(stream, Some(Duration::from_secs(ANSWER_SECONDS)))
     }
 
     fn share(&mut self) -> Self {
@@ -334,14 +349,20 @@ fn set_up(
     Ok((CountedEnd::new(stream), CountedEnd::new(writer)))
 }
 
-// The ends of a stream. What is written goes out at once.
-fn ends_of(stream: TcpStream) -> io::Result<(CountedEnd<TcpStream>, CountedEnd<TcpStream>)>
+// The ends of a stream, of which a read or a write fails after so long without a byte; `None` is
+// never. What is written goes out at once.
+fn ends_of(
+    stream: TcpStream,
+    patience: Option<Duration>,
+) -> io::Result<(CountedEnd<TcpStream>, CountedEnd<TcpStream>)>
     ensures reads { IfOk result (λ ends. ends.0.failures ≡ 0) }
     ensures writes { IfOk result (λ ends. ends.1.failures ≡ 0) }
     ensures unread { IfOk result (λ ends. ends.0.given.bytes ≡ []) }
     ensures unwritten { IfOk result (λ ends. ends.1.taken.bytes ≡ []) }
 {
     stream.set_nodelay(true)?;
+    stream.set_read_timeout(patience)?;
+    stream.set_write_timeout(patience)?;
     let counted = CountedEnd::new(stream.try_clone()?);
     Ok((CountedEnd::new(stream), counted))
 }

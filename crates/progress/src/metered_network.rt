@@ -114,18 +114,22 @@ impl<'a, C: Connect, K: Clock, E: Write + Copy> Connect for MeteredNetwork<'a, C
             WatchedWriter<'a, C::Writer, K, E>,
         ),
     > {
-        let (reader, writer) = self.network.connect(port)?;
-        let reader = WatchedReader {
-            end: reader,
-            rows: RowCounter::new(self.alloc),
-            meter: self.meter,
-        };
-        let writer = WatchedWriter {
-            end: writer,
-            rows: RowCounter::new(self.alloc),
-            meter: self.meter,
-        };
-        Ok((reader, writer))
+        let ends = self.network.connect(port)?;
+        Ok(watched(self.alloc, ends, self.meter))
+    }
+
+    // What comes and goes for such a question is not counted.
+    fn connect_briefly(
+        &mut self,
+        port: u16,
+    ) -> io::Result<
+        (
+            WatchedReader<'a, C::Reader, K, E>,
+            WatchedWriter<'a, C::Writer, K, E>,
+        ),
+    > {
+        let ends = self.network.connect_briefly(port)?;
+        Ok(watched(self.alloc, ends, None))
     }
 
     fn share(&mut self) -> Self {
@@ -135,4 +139,27 @@ impl<'a, C: Connect, K: Clock, E: Write + Copy> Connect for MeteredNetwork<'a, C
             meter: self.meter,
         }
     }
+}
+
+// The ends of a connection, watched by a meter, if there is one.
+fn watched<'a, R: Input, W: Output, K: Clock, E: Write + Copy>(
+    alloc: Global,
+    ends: (R, W),
+    meter: Option<&'a Meter<'a, K, E>>,
+) -> (WatchedReader<'a, R, K, E>, WatchedWriter<'a, W, K, E>)
+    ensures reader { result.0.end ≡ ends.0 }
+    ensures writer { result.1.end ≡ ends.1 }
+{
+    let (reader, writer) = ends;
+    let reader = WatchedReader {
+        end: reader,
+        rows: RowCounter::new(alloc),
+        meter,
+    };
+    let writer = WatchedWriter {
+        end: writer,
+        rows: RowCounter::new(alloc),
+        meter,
+    };
+    (reader, writer)
 }

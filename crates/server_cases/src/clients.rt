@@ -228,6 +228,10 @@ impl<'a> Connect for FixedAnswers<'a> {
         }
     }
 
+    fn connect_briefly(&mut self, port: u16) -> io::Result<(MemoryInput<'a>, MemoryOutput)> {
+        self.connect(port)
+    }
+
     fn connect(&mut self, _port: u16) -> io::Result<(MemoryInput<'a>, MemoryOutput)> {
         self.made = self.made.saturating_add(1);
         Ok((MemoryInput::new(self.answer), MemoryOutput::new(self.alloc)))
@@ -251,7 +255,7 @@ pub(crate) struct PutCase {
     answer: &'static [u8],
 }
 
-pub(crate) static PUTS: [PutCase; 8] = [
+pub(crate) static PUTS: [PutCase; 9] = [
     PutCase {
         name: "put, a count",
         input: STREAM,
@@ -270,6 +274,13 @@ pub(crate) static PUTS: [PutCase; 8] = [
         input: STREAM,
         calls: 9,
         answer: b"\x04\x06\x00\x0fF10 TableExists",
+    },
+    // The server is asked more, and answers the same fault.
+    PutCase {
+        name: "put, a table that is missing",
+        input: STREAM,
+        calls: 9,
+        answer: b"\x04\x05\x00\x0fF9 TableMissing",
     },
     // The server's faults are told as they came, those of its own frames too.
     PutCase {

@@ -115,6 +115,10 @@ impl<'a, R: Clock> Connect for ConnectionPair<'a, R> {
         }
     }
 
+    fn connect_briefly(&mut self, port: u16) -> io::Result<(GatedInput<'a, R>, MemoryOutput)> {
+        self.connect(port)
+    }
+
     fn connect(&mut self, _port: u16) -> io::Result<(GatedInput<'a, R>, MemoryOutput)> {
         let place = self.made.fetch_add(1, Ordering::SeqCst);
         let (bytes, free) = match place {

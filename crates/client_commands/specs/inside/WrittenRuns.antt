@@ -1,7 +1,6 @@
 -- Inside: all runs of a query were written, or not, and what is said of it.
-use Rattle.std.specs.Prelude.{◌≡◌, ℕ, List}
-use Rattle.std.specs.Prelude.{Result, Ok, Err}
-use Rattle.scan_base.specs.declared.fault.Fault.{Fault}
+use Rattle.std.specs.Prelude.{◌≡◌, ℕ, List, Result, Ok, Err}
+use Rattle.fault_hints.specs.ServerLines.{Speech}
 use Rattle.flight_proto.specs.FlightInfo.{EndpointSaid}
 use Rattle.flight_proto.specs.InfoCommand.{InfoCommand}
 use Rattle.client_calls.specs.Outcome.{Line}
@@ -39,10 +38,12 @@ StreamsOrNot Gives Shares format streams wanted old new (Err (Unconnected error)
     StreamsUnconnected Gives Shares format streams wanted old new first last out out'
 
 -- nothing is said where all was written; and else the failure, or that there was no connection
-abbrev pub TellsStreamed : (Fault → List ℕ) → Result (Unit {0}) FetchFailure → ExitStatus → Said →
-    Said → Type 0
-TellsStreamed hint (Ok done) status old new = TellsEnd hint (Ok done) status old new
-TellsStreamed hint (Err (Failed failure)) status old new =
-    TellsEnd hint (Err failure) status old new
-TellsStreamed hint (Err (Unconnected error)) status old new =
-    (status ≡ FaultAtThisEnd) × ((cause : List ℕ) × Prints (cause_lines cause) old new)
+abbrev pub TellsStreamed : {N : Type 0} → Giving N → Speech → N → N →
+    Result (Unit {0}) FetchFailure → ExitStatus → Said → Said → Type 0
+TellsStreamed Gives speech before behind (Ok done) status old new =
+    TellsEnd Gives speech before behind (Ok done) status old new
+TellsStreamed Gives speech before behind (Err (Failed failure)) status old new =
+    TellsEnd Gives speech before behind (Err failure) status old new
+TellsStreamed Gives speech before behind (Err (Unconnected error)) status old new =
+    (behind ≡ before) × (status ≡ FaultAtThisEnd)
+    × ((cause : List ℕ) × Prints (cause_lines cause) old new)

@@ -1,8 +1,9 @@
 use Rattle.std.proofs.Common.{◌≡◌, ◌∙◌, inr, List, ℕ, Vec}
 use Rattle.std.specs.Global.{Global}
+use Rattle.command_ends.specs.Printing.{said_of}
 use Rattle.flight_proto.specs.InfoCommand.{rows_of}
-use Rattle.fault_hints.specs.Hints.{query_hint}
-use Rattle.client_commands.specs.Commands.{columns_query}
+use Rattle.fault_hints.specs.ServerLines.{query_speech}
+use Rattle.client_commands.specs.Commands.{columns_query, desk_of}
 use Rattle.client_commands.proofs.Described.{columns_told}
 use Rattle.client_commands.proofs.describe.describe.Goals as goal
 
@@ -17,4 +18,7 @@ returns g c =
     let first : c.as_str.result.now ≡ sql = c.as_str.ensures.value ∙ c.in-Ok.ensures in
     let second : c.as_str-2.result.now ≡ sql = c.as_str-2.ensures.value ∙ c.in-Ok.ensures in
     let made = rw (opened.2, first) at c.fetch_columns-fetched.ensures in
-    inr (inr (columns_told (query_hint sql) _ seen (rows_of sql) c.fetch_columns-fetched.result opened.0 _ _ _ _ opened.1 made (rw second at c.tell_columns.ensures)))
+    let old = desk_of (said_of g.W.Output c.args.output.now) (said_of g.E.Output c.args.faults.now) in
+    let new = desk_of (said_of g.W.Output c.tell_columns.new.output) (said_of g.E.Output c.tell_columns.new.faults) in
+    inr (inr (columns_told (λ before ends behind. g.C.Connect.connects before c.args.port ends behind) (query_speech sql) seen (rows_of sql) c.args.network.now c.open.new.network c.tell_columns.new.network c.fetch_columns-fetched.result opened.0 made.0 _ old new
+    opened.1 made.1 (rw second at c.tell_columns.ensures)))

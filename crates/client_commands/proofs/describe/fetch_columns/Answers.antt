@@ -5,4 +5,4 @@ use Rattle.client_commands.proofs.describe.fetch_columns.Goals as goal
 pub returns-in_err-rows : goal.returns-in_err-rows
 returns-in_err-rows g c =
     let p = err_from_is_err_and c.from_residual.result c.from_residual.ensures.1 in
-    rw (p.1, p.2) (inl c.in_err-rows.ensures)
+    rw (p.1, p.2) (_, inl c.in_err-rows.ensures)

@@ -1,19 +1,24 @@
 use Rattle.std.proofs.Common.{inr, ℕ, List, Option, subst}
 use Rattle.command_ends.specs.Printing.{count_line, said_of}
-use Rattle.fault_hints.specs.Hints.{put_hint}
-use Rattle.client_commands.specs.CallOutcome.{Tells}
+use Rattle.fault_hints.specs.ServerLines.{put_speech}
+use Rattle.client_commands.specs.Asking.{TellsOrAsks}
+use Rattle.client_commands.specs.Commands.{desk_of}
 use Rattle.client_commands.proofs.put.put_messages.Goals as goal
 
 pub returns : goal.returns
 returns g c =
     let target = c.args.putting.target in
+    let made = rw c.in-Ok.ensures.2 at c.put_over-counted.ensures in
+    let old = desk_of (said_of g.W.Output c.args.output.now) (said_of g.E.Output c.args.faults.now) in
+    let new = desk_of (said_of g.W.Output c.tell_count.new.output) (said_of g.E.Output c.tell_count.new.faults) in
     inr (record {
       ends = c.in-Ok.ensures.0;
+      middle = c.open.new.network;
       given = c.in-Ok.ensures.1;
-      result = c.put-counted.result;
-      last = c.put-counted.new.connection;
-      made = rw c.in-Ok.ensures.2 at c.put-counted.ensures;
-      tells = subst (λ (header : Option (List ℕ)). Tells (put_hint target.table.now target.mode header) count_line c.put-counted.result c.tell_count.result
-          (said_of g.W.Output c.args.output.now) (said_of g.W.Output c.tell_count.new.output)
-          (said_of g.E.Output c.args.faults.now) (said_of g.E.Output c.tell_count.new.faults)) c.first_header.ensures c.tell_count.ensures;
+      result = c.put_over-counted.result;
+      last = made.0;
+      made = made.1;
+      tells = subst (λ (header : Option (List ℕ)). TellsOrAsks (λ before ends behind. g.C.Connect.connects before c.args.putting.port ends behind)
+          (put_speech target.table.now target.mode header) count_line c.open.new.network c.tell_count.new.network
+          c.put_over-counted.result c.tell_count.result old new) c.first_header.ensures c.tell_count.ensures;
     })

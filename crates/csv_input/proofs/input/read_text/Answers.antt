@@ -6,7 +6,8 @@ use Rattle.csv_input.proofs.input.read_text.Goals as goal
 pub returns-in-Err-clause-reads : goal.returns-in-Err-clause-reads
 returns-in-Err-clause-reads g c =
     let why = rw c.as_slice.ensures at c.in-Err.ensures.refused in
-    (c.end_by_fault.ensures.status, inl (c.in-Err.fault, why, c.end_by_fault.ensures.line))
+    let told = rw c.as_slice-in-Err.ensures at c.end_by_none.ensures.lines in
+    (c.end_by_none.ensures.status, inl (c.in-Err.fault, why, told))
 
 pub returns-in_err-tell_columns-clause-reads : goal.returns-in_err-tell_columns-clause-reads
 returns-in_err-tell_columns-clause-reads g c =

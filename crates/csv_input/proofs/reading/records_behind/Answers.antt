@@ -5,5 +5,5 @@ use Rattle.csv_input.proofs.reading.records_behind.Goals as goal
 
 pub returns-then-not-branch : goal.returns-then-not-branch
 returns-then-not-branch c =
-    let none : c.new-records.result ≡ [] = rw c.if-not-branch.true at c.in_ok-next.ensures in
-    c.new.ensures ∙ (none_in ∙ sym (ap₂ rows_behind c.if-header.true (sym c.new-records.ensures ∙ none)))
+    let none : c.separated_by-records.result ≡ [] = rw c.if-not-branch.true at c.in_ok-next.ensures in
+    c.new.ensures ∙ (none_in ∙ sym (ap₂ rows_behind c.if-form.true (sym c.separated_by-records.ensures ∙ none)))

@@ -23,8 +23,8 @@ returns c =
             | inl failed ↦ finds_none old new w.in-Ok.found fields failed (same_found w.in-Ok.found false (e.failed failed))
             | inr working ↦
                 let is = c.self.invariant working in
-                let read = e.reads is.1 is.3 in
-                takes old new w.in-Ok.found fields working is.0 (e.goes ∙ working) read.1 read.0
+                let read = e.reads is.0 is.2 in
+                takes old new w.in-Ok.found fields working read.2 (e.goes ∙ working) read.1 read.0
           ])
       | in-Err w ↦
           let e = w.in-Err.ensures in
@@ -32,6 +32,6 @@ returns c =
             | inl failed ↦ absurd (no_failure w.in-Err.field-0 false (e.failed failed))
             | inr working ↦
                 let is = c.self.invariant working in
-                none_behind new (e.fails ∙ stops old new (error_kind w.in-Err.field-0) is.2 (e.why is.3))
+                none_behind new (e.fails ∙ stops old new (error_kind w.in-Err.field-0) is.1 (e.why is.2))
           ])
     ])
