@@ -1,6 +1,6 @@
 -- Columns that are told, seen as plain data.
 use Rattle.std.specs.Prelude.{ℕ, List, Some, Result, Ok, Err}
-use Rattle.fault_hints.specs.ServerLines.{Speech}
+use Rattle.fault_hints.specs.Speech.{Speech}
 use Rattle.flight_proto.specs.InfoCommand.{InfoCommand}
 use Rattle.client_calls.specs.declared.failure.Failure.{Failure}
 use Rattle.client_calls.specs.Outcome.{Line}

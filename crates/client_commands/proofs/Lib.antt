@@ -9,6 +9,5 @@ pub mod InTurn
 pub mod Listing
 pub mod Listed
 pub mod Described
-pub mod Speaking
 pub mod Quoting
 pub mod RowsSent

@@ -1,11 +1,12 @@
 -- What a command asks the server after a fault that the server answered, and what it says then.
-use Rattle.std.specs.Prelude.{◌≡◌, ◌⊎◌, ℕ, List, Option, Some, None, Result, Ok, Err}
+use Rattle.std.specs.Prelude.{◌≡◌, ◌≢◌, ◌⊎◌, ℕ, List, Option, Some, None, Result, Ok, Err}
 use Rattle.scan_base.specs.declared.fault.Fault.TheVariants.{OutOfMemory}
 use Rattle.arrow_types.specs.declared.schema.Field.{Field}
 use Rattle.flight_proto.specs.InfoCommand.{rows_of}
 use Rattle.fault_hints.specs.declared.inquiry.Inquiry.{Inquiry}
 use Rattle.fault_hints.specs.declared.inquiry.Inquiry.TheVariants.{Nothing, Names, Columns}
-use Rattle.fault_hints.specs.ServerLines.{Speech}
+use Rattle.fault_hints.specs.Inquiries.{MayBeLeft}
+use Rattle.fault_hints.specs.Speech.{Speech}
 use Rattle.table_versions.specs.Table.{Table}
 use Rattle.client_calls.specs.declared.failure.Failure.{Failure}
 use Rattle.client_calls.specs.declared.failure.Failure.TheVariants.{Answered, Found}
@@ -72,11 +73,12 @@ AsksMore Gives speech inquiry old new =
 -- ---- a failure
 
 -- A failure is told, and no more is asked: nothing is wanted, or its lines were not printed, or
--- memory for the question is refused.
+-- memory for the name of a table is refused.
 abbrev pub TellsAlone : {N : Type 0} → Speech → N → N → Failure → ExitStatus → Said → Said →
     Type 0
 TellsAlone speech before behind failure status old new =
     (behind ≡ before) × TellsFailure speech.hint failure status old new
+    × (MayBeLeft (inquiry_after speech failure) ⊎ (new.failures ≢ old.failures))
 
 -- A failure was told, and its lines were printed whole. Then the server is asked. The status is that
 -- of the failure.

@@ -6,21 +6,19 @@ use Rattle.std.specs.Str.{byte}
 use Rattle.scan_base.specs.declared.fault.Fault.{Fault}
 use Rattle.scan_base.specs.declared.fault.Fault.TheVariants.{OutOfMemory, Transport}
 use Rattle.sql_text.specs.Values.{quoted}
-use Rattle.flight_proto.specs.Drop.{drop_bytes}
 use Rattle.flight_proto.specs.Expiry.{expiry_bytes}
 use Rattle.flight_proto.specs.InfoCommand.{InfoCommand, rows_of, tables}
-use Rattle.fault_hints.specs.Hints.{call_line, drop_hint, expiry_hint}
+use Rattle.fault_hints.specs.Hints.{call_line, expiry_hint}
 use Rattle.table_versions.specs.Table.{Table}
 use Rattle.row_text.specs.Lines.{name_line}
 use Rattle.client_calls.specs.declared.call.Method.TheVariants.{DoAction}
 use Rattle.client_calls.specs.declared.failure.Failure.{Failure}
 use Rattle.client_calls.specs.declared.failure.Failure.TheVariants.{Found}
 use Rattle.client_calls.specs.Answers.{AnswersOne}
-use Rattle.client_calls.specs.Commands.{ReadsFloor, ReadsVersion}
+use Rattle.client_calls.specs.Commands.{ReadsFloor}
 use Rattle.client_calls.specs.Outcome.{Calls, Line}
 use Rattle.command_ends.specs.Network.{Ends}
-use Rattle.command_ends.specs.Printing.{Said, Prints, cause_lines, dropped_line, fault_line}
-use Rattle.command_ends.specs.Printing.{floor_line}
+use Rattle.command_ends.specs.Printing.{Said, Prints, cause_lines, fault_line, floor_line}
 use Rattle.command_ends.specs.declared.exit_status.ExitStatus.{ExitStatus}
 use Rattle.command_ends.specs.declared.exit_status.ExitStatus.TheVariants.{FaultAtThisEnd}
 use Rattle.client_commands.specs.Fetching.{Fetches}
@@ -96,14 +94,6 @@ abbrev pub Expires : (Option Ends → Type 0) → ℕ → ExitStatus → Desk �
 Expires Gives version status old new =
     Connects Gives (Calls DoAction (expiry_bytes version ∷ []) (AnswersOne ReadsFloor))
     (Tells expiry_hint floor_line) status old new
-
--- ---- drop
-
--- the table of a name is dropped, and the line of the version without it is printed
-abbrev pub Drops : (Option Ends → Type 0) → List ℕ → ExitStatus → Desk → Desk → Type 0
-Drops Gives table status old new =
-    Connects Gives (Calls DoAction (drop_bytes table ∷ []) (AnswersOne ReadsVersion))
-    (Tells drop_hint dropped_line) status old new
 
 -- ---- describe
 

@@ -2,7 +2,7 @@
 use Rattle.std.specs.Prelude.{◌≡◌, ◌⊎◌, ℕ, List, Result, Ok, Err}
 use Rattle.scan_base.specs.declared.fault.Fault.TheVariants.{OutOfMemory}
 use Rattle.flight_proto.specs.InfoCommand.{InfoCommand, rows_of}
-use Rattle.fault_hints.specs.ServerLines.{query_speech}
+use Rattle.fault_hints.specs.Speech.{query_speech}
 use Rattle.table_versions.specs.Table.{Table}
 use Rattle.csv_input.specs.Lines.{columns_line}
 use Rattle.client_calls.specs.declared.failure.Failure.{Failure}

@@ -11,6 +11,7 @@ pub mod RowsPut
 pub mod Commands
 pub mod Asking
 pub mod Describing
+pub mod Drops
 pub mod Puts
 pub mod Queries
 pub mod inside

@@ -3,7 +3,7 @@ use Rattle.std.specs.Prelude.{◌≡◌, ◌⊎◌, ℕ, List, [], ◌∷◌, �
 use Rattle.scan_base.specs.declared.fault.Fault.{Fault}
 use Rattle.scan_base.specs.declared.fault.Fault.TheVariants.{BadFlatbuffer, OutOfMemory}
 use Rattle.fault_hints.specs.Hints.{spelling_lines}
-use Rattle.fault_hints.specs.ServerLines.{put_speech, records_speech}
+use Rattle.fault_hints.specs.Speech.{put_speech, records_speech}
 use Rattle.fault_hints.specs.InputKinds.{input_line}
 use Rattle.ipc_stream.specs.declared.message.IpcMessage.{IpcMessage}
 use Rattle.ipc_stream.specs.Stream.{Framed, IsStream}

@@ -3,7 +3,7 @@ use Rattle.std.specs.Prelude.{◌≡◌, ◌⊎◌, ℕ, false, List, Some, None
 use Rattle.std.specs.Str.{is_utf8}
 use Rattle.scan_base.specs.declared.fault.Fault.TheVariants.{BadSql}
 use Rattle.scan_base.specs.declared.fault.Fault.{Fault}
-use Rattle.fault_hints.specs.ServerLines.{Speech, query_speech}
+use Rattle.fault_hints.specs.Speech.{Speech, query_speech}
 use Rattle.flight_proto.specs.InfoCommand.{InfoCommand, rows_of}
 use Rattle.client_calls.specs.declared.failure.Failure.{Failure}
 use Rattle.client_calls.specs.Outcome.{Line}

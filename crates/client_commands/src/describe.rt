@@ -3,7 +3,7 @@
 ghost use Rattle.std.specs.Prelude.{◌≡◌, IfOk, string_bytes};
 ghost use Rattle.grpc_frame.specs.Ends.{CanFail};
 ghost use Rattle.flight_proto.specs.InfoCommand.{rows_of};
-ghost use Rattle.fault_hints.specs.ServerLines.{speech_of};
+ghost use Rattle.fault_hints.specs.Speech.{speech_of};
 ghost use Rattle.command_ends.specs.Printing.{said_of};
 ghost use Rattle.client_calls.specs.Outcome.{Line};
 ghost use Rattle.client_commands.specs.Asking.{TellsOrAsks};

@@ -8,7 +8,7 @@ ghost use Rattle.client_calls.specs.Commands.{ReadsCount, put_payloads};
 ghost use Rattle.client_calls.specs.Outcome.{Calls, Line};
 ghost use Rattle.command_ends.specs.Printing.{count_line, said_of};
 ghost use Rattle.fault_hints.specs.Hints.{lent};
-ghost use Rattle.fault_hints.specs.ServerLines.{put_speech, records_speech, speech_of};
+ghost use Rattle.fault_hints.specs.Speech.{put_speech, records_speech, speech_of};
 ghost use Rattle.command_ends.specs.WholeInput.{source_of};
 ghost use Rattle.client_commands.specs.Asking.{ConnectsThenAsks, TellsOrAsks};
 ghost use Rattle.client_commands.specs.Commands.{desk_of};
@@ -19,13 +19,14 @@ ghost use Rattle.csv_columns.specs.Refusals.{WhyNoColumns};
 ghost use Rattle.csv_columns.specs.TextRecords.{records_in};
 ghost use Rattle.csv_input.specs.Input.{form_of};
 
-use crate::call_outcome::{end_by_printing, print_fault};
+use crate::call_outcome::end_by_printing;
 use crate::connecting::{end_unconnected, open};
 use crate::rows_put::put_rows;
 use crate::server_inquiry::{Asked, end_by_asking};
 use bytes::Bytes;
 use client_calls::{Connection, Failure, Target};
-use command_ends::{Connect, ExitStatus, end_by_cause, end_by_fault, print_count, read_whole};
+use command_ends::{Connect, ExitStatus, end_by_cause, end_by_fault, end_by_fault_and};
+use command_ends::{print_count, read_whole};
 use command_line::CsvForm;
 use csv_columns::columns_in;
 use csv_input::{CsvText, read_csv};
@@ -94,8 +95,7 @@ fn put_bytes<C: Connect, W: Output, E: Output>(
     match ipc_messages(alloc, stream) {
         Ok(messages) => put_messages(alloc, network, output, faults, putting, &messages),
         Err(Fault::BadFlatbuffer) => {
-            print_fault(faults, Fault::BadFlatbuffer, input_line(stream.as_slice()));
-            ExitStatus::FaultAtThisEnd
+            end_by_fault_and(faults, Fault::BadFlatbuffer, input_line(stream.as_slice()))
         }
         Err(fault) => end_by_fault(faults, fault),
     }
@@ -136,8 +136,7 @@ pub fn put_csv<C: Connect, I: Input, W: Output, E: Output>(
         (desk_of (said_of W.Output output.new) (said_of E.Output faults.new)) }
 {
     if let Some(fault) = misspelled(alloc, putting.form) {
-        print_fault(faults, fault, spelling_lines(fault));
-        return ExitStatus::FaultAtThisEnd;
+        return end_by_fault_and(faults, fault, spelling_lines(fault));
     }
     match read_csv(alloc, input, faults, putting.form) {
         Ok(text) => put_text(alloc, network, output, faults, putting.putting, &text),

@@ -3,7 +3,7 @@
 ghost use Rattle.std.specs.Prelude.{◌≡◌};
 ghost use Rattle.grpc_frame.specs.Ends.{CanFail};
 ghost use Rattle.command_ends.specs.Printing.{said_of};
-ghost use Rattle.fault_hints.specs.ServerLines.{query_speech};
+ghost use Rattle.fault_hints.specs.Speech.{query_speech};
 ghost use Rattle.client_commands.specs.Commands.{desk_of};
 ghost use Rattle.command_ends.specs.WholeInput.{source_of};
 ghost use Rattle.client_commands.specs.Queries.{Queries, QueriesInput};

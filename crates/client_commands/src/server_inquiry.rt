@@ -3,7 +3,8 @@
 ghost use Rattle.std.specs.Prelude.{◌≡◌, ◌≢◌, ◌⊎◌, Ok, Err, IsFalse, IsTrue, MatchResult};
 ghost use Rattle.grpc_frame.specs.Ends.{CanFail};
 ghost use Rattle.command_ends.specs.Printing.{said_of};
-ghost use Rattle.fault_hints.specs.ServerLines.{columns_told, names_told, speech_of};
+ghost use Rattle.fault_hints.specs.Inquiries.{MayBeLeft};
+ghost use Rattle.fault_hints.specs.Speech.{speech_of};
 ghost use Rattle.fault_hints.specs.declared.inquiry.Inquiry.TheVariants.{Nothing};
 ghost use Rattle.client_commands.specs.Asking.{AsksMore, ColumnsGive, FetchesLines, NamesGive};
 ghost use Rattle.client_commands.specs.Asking.{TellsMore, inquiry_after};
@@ -54,9 +55,10 @@ pub(crate) fn end_by_asking<C: Connect, E: Output>(
     status
 }
 
-// What is asked after a failure; nothing, where memory for that is refused.
+// What is asked after a failure; nothing, where memory for the name of a table is refused.
 fn inquiry_after(alloc: Global, question: Question<'_>, failure: Failure) -> Inquiry
-    ensures { (result ≡ inquiry_after (speech_of question.entry) failure) ⊎ (result ≡ Nothing) }
+    ensures { (result ≡ inquiry_after (speech_of question.entry) failure)
+        ⊎ ((result ≡ Nothing) × MayBeLeft (inquiry_after (speech_of question.entry) failure)) }
 {
     match failure {
         Failure::Answered(fault) => match inquiry_of(alloc, question, fault) {
@@ -133,9 +135,9 @@ fn fetch_name_lines<R: Input, W: Output>(
     requires reads { CanFail (connection.old.incoming.failed) }
     requires writes { CanFail (connection.old.outgoing.failed) }
     ensures { MatchResult result
-        (λ lines. NamesGive (names_told question.entry) (Ok lines.items)
+        (λ lines. NamesGive (speech_of question.entry).names (Ok lines.items)
         connection.old connection.new)
-        (λ failure. NamesGive (names_told question.entry) (Err failure)
+        (λ failure. NamesGive (speech_of question.entry).names (Err failure)
         connection.old connection.new) }
 {
     let names = fetch_names(alloc, connection)?;
@@ -153,9 +155,9 @@ fn fetch_column_lines<R: Input, W: Output>(
     requires reads { CanFail (connection.old.incoming.failed) }
     requires writes { CanFail (connection.old.outgoing.failed) }
     ensures { MatchResult result
-        (λ lines. ColumnsGive (columns_told question.entry) table.now (Ok lines.items)
+        (λ lines. ColumnsGive (speech_of question.entry).columns table.now (Ok lines.items)
         connection.old connection.new)
-        (λ failure. ColumnsGive (columns_told question.entry) table.now (Err failure)
+        (λ failure. ColumnsGive (speech_of question.entry).columns table.now (Err failure)
         connection.old connection.new) }
 {
     let sql = columns_query(alloc, table)?;

@@ -21,14 +21,23 @@ pub fn end_by_fault<E: Output>(faults: &mut E, fault: Fault) -> ExitStatus
     ExitStatus::FaultAtThisEnd
 }
 
-/// Prints a fault of this end in a line, and more after it, as far as `faults` takes them.
+/// Prints a fault in a line, and more after it, as far as `faults` takes them.
+pub fn print_fault<E: Output>(faults: &mut E, fault: Fault, more: &[u8])
+    requires { CanFail (E.failures faults.old) }
+    ensures { Prints (fault_line fault ++ more.now)
+        (said_of E.Output faults.old) (said_of E.Output faults.new) }
+{
+    let _ = write_more(faults, fault, more);
+}
+
+/// The same of a fault of this end.
 pub fn end_by_fault_and<E: Output>(faults: &mut E, fault: Fault, more: &[u8]) -> ExitStatus
     requires { CanFail (E.failures faults.old) }
     ensures status { result ≡ FaultAtThisEnd }
     ensures lines { Prints (fault_line fault ++ more.now)
         (said_of E.Output faults.old) (said_of E.Output faults.new) }
 {
-    let _ = write_more(faults, fault, more);
+    print_fault(faults, fault, more);
     ExitStatus::FaultAtThisEnd
 }
 

@@ -1,5 +1,5 @@
 -- What a client says of a fault on the lines after the fault's own, from what it has itself.
-use Rattle.std.specs.Prelude.{ℕ, ◌==◌, ◌||◌, nat_lt, List, [], ◌++◌, length, Option, Some, None}
+use Rattle.std.specs.Prelude.{ℕ, Bool, ◌==◌, ◌||◌, nat_lt, List, [], ◌++◌, length, Option, Some, None}
 use Rattle.std.specs.Prelude.{codes, option_map, if◌then◌else◌}
 use Rattle.std.specs.Borrow.{Bor}
 use Rattle.std.specs.Fmt.{decimal}
@@ -15,9 +15,6 @@ use Rattle.scan_base.specs.declared.fault.Fault.TheVariants.{ResultTooLarge, Tra
 use Rattle.scan_base.specs.declared.put_options.PutMode.{PutMode}
 use Rattle.scan_base.specs.declared.put_options.PutMode.TheVariants.{Append}
 use Rattle.number_words.specs.NumberTexts.{spelling_line}
-use Rattle.fault_hints.specs.declared.question.Question.{Question}
-use Rattle.fault_hints.specs.declared.question.Question.TheVariants.{Rows, Put, Records, Names}
-use Rattle.fault_hints.specs.declared.question.Question.TheVariants.{Expiry, Drop}
 use Rattle.fault_hints.specs.LeftOut.{left_out_lines}
 use Rattle.fault_hints.specs.MarkedLines.{marked}
 use Rattle.fault_hints.specs.RefusedTypes.{column_line, refused_type_line}
@@ -45,6 +42,7 @@ query_line UnknownName = codes "a name stands for no column, or for several; its
 query_line TypeClash =
     codes "compare numbers with numbers, 'texts' with texts, else by a word: DATE '2026-11-28'\n"
 query_line BadTicket = codes "the tables are no longer those of the query: ask again\n"
+query_line VersionUnknown = codes "the tables are no longer those of the query: ask again\n"
 query_line VersionExpired = codes "the tables of the query have expired: ask again\n"
 query_line ResultTooLarge =
     codes "67108864 rows are the most: select fewer, or serve with more --parts\n"
@@ -61,12 +59,16 @@ query_hint sql fault = query_line fault
 
 -- ---- puts
 
+-- whether a table's name has a length that no name has
+abbrev pub is_bad_name : List ℕ → Bool
+is_bad_name table = (length table == 0) || nat_lt most_name_bytes (length table)
+
 -- which limit a put passes
 abbrev pub put_limit : List ℕ → List ℕ
 put_limit table =
-    if (length table == 0) || nat_lt most_name_bytes (length table) then
-    codes "a table's name has 1 to 64 bytes\n"
-    else codes "the most: 64 columns, 64 bytes a name, 65536 a text, 16777216 rows, 256 tables\n"
+    if is_bad_name table then codes "a table's name has 1 to 64 bytes\n"
+    else codes "the most: 64 columns, 64 bytes a name, 65536 a text, 16777216 rows, 256 tables, "
+    ++ codes "65537 versions\n"
 
 -- which schemas differ
 abbrev pub schema_line : PutMode → List ℕ
@@ -109,28 +111,25 @@ spelling_lines BadBatch = spelling_line
 spelling_lines LimitReached = codes "64 columns, and 64 bytes of a name, are the most\n"
 spelling_lines _ = []
 
--- ---- all
+-- ---- other calls
 
 -- of an expiry
 abbrev pub expiry_hint : Fault → List ℕ
 expiry_hint VersionUnknown = codes "no put has made this version yet\n"
 expiry_hint fault = call_line fault
 
--- what more is told of a drop
-abbrev pub drop_hint : Fault → List ℕ
-drop_hint TableMissing = codes "`flightscan tables` prints the names; their case counts\n"
-drop_hint fault = call_line fault
+-- which limit a drop passes
+abbrev pub drop_limit : List ℕ → List ℕ
+drop_limit table =
+    if is_bad_name table then codes "a table's name has 1 to 64 bytes\n"
+    else codes "65537 versions are kept, which are the most: `flightscan expire` frees old ones\n"
+
+-- of a drop of a table
+abbrev pub drop_hint : List ℕ → Fault → List ℕ
+drop_hint table TableMissing = codes "`flightscan tables` prints the names; their case counts\n"
+drop_hint table LimitReached = drop_limit table
+drop_hint table fault = call_line fault
 
 -- a header that was lent
 abbrev pub lent : Option (Bor (List ℕ)) → Option (List ℕ)
 lent header = option_map (λ (bytes : Bor (List ℕ)). bytes.now) header
-
--- what is said of a fault of what was asked
-abbrev pub hint_of : Question → Fault → List ℕ
-hint_of (Rows sql) fault = query_hint sql.now fault
-hint_of (Put table mode header) fault =
-    put_hint table.now mode (lent header) fault
-hint_of (Records table mode columns) fault = put_hint table.now mode (Some []) fault
-hint_of Names fault = call_line fault
-hint_of Expiry fault = expiry_hint fault
-hint_of Drop fault = drop_hint fault

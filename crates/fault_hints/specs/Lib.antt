@@ -5,4 +5,6 @@ pub mod RefusedTypes
 pub mod Hints
 pub mod NearNames
 pub mod QueryNames
+pub mod Inquiries
 pub mod ServerLines
+pub mod Speech

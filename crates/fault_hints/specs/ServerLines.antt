@@ -7,49 +7,15 @@ use Rattle.std.specs.List.{flat_map}
 use Rattle.std.specs.Fmt.{decimal}
 use Rattle.std.specs.Str.{bytes_eq}
 use Rattle.scan_base.specs.declared.fault.Fault.{Fault}
-use Rattle.scan_base.specs.declared.fault.Fault.TheVariants.{SchemaMismatch, TableMissing}
-use Rattle.scan_base.specs.declared.fault.Fault.TheVariants.{UnknownName}
-use Rattle.scan_base.specs.declared.put_options.PutMode.{PutMode}
-use Rattle.scan_base.specs.declared.put_options.PutMode.TheVariants.{Append}
 use Rattle.sql_text.specs.Reading.{tokens_in}
 use Rattle.arrow_types.specs.declared.schema.Field.{Field}
 use Rattle.arrow_types.specs.declared.schema.Schema.{Schema}
 use Rattle.arrow_schema.specs.Header.{schema_of}
 use Rattle.csv_columns.specs.SpelledColumns.{spelled}
-use Rattle.fault_hints.specs.declared.question.Question.{Question}
-use Rattle.fault_hints.specs.declared.question.Question.TheVariants.{Rows, Put, Records}
-use Rattle.fault_hints.specs.declared.inquiry.Inquiry.{Inquiry}
-use Rattle.fault_hints.specs.declared.inquiry.Inquiry.TheVariants.{Nothing, Names, Columns}
 use Rattle.fault_hints.specs.declared.query_names.NameUse.TheVariants.{Table, Column}
-use Rattle.fault_hints.specs.Hints.{hint_of, lent, put_hint, query_hint}
 use Rattle.fault_hints.specs.MarkedLines.{shown_byte}
 use Rattle.fault_hints.specs.NearNames.{first_near}
 use Rattle.fault_hints.specs.QueryNames.{first_other, names_in}
-
--- ---- what is asked
-
--- the columns of a query's table, where it has one only
-abbrev pub only_table : List (List ℕ) → Inquiry
-only_table (table ∷ []) = Columns table
-only_table tables = Nothing
-
--- of a query: the tables where one is missing, and its columns where a name is unknown
-abbrev pub query_inquiry : List ℕ → Fault → Inquiry
-query_inquiry sql TableMissing = Names
-query_inquiry sql UnknownName = only_table (names_in Table (tokens_in sql))
-query_inquiry sql fault = Nothing
-
--- of a put that appends: the tables where its own is missing, and the columns where they differ
-abbrev pub put_inquiry : List ℕ → PutMode → Fault → Inquiry
-put_inquiry table Append TableMissing = Names
-put_inquiry table Append SchemaMismatch = Columns table
-put_inquiry table mode fault = Nothing
-
-abbrev pub inquiry_of : Question → Fault → Inquiry
-inquiry_of (Rows sql) fault = query_inquiry sql.now fault
-inquiry_of (Put table mode header) fault = put_inquiry table.now mode fault
-inquiry_of (Records table mode columns) fault = put_inquiry table.now mode fault
-inquiry_of question fault = Nothing
 
 -- ---- names
 
@@ -80,12 +46,6 @@ missing_column_line known missing = missing_line (codes "no column has the name 
 abbrev pub query_names_told : List ℕ → List (List ℕ) → List ℕ
 query_names_told sql known =
     missing_table_line known (first_other known (names_in Table (tokens_in sql)))
-
-abbrev pub names_told : Question → List (List ℕ) → List ℕ
-names_told (Rows sql) known = query_names_told sql.now known
-names_told (Put table mode header) known = missing_table_line known (Some table.now)
-names_told (Records table mode columns) known = missing_table_line known (Some table.now)
-names_told question known = []
 
 -- ---- columns
 
@@ -138,57 +98,3 @@ said_columns_told table (Err fault) = []
 abbrev pub header_columns_told : List Field → Option (List ℕ) → List ℕ
 header_columns_told table (Some header) = said_columns_told table (schema_of header)
 header_columns_told table None = []
-
--- what is said where these are the columns of the table
-abbrev pub columns_told : Question → List Field → List ℕ
-columns_told (Rows sql) table = query_columns_told sql.now table
-columns_told (Put name mode header) table = header_columns_told table (lent header)
-columns_told (Records name mode columns) table = put_columns_told table columns.now
-columns_told question table = []
-
--- ---- all
-
--- how a client speaks of what was asked: of a fault, and of what the server answers after it
-pub record Speech : Type 0 where
-  pub hint : Fault → List ℕ
-  pub inquiry : Fault → Inquiry
-  pub names : List (List ℕ) → List ℕ
-  pub columns : List Field → List ℕ
-
--- of a query
-abbrev pub query_speech : List ℕ → Speech
-query_speech sql = record {
-  hint = query_hint sql;
-  inquiry = query_inquiry sql;
-  names = query_names_told sql;
-  columns = query_columns_told sql;
-}
-
--- of a put into a table by a mode, of a stream whose first message has this header
-abbrev pub put_speech : List ℕ → PutMode → Option (List ℕ) → Speech
-put_speech table mode header = record {
-  hint = put_hint table mode header;
-  inquiry = put_inquiry table mode;
-  names = λ known. missing_table_line known (Some table);
-  columns = λ own. header_columns_told own header;
-}
-
--- the same of CSV of these columns
-abbrev pub records_speech : List ℕ → PutMode → List Field → Speech
-records_speech table mode columns = record {
-  hint = put_hint table mode (Some []);
-  inquiry = put_inquiry table mode;
-  names = λ known. missing_table_line known (Some table);
-  columns = λ own. put_columns_told own columns;
-}
-
--- where nothing more is asked
-abbrev pub plain_speech : (Fault → List ℕ) → Speech
-plain_speech hint =
-    record { hint = hint; inquiry = λ fault. Nothing; names = λ known. []; columns = λ own. [] }
-
-abbrev pub speech_of : Question → Speech
-speech_of (Rows sql) = query_speech sql.now
-speech_of (Put table mode header) = put_speech table.now mode (lent header)
-speech_of (Records table mode columns) = records_speech table.now mode columns.now
-speech_of question = plain_speech (hint_of question)

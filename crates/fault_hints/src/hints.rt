@@ -1,10 +1,11 @@
 //! What a client says of a fault on the lines after the fault's own.
 
 ghost use Rattle.std.specs.Prelude.{◌≡◌, IfOk};
-ghost use Rattle.fault_hints.specs.Hints.{batch_line, call_line, drop_hint, expiry_hint, hint_of};
-ghost use Rattle.fault_hints.specs.Hints.{lent};
+ghost use Rattle.fault_hints.specs.Hints.{batch_line, call_line, drop_hint, drop_limit};
+ghost use Rattle.fault_hints.specs.Hints.{expiry_hint, is_bad_name, lent};
 ghost use Rattle.fault_hints.specs.Hints.{put_hint, put_limit, put_line, query_hint, query_limit};
 ghost use Rattle.fault_hints.specs.Hints.{query_line, schema_line, spelling_lines, type_line};
+ghost use Rattle.fault_hints.specs.Speech.{speech_of};
 
 use crate::left_out::left_out_lines;
 use crate::marked_lines::marked;
@@ -52,7 +53,9 @@ fn query_line(fault: Fault) -> &'static [u8]
         Fault::TypeClash => {
             b"compare numbers with numbers, 'texts' with texts, else by a word: DATE '2026-11-28'\n"
         }
-        Fault::BadTicket => b"the tables are no longer those of the query: ask again\n",
+        Fault::BadTicket | Fault::VersionUnknown => {
+            b"the tables are no longer those of the query: ask again\n"
+        }
         Fault::VersionExpired => b"the tables of the query have expired: ask again\n",
         Fault::ResultTooLarge => {
             b"67108864 rows are the most: select fewer, or serve with more --parts\n"
@@ -76,14 +79,22 @@ fn query_hint(alloc: Global, sql: &str, fault: Fault) -> Result<Vec<u8>, AllocEr
     }
 }
 
+// Whether a table's name has a length that no name has.
+fn is_bad_name(table: &str) -> bool
+    ensures { result ≡ is_bad_name table.now }
+{
+    table.is_empty() || table.len() > MAX_NAME_BYTES
+}
+
 // Which limit a put passes.
 fn put_limit(table: &str) -> &'static [u8]
     ensures { result.now ≡ put_limit table.now }
 {
-    if table.is_empty() || table.len() > MAX_NAME_BYTES {
+    if is_bad_name(table) {
         return b"a table's name has 1 to 64 bytes\n";
     }
-    b"the most: 64 columns, 64 bytes a name, 65536 a text, 16777216 rows, 256 tables\n"
+    b"the most: 64 columns, 64 bytes a name, 65536 a text, 16777216 rows, 256 tables, \
+    65537 versions\n"
 }
 
 // Which schemas differ.
@@ -176,12 +187,23 @@ fn expiry_hint(fault: Fault) -> &'static [u8]
     }
 }
 
-// Of a drop.
-fn drop_hint(fault: Fault) -> &'static [u8]
-    ensures { result.now ≡ drop_hint fault }
+// Which limit a drop passes.
+fn drop_limit(table: &str) -> &'static [u8]
+    ensures { result.now ≡ drop_limit table.now }
+{
+    if is_bad_name(table) {
+        return b"a table's name has 1 to 64 bytes\n";
+    }
+    b"65537 versions are kept, which are the most: `flightscan expire` frees old ones\n"
+}
+
+// Of a drop of a table.
+fn drop_hint(table: &str, fault: Fault) -> &'static [u8]
+    ensures { result.now ≡ drop_hint table.now fault }
 {
     match fault {
         Fault::TableMissing => b"`flightscan tables` prints the names; their case counts\n",
+        Fault::LimitReached => drop_limit(table),
         _ => call_line(fault),
     }
 }
@@ -192,7 +214,7 @@ fn drop_hint(fault: Fault) -> &'static [u8]
 ///
 /// `AllocError` where memory is refused.
 pub fn hint(alloc: Global, question: Question<'_>, fault: Fault) -> Result<Vec<u8>, AllocError>
-    ensures { IfOk result (λ lines. lines.items ≡ hint_of question.entry fault) }
+    ensures { IfOk result (λ lines. lines.items ≡ (speech_of question.entry).hint fault) }
 {
     match question {
         Question::Rows(sql) => query_hint(alloc, sql, fault),
@@ -200,6 +222,6 @@ pub fn hint(alloc: Global, question: Question<'_>, fault: Fault) -> Result<Vec<u
         Question::Records(table, mode, _) => put_hint(alloc, table, mode, Some(&[]), fault),
         Question::Names => Vec::from_slice(alloc, call_line(fault)),
         Question::Expiry => Vec::from_slice(alloc, expiry_hint(fault)),
-        Question::Drop => Vec::from_slice(alloc, drop_hint(fault)),
+        Question::Drop(table) => Vec::from_slice(alloc, drop_hint(table, fault)),
     }
 }

@@ -2,8 +2,8 @@
 //!
 //! `specs/Hints.antt` says which lines a fault has, by what was asked. `specs/MarkedLines.antt` has
 //! the line of a query with a mark under a byte, `specs/LeftOut.antt` what a query has that is left
-//! out, and `specs/InputKinds.antt` what an input is by its first bytes. `specs/ServerLines.antt`
-//! says what is said after the server was asked.
+//! out, and `specs/InputKinds.antt` what an input is by its first bytes. `specs/Inquiries.antt` says
+//! what the server is asked then, and `specs/ServerLines.antt` what is said after that.
 #![tactic(auto)]
 
 pub mod hints;
@@ -19,6 +19,6 @@ mod server_lines;
 
 pub use crate::hints::{hint, spelling_lines};
 pub use crate::input_kinds::input_line;
-pub use crate::inquiry::Inquiry;
+pub use crate::inquiry::{Inquiry, inquiry_of};
 pub use crate::question::Question;
-pub use crate::server_lines::{columns_told, inquiry_of, names_told};
+pub use crate::server_lines::{columns_told, names_told};

@@ -17,6 +17,6 @@ pub enum Question<'a> {
     Names,
     /// An expiry.
     Expiry,
-    /// A drop of a table.
-    Drop,
+    /// A drop of the table of this name.
+    Drop(&'a str),
 }

@@ -7,19 +7,14 @@ ghost use Rattle.std.specs.Borrow.{Bor};
 ghost use Rattle.std.specs.Fmt.{decimal};
 ghost use Rattle.std.specs.List.{flat_map};
 ghost use Rattle.std.specs.Str.{bytes_eq};
-ghost use Rattle.sql_text.specs.Reading.{tokens_in};
-ghost use Rattle.fault_hints.specs.declared.query_names.NameUse.TheVariants.{Table};
 ghost use Rattle.fault_hints.specs.Hints.{lent};
-ghost use Rattle.fault_hints.specs.QueryNames.{first_other, names_in};
-ghost use Rattle.fault_hints.specs.ServerLines.{column_names, columns_told};
-ghost use Rattle.fault_hints.specs.ServerLines.{difference_from, difference_line};
+ghost use Rattle.fault_hints.specs.ServerLines.{column_names, difference_from, difference_line};
 ghost use Rattle.fault_hints.specs.ServerLines.{header_columns_told, listed, listing};
-ghost use Rattle.fault_hints.specs.ServerLines.{missing_line, names_told, near_words};
-ghost use Rattle.fault_hints.specs.ServerLines.{only_table, put_columns_told, put_inquiry};
-ghost use Rattle.fault_hints.specs.ServerLines.{query_columns_told, query_inquiry};
-ghost use Rattle.fault_hints.specs.ServerLines.{spelled_at, missing_table_line, inquiry_of};
+ghost use Rattle.fault_hints.specs.ServerLines.{missing_line, missing_table_line, near_words};
+ghost use Rattle.fault_hints.specs.ServerLines.{put_columns_told, query_columns_told};
+ghost use Rattle.fault_hints.specs.ServerLines.{query_names_told, spelled_at};
+ghost use Rattle.fault_hints.specs.Speech.{speech_of};
 
-use crate::inquiry::Inquiry;
 use crate::marked_lines::push_shown;
 use crate::near_names::first_near;
 use crate::query_names::{NameUse, first_other, names_in};
@@ -27,72 +22,8 @@ use crate::question::Question;
 use arrow_schema::read_schema;
 use arrow_types::Field;
 use csv_columns::spelling;
-use scan_base::{Fault, PutMode, Text};
+use scan_base::{Fault, Text};
 use std::alloc::{AllocError, Global};
-
-// ---- what is asked
-
-// The columns of a query's table, where it has one only.
-fn only_table(alloc: Global, tables: &[Text]) -> Result<Inquiry, AllocError>
-    ensures { IfOk result (λ inquiry. inquiry ≡ only_table tables.now) }
-{
-    match tables {
-        [table] => Ok(Inquiry::Columns(Text::new(alloc, table.as_str())?)),
-        _ => Ok(Inquiry::Nothing),
-    }
-}
-
-// What is asked after a fault of a query.
-fn query_inquiry(alloc: Global, sql: &str, fault: Fault) -> Result<Inquiry, AllocError>
-    ensures { IfOk result (λ inquiry. inquiry ≡ query_inquiry sql.now fault) }
-{
-    match fault {
-        Fault::TableMissing => Ok(Inquiry::Names),
-        Fault::UnknownName => {
-            let tables = names_in(alloc, NameUse::Table, sql)?;
-            only_table(alloc, &tables)
-        }
-        _ => Ok(Inquiry::Nothing),
-    }
-}
-
-// What is asked after a fault of a put into a table by a mode.
-fn put_inquiry(
-    alloc: Global,
-    table: &str,
-    mode: PutMode,
-    fault: Fault,
-) -> Result<Inquiry, AllocError>
-    ensures { IfOk result (λ inquiry. inquiry ≡ put_inquiry table.now mode fault) }
-{
-    match (mode, fault) {
-        (PutMode::Append, Fault::TableMissing) => Ok(Inquiry::Names),
-        (PutMode::Append, Fault::SchemaMismatch) => {
-            Ok(Inquiry::Columns(Text::new(alloc, table)?))
-        }
-        (_, _) => Ok(Inquiry::Nothing),
-    }
-}
-
-/// What is asked of the server after a fault of what was asked before.
-///
-/// # Errors
-///
-/// `AllocError` where memory is refused.
-pub fn inquiry_of(
-    alloc: Global,
-    question: Question<'_>,
-    fault: Fault,
-) -> Result<Inquiry, AllocError>
-    ensures { IfOk result (λ inquiry. inquiry ≡ inquiry_of question.entry fault) }
-{
-    match question {
-        Question::Rows(sql) => query_inquiry(alloc, sql, fault),
-        Question::Put(table, mode, _) => put_inquiry(alloc, table, mode, fault),
-        Question::Records(table, mode, _) => put_inquiry(alloc, table, mode, fault),
-        Question::Names | Question::Expiry => Ok(Inquiry::Nothing),
-    }
-}
 
 // ---- names
 
@@ -141,9 +72,8 @@ fn missing_table_line(
 }
 
 // The line for the first table of a query that is not there.
-fn query_table_line(alloc: Global, known: &[Text], sql: &str) -> Result<Vec<u8>, AllocError>
-    ensures { IfOk result (λ lines. lines.items ≡ missing_table_line known.now
-        (first_other known.now (names_in Table (tokens_in sql.now)))) }
+fn query_names_told(alloc: Global, sql: &str, known: &[Text]) -> Result<Vec<u8>, AllocError>
+    ensures { IfOk result (λ lines. lines.items ≡ query_names_told sql.now known.now) }
 {
     let tables = names_in(alloc, NameUse::Table, sql)?;
     missing_table_line(alloc, known, first_other(known, &tables))
@@ -159,13 +89,14 @@ pub fn names_told(
     question: Question<'_>,
     known: &[Text],
 ) -> Result<Vec<u8>, AllocError>
-    ensures { IfOk result (λ lines. lines.items ≡ names_told question.entry known.now) }
+    ensures { IfOk result (λ lines. lines.items ≡ (speech_of question.entry).names known.now) }
 {
     match question {
-        Question::Rows(sql) => query_table_line(alloc, known, sql),
+        Question::Rows(sql) => query_names_told(alloc, sql, known),
         Question::Put(table, _, _) => missing_table_line(alloc, known, Some(table)),
         Question::Records(table, _, _) => missing_table_line(alloc, known, Some(table)),
         Question::Names | Question::Expiry => Ok(Vec::new(alloc)),
+        Question::Drop(table) => missing_table_line(alloc, known, Some(table)),
     }
 }
 
@@ -334,12 +265,12 @@ pub fn columns_told(
     question: Question<'_>,
     table: &[Field],
 ) -> Result<Vec<u8>, AllocError>
-    ensures { IfOk result (λ lines. lines.items ≡ columns_told question.entry table.now) }
+    ensures { IfOk result (λ lines. lines.items ≡ (speech_of question.entry).columns table.now) }
 {
     match question {
         Question::Rows(sql) => query_columns_told(alloc, sql, table),
         Question::Put(_, _, header) => header_columns_told(alloc, table, header),
         Question::Records(_, _, columns) => put_columns_told(alloc, table, columns),
-        Question::Names | Question::Expiry => Ok(Vec::new(alloc)),
+        Question::Names | Question::Expiry | Question::Drop(_) => Ok(Vec::new(alloc)),
     }
 }

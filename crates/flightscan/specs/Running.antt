@@ -22,8 +22,9 @@ use Rattle.command_ends.specs.WholeInput.{Source, source_of}
 use Rattle.command_ends.specs.declared.exit_status.ExitStatus.{ExitStatus}
 use Rattle.command_ends.specs.declared.exit_status.ExitStatus.TheVariants.{FaultAtThisEnd}
 use Rattle.client_calls.specs.declared.put_call.Target.{Target}
-use Rattle.client_commands.specs.Commands.{Desk, Drops, Expires, ListsTables, desk_of}
+use Rattle.client_commands.specs.Commands.{Desk, Expires, ListsTables, desk_of}
 use Rattle.client_commands.specs.Describing.{Describes}
+use Rattle.client_commands.specs.Drops.{Drops}
 use Rattle.client_commands.specs.Handles.{Giving}
 use Rattle.client_commands.specs.Puts.{Puts, PutsCsv}
 use Rattle.client_commands.specs.Queries.{Queries, QueriesInput}
@@ -115,7 +116,8 @@ CallsServer seed connects shares (Describe port table) status before behind old 
     (desk_in old) (desk_in new)
     × (new.input ≡ old.input)
 CallsServer seed connects shares (Drop port table) status before behind old new =
-    Drops (λ ends. connects before port ends behind) table.now status (desk_in old) (desk_in new)
+    Drops (λ one ends other. connects one port ends other) table.now before behind status
+    (desk_in old) (desk_in new)
     × (new.input ≡ old.input)
 CallsServer seed connects shares (Expire port version) status before behind old new =
     Expires (λ ends. connects before port ends behind) version status (desk_in old) (desk_in new)

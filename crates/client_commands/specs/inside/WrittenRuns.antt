@@ -1,6 +1,6 @@
 -- Inside: all runs of a query were written, or not, and what is said of it.
 use Rattle.std.specs.Prelude.{◌≡◌, ℕ, List, Result, Ok, Err}
-use Rattle.fault_hints.specs.ServerLines.{Speech}
+use Rattle.fault_hints.specs.Speech.{Speech}
 use Rattle.flight_proto.specs.FlightInfo.{EndpointSaid}
 use Rattle.flight_proto.specs.InfoCommand.{InfoCommand}
 use Rattle.client_calls.specs.Outcome.{Line}

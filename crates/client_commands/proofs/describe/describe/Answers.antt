@@ -2,7 +2,7 @@ use Rattle.std.proofs.Common.{◌≡◌, ◌∙◌, inr, List, ℕ, Vec}
 use Rattle.std.specs.Global.{Global}
 use Rattle.command_ends.specs.Printing.{said_of}
 use Rattle.flight_proto.specs.InfoCommand.{rows_of}
-use Rattle.fault_hints.specs.ServerLines.{query_speech}
+use Rattle.fault_hints.specs.Speech.{query_speech}
 use Rattle.client_commands.specs.Commands.{columns_query, desk_of}
 use Rattle.client_commands.proofs.Described.{columns_told}
 use Rattle.client_commands.proofs.describe.describe.Goals as goal

@@ -1,6 +1,6 @@
 use Rattle.std.proofs.Common.{inr, ℕ, List, Option, subst}
 use Rattle.command_ends.specs.Printing.{count_line, said_of}
-use Rattle.fault_hints.specs.ServerLines.{put_speech}
+use Rattle.fault_hints.specs.Speech.{put_speech}
 use Rattle.client_commands.specs.Asking.{TellsOrAsks}
 use Rattle.client_commands.specs.Commands.{desk_of}
 use Rattle.client_commands.proofs.put.put_messages.Goals as goal

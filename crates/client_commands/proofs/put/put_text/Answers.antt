@@ -1,7 +1,7 @@
 use Rattle.std.proofs.Common.{inr, List, subst}
 use Rattle.arrow_types.specs.declared.schema.Field.{Field}
 use Rattle.command_ends.specs.Printing.{count_line, said_of}
-use Rattle.fault_hints.specs.ServerLines.{records_speech}
+use Rattle.fault_hints.specs.Speech.{records_speech}
 use Rattle.client_commands.specs.Asking.{TellsOrAsks}
 use Rattle.client_commands.specs.Commands.{desk_of}
 use Rattle.client_commands.proofs.put.put_text.Goals as goal

@@ -1,5 +1,5 @@
 use Rattle.std.proofs.Common.{Some, Result, Ok, Err, ℕ, inl, inr, refl, subst, sym}
-use Rattle.fault_hints.specs.ServerLines.{Speech, query_speech}
+use Rattle.fault_hints.specs.Speech.{Speech, query_speech}
 use Rattle.flight_proto.specs.InfoCommand.{InfoCommand, rows_of}
 use Rattle.command_line.specs.declared.request.Format.{Format}
 use Rattle.command_ends.specs.Network.{Ends}

@@ -1,5 +1,5 @@
 use Rattle.command_ends.proofs.Saying.{printed}
-use Rattle.client_commands.proofs.call_outcome.print_fault.Goals as goal
+use Rattle.command_ends.proofs.ending.print_fault.Goals as goal
 
 pub returns : goal.returns
 returns g c = printed _ _ _ _ c.write_more.ensures.bytes c.write_more.ensures.counted
