@@ -47,7 +47,7 @@ INPUTS = [
     (("put", "--table", "trips", "--mode", "append", "--format", "csv"), b"1,Delft\n"), (CSV, b""), ((*CSV, "--header"), b"id,\n1,2\n"),
     (CSV, b"1,2\n3\n"), ((*CSV, "--columns", "a:float64"), b"1\n"), ((*CSV, "--columns", "a:int8"), b"128\n"),
     ((*CSV, "--columns", "a int8"), b"1\n"), (CSV, ",".join(["1"] * 65).encode()), (("expire", "--version", "9"), b""),
-    (("describe", "--table", "none"), b""), (("describe", "--table", "Trips"), b""),
+    (("describe", "--table", "none"), b""), (("describe", "--table", "Trips"), b""), (("drop", "--table", "tripss"), b""),
     (("put", "--table", "trip", "--mode", "append"), TRIPS), ((*CSV, "--separator", ";"), b"1;2\n3\n"),
     ((*CSV, "--separator", ":"), b"1:2\n"), (("put", "--table", "u", "--mode", "create", "--separator", ";"), b"1;2\n"),
     (("put", "--table", "trips", "--mode", "append", "--format", "csv", "--columns", "id:int64, town:utf8?, rider:utf8?, km:int8?, paid:bool?"), b"1,,,,\n"),

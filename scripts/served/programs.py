@@ -391,15 +391,17 @@ def expired_versions(run: Run) -> None:
 def dropped_tables(run: Run) -> None:
     text, named = "SELECT a FROM t", "`flightscan tables` prints the names; their case counts"
     with run.serving() as server, Connection(server.port) as connection:
-        same("drop of nothing", answered("F9 TableMissing", named), drop(run, server, "t"))
+        same("drop of nothing", answered("F9 TableMissing", named, "no table has the name t"), drop(run, server, "t"))
         for name in ("s", "t"):
             same(f"put of {name}", printed("2 rows"), put(run, server, name, stream(A, [(1,), (2,)]), "create"))
-        same("a name that is too long", answered("F12 LimitReached"), drop(run, server, "t" * 65))
+        long = answered("F12 LimitReached", "a table's name has 1 to 64 bytes")
+        same("a name that is too long", long, drop(run, server, "t" * 65))
         same("drop of t", printed("version 3"), drop(run, server, "t"))
         same("the tables", printed("s"), tables(run, server))
         ask(connection, fetch_of(2, 0, 2, text), rows_of(A, (1,), (2,)))
         ask(connection, fetch_of(3, 0, 0, text), Refusal("F17"))
-        same("drop of t again", answered("F9 TableMissing", named), drop(run, server, "t"))
+        near = "no table has the name t; near: s"
+        same("drop of t again", answered("F9 TableMissing", named, near), drop(run, server, "t"))
         same("put of t", printed("1 rows"), put(run, server, "t", stream(A, [(7,)]), "create"))
         same("it made version 4", printed("floor 4"), expire(run, server, 4))
         ask(connection, fetch_of(2, 0, 2, text), Refusal("F19"))
