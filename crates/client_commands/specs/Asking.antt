@@ -80,8 +80,8 @@ TellsAlone speech before behind failure status old new =
     (behind ≡ before) × TellsFailure speech.hint failure status old new
     × (MayBeLeft (inquiry_after speech failure) ⊎ (new.failures ≢ old.failures))
 
--- A failure was told, and its lines were printed whole. Then the server is asked. The status is that
--- of the failure.
+-- A failure was told, and its lines were printed whole. Then the server is asked. The status is
+-- that of the failure.
 pub record TellsAndAsks {N : Type 0} (Gives : Giving N) (speech : Speech) (before behind : N)
     (failure : Failure) (status : ExitStatus) (old new : Said) : Type 0 where
   pub middle : Said

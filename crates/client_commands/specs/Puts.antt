@@ -17,7 +17,8 @@ use Rattle.command_ends.specs.WholeInput.{Source, ReadsWhole}
 use Rattle.command_ends.specs.declared.exit_status.ExitStatus.{ExitStatus}
 use Rattle.csv_columns.specs.Refusals.{WhyNoColumns}
 use Rattle.csv_columns.specs.TextRecords.{records_in}
-use Rattle.csv_input.specs.Input.{Form, ReadsCsv, TextAt}
+use Rattle.csv_input.specs.Forms.{Form}
+use Rattle.csv_input.specs.Input.{ReadsCsv, TextAt}
 use Rattle.client_commands.specs.Commands.{Desk, EndsBy, desk_of, reading_lines}
 use Rattle.client_commands.specs.Asking.{ConnectsThenAsks}
 use Rattle.client_commands.specs.Handles.{Giving}

@@ -17,7 +17,7 @@ ghost use Rattle.client_commands.specs.Puts.{Puts, PutsBytes, PutsCsv, first_hea
 ghost use Rattle.client_commands.specs.RowsPut.{PutsRows};
 ghost use Rattle.csv_columns.specs.Refusals.{WhyNoColumns};
 ghost use Rattle.csv_columns.specs.TextRecords.{records_in};
-ghost use Rattle.csv_input.specs.Input.{form_of};
+ghost use Rattle.csv_input.specs.Forms.{form_of};
 
 use crate::call_outcome::end_by_printing;
 use crate::connecting::{end_unconnected, open};

@@ -1,3 +1,4 @@
 pub mod Numbers
+pub mod Options
 pub mod Line
 pub mod Request

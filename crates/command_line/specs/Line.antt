@@ -1,68 +1,17 @@
 -- The command line, as clap's own definitions say it.
-use Rattle.std.specs.Prelude.{◌≡◌, true, List, [], ◌∷◌, map, Some, None, codes}
-use Rattle.clap.specs.Words.{Rule, Text, new_rule}
-use Rattle.clap.specs.declared.builder.action.ArgAction.TheVariants.{SetTrue}
+use Rattle.std.specs.Prelude.{◌≡◌, true, List, [], ◌∷◌, map, codes}
+use Rattle.clap.specs.Words.{Text}
 use Rattle.clap.specs.Simple.{App, new_app, with_rule, with_subcommand}
 use Rattle.clap.specs.declared.builder.value_parser.ValueParser.{ValueParser}
 use Rattle.clap.specs.declared.builder.value_parser.ValueParser.TheVariants.{Names}
 use Rattle.command_line.specs.declared.names.TakenNames.{TakenNames}
-use Rattle.command_line.specs.Numbers.{text_rule, number_rule, parts_taken, workers_taken}
-use Rattle.command_line.specs.Numbers.{seats_taken, accept_taken, idle_taken, keep_taken}
-use Rattle.command_line.specs.Numbers.{streams_taken, port_taken, version_taken}
+use Rattle.command_line.specs.Numbers.{number_rule, seats_taken, accept_taken, idle_taken}
+use Rattle.command_line.specs.Numbers.{keep_taken, streams_taken}
+use Rattle.command_line.specs.Options.{columns_rule, format_rule, header_rule, mode_rule}
+use Rattle.command_line.specs.Options.{parts_rule, port_rule, progress_rule, separator_rule}
+use Rattle.command_line.specs.Options.{sql_rule, table_rule, version_rule, workers_rule}
 
--- ---- options
-
-abbrev pub parts_rule : Rule
-parts_rule = number_rule (codes "parts") parts_taken
-
-abbrev pub workers_rule : Rule
-workers_rule = number_rule (codes "workers") workers_taken
-
--- an option that has to be given
-abbrev pub required_rule : Rule → Rule
-required_rule rule = record rule { required = true }
-
-abbrev pub port_rule : Rule
-port_rule = required_rule (number_rule (codes "port") port_taken)
-
-abbrev pub version_rule : Rule
-version_rule = required_rule (number_rule (codes "version") version_taken)
-
-abbrev pub table_rule : Rule
-table_rule = required_rule (text_rule (codes "table"))
-
--- the option `--name`, which has no value
-abbrev pub flag_rule : Text → Rule
-flag_rule name = record (new_rule name) { long = Some name; action = Some SetTrue }
-
--- `--mode`, whose values a parser takes
-abbrev pub mode_rule : ValueParser → Rule
-mode_rule modes = required_rule (record (text_rule (codes "mode")) { parser = Some modes })
-
--- `--format`, whose values a parser takes
-abbrev pub format_rule : ValueParser → Rule
-format_rule formats = record (text_rule (codes "format")) { parser = Some formats }
-
--- `--columns`, whose text spells the columns of CSV
-abbrev pub columns_rule : Rule
-columns_rule = text_rule (codes "columns")
-
--- `--header`, which has no value
-abbrev pub header_rule : Rule
-header_rule = flag_rule (codes "header")
-
--- `--separator`, whose values a parser takes
-abbrev pub separator_rule : ValueParser → Rule
-separator_rule separators =
-    record (text_rule (codes "separator")) { parser = Some separators }
-
--- `--progress`, which has no value
-abbrev pub progress_rule : Rule
-progress_rule = flag_rule (codes "progress")
-
--- the query, which has no name before it
-abbrev pub sql_rule : Rule
-sql_rule = required_rule (record (text_rule (codes "sql")) { long = None })
+-- ---- names
 
 -- a parser that takes these names
 abbrev pub TakesNames : List Text → ValueParser → Type 0

@@ -5,6 +5,7 @@ ghost use Rattle.clap.specs.declared.builder.command.Command.TheViews.{out-Comma
 ghost use Rattle.clap.specs.declared.builder.value_parser.ValueParser.TheVariants.{Names};
 ghost use Rattle.clap.specs.Words.{AddsSubcommand, app_of, new_app, rule_of, with_rule};
 ghost use Rattle.command_line.specs.Line as line;
+ghost use Rattle.command_line.specs.Options as options;
 
 use crate::names::TakenNames;
 use crate::number::{
@@ -19,7 +20,7 @@ const PROGRAM_VERSION: &str = "0.1.0";
 
 // The option `--parts`.
 fn parts<'a>(alloc: Global) -> Arg<'a>
-    ensures rule { rule_of result ≡ line.parts_rule }
+    ensures rule { rule_of result ≡ options.parts_rule }
     ensures local { result.global ≡ false }
 {
     let help = "Parts of an answer, 1 to 64 [default: 1]";
@@ -28,7 +29,7 @@ fn parts<'a>(alloc: Global) -> Arg<'a>
 
 // The option `--workers`.
 fn workers<'a>(alloc: Global) -> Arg<'a>
-    ensures rule { rule_of result ≡ line.workers_rule }
+    ensures rule { rule_of result ≡ options.workers_rule }
     ensures local { result.global ≡ false }
 {
     let help = "Workers of a fetch, 1 to 16 [default: 1]";
@@ -37,7 +38,7 @@ fn workers<'a>(alloc: Global) -> Arg<'a>
 
 // The option `--port`.
 fn port<'a>(alloc: Global) -> Arg<'a>
-    ensures rule { rule_of result ≡ line.port_rule }
+    ensures rule { rule_of result ≡ options.port_rule }
     ensures local { result.global ≡ false }
 {
     number_option(alloc, "port", PORT, "N", "The port on 127.0.0.1").required(true)
@@ -45,7 +46,7 @@ fn port<'a>(alloc: Global) -> Arg<'a>
 
 // The option `--version` of `expire`.
 fn version<'a>(alloc: Global) -> Arg<'a>
-    ensures rule { rule_of result ≡ line.version_rule }
+    ensures rule { rule_of result ≡ options.version_rule }
     ensures local { result.global ≡ false }
 {
     let help = "The oldest version to keep";
@@ -54,7 +55,7 @@ fn version<'a>(alloc: Global) -> Arg<'a>
 
 // The option `--mode`, of these names.
 fn mode<'a>(alloc: Global, names: &'a [&'a str]) -> Arg<'a>
-    ensures rule { rule_of result ≡ line.mode_rule (Names names.entry) }
+    ensures rule { rule_of result ≡ options.mode_rule (Names names.entry) }
     ensures local { result.global ≡ false }
 {
     Arg::new(alloc, "mode")
@@ -74,7 +75,7 @@ const FORMS_HELP: &str = "arrow: IPC stream; csv: RFC 4180 [default: arrow]";
 
 // The option `--format`, of these names.
 fn format<'a>(alloc: Global, names: &'a [&'a str], help: &'a str) -> Arg<'a>
-    ensures rule { rule_of result ≡ line.format_rule (Names names.entry) }
+    ensures rule { rule_of result ≡ options.format_rule (Names names.entry) }
     ensures local { result.global ≡ false }
 {
     Arg::new(alloc, "format")
@@ -87,7 +88,7 @@ fn format<'a>(alloc: Global, names: &'a [&'a str], help: &'a str) -> Arg<'a>
 
 // The option `--columns`.
 fn columns<'a>(alloc: Global) -> Arg<'a>
-    ensures rule { rule_of result ≡ line.columns_rule }
+    ensures rule { rule_of result ≡ options.columns_rule }
     ensures local { result.global ≡ false }
 {
     Arg::new(alloc, "columns")
@@ -99,7 +100,7 @@ fn columns<'a>(alloc: Global) -> Arg<'a>
 
 // The option `--separator`, of these names.
 fn separator<'a>(alloc: Global, names: &'a [&'a str]) -> Arg<'a>
-    ensures rule { rule_of result ≡ line.separator_rule (Names names.entry) }
+    ensures rule { rule_of result ≡ options.separator_rule (Names names.entry) }
     ensures local { result.global ≡ false }
 {
     Arg::new(alloc, "separator")
@@ -112,7 +113,7 @@ fn separator<'a>(alloc: Global, names: &'a [&'a str]) -> Arg<'a>
 
 // The option of this name, which has no value.
 fn flag<'a>(alloc: Global, name: &'a str, help: &'a str) -> Arg<'a>
-    ensures rule { rule_of result ≡ line.flag_rule name.entry.now }
+    ensures rule { rule_of result ≡ options.flag_rule name.entry.now }
     ensures local { result.global ≡ false }
 {
     Arg::new(alloc, name)
@@ -123,7 +124,7 @@ fn flag<'a>(alloc: Global, name: &'a str, help: &'a str) -> Arg<'a>
 
 // The option `--header`.
 fn header<'a>(alloc: Global) -> Arg<'a>
-    ensures rule { rule_of result ≡ line.header_rule }
+    ensures rule { rule_of result ≡ options.header_rule }
     ensures local { result.global ≡ false }
 {
     let help = "The first record of CSV has the columns' names";
@@ -132,7 +133,7 @@ fn header<'a>(alloc: Global) -> Arg<'a>
 
 // The option `--progress`.
 fn progress<'a>(alloc: Global) -> Arg<'a>
-    ensures rule { rule_of result ≡ line.progress_rule }
+    ensures rule { rule_of result ≡ options.progress_rule }
     ensures local { result.global ≡ false }
 {
     let help = "Reports rows and bytes on standard error";
@@ -141,7 +142,7 @@ fn progress<'a>(alloc: Global) -> Arg<'a>
 
 // The option `--table`.
 fn table<'a>(alloc: Global) -> Arg<'a>
-    ensures rule { rule_of result ≡ line.table_rule }
+    ensures rule { rule_of result ≡ options.table_rule }
     ensures local { result.global ≡ false }
 {
     Arg::new(alloc, "table")
@@ -154,7 +155,7 @@ fn table<'a>(alloc: Global) -> Arg<'a>
 
 // The query.
 fn sql<'a>(alloc: Global) -> Arg<'a>
-    ensures rule { rule_of result ≡ line.sql_rule }
+    ensures rule { rule_of result ≡ options.sql_rule }
     ensures local { result.global ≡ false }
 {
     Arg::new(alloc, "sql")

@@ -1,5 +1,7 @@
-pub mod Input
 pub mod Lines
 pub mod Rows
 pub mod Long
+pub mod Forms
+pub mod Telling
+pub mod Input
 pub mod inside

@@ -6,8 +6,9 @@ ghost use Rattle.csv_columns.specs.TextRecords.{records_by};
 ghost use Rattle.command_ends.specs.Printing.{Prints, said_of};
 ghost use Rattle.command_ends.specs.WholeInput.{source_of};
 ghost use Rattle.command_ends.specs.declared.exit_status.ExitStatus.TheVariants.{FaultAtThisEnd};
-ghost use Rattle.csv_input.specs.Input.{ChecksRows, IsTold, IsUntold, ReadsCsv, ReadsText};
-ghost use Rattle.csv_input.specs.Input.{TellsNone, TellsWrong, form_of};
+ghost use Rattle.csv_input.specs.Forms.{form_of};
+ghost use Rattle.csv_input.specs.Input.{ReadsCsv, ReadsText};
+ghost use Rattle.csv_input.specs.Telling.{ChecksRows, IsTold, IsUntold, TellsNone, TellsWrong};
 ghost use Rattle.csv_input.specs.Lines.{none_line};
 
 use crate::WrongRecord;

@@ -7,7 +7,7 @@ ghost use Rattle.csv_columns.specs.TextRecords.{records_by};
 ghost use Rattle.csv_columns.specs.FittingColumns.{rows_behind};
 ghost use Rattle.csv_input.specs.Long.{WhyNoneTold};
 ghost use Rattle.csv_input.specs.Rows.{FindsWrong};
-ghost use Rattle.csv_input.specs.Input.{AreColumnsOf, WhyNoneOf, form_of};
+ghost use Rattle.csv_input.specs.Forms.{AreColumnsOf, WhyNoneOf, form_of};
 
 use crate::{WrongRecord, first_wrong};
 use arrow_types::Schema;

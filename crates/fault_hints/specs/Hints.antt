@@ -1,6 +1,6 @@
 -- What a client says of a fault on the lines after the fault's own, from what it has itself.
-use Rattle.std.specs.Prelude.{ℕ, Bool, ◌==◌, ◌||◌, nat_lt, List, [], ◌++◌, length, Option, Some, None}
-use Rattle.std.specs.Prelude.{codes, option_map, if◌then◌else◌}
+use Rattle.std.specs.Prelude.{ℕ, Bool, ◌==◌, ◌||◌, nat_lt, List, [], ◌++◌, length, Option, Some}
+use Rattle.std.specs.Prelude.{None, codes, option_map, if◌then◌else◌}
 use Rattle.std.specs.Borrow.{Bor}
 use Rattle.std.specs.Fmt.{decimal}
 use Rattle.scan_base.specs.Limits.{most_name_bytes, most_query_bytes}

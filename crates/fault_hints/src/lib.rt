@@ -2,7 +2,7 @@
 //!
 //! `specs/Hints.antt` says which lines a fault has, by what was asked. `specs/MarkedLines.antt` has
 //! the line of a query with a mark under a byte, `specs/LeftOut.antt` what a query has that is left
-//! out, and `specs/InputKinds.antt` what an input is by its first bytes. `specs/Inquiries.antt` says
+//! out, and `specs/InputKinds.antt` what an input is by its first bytes. `specs/Inquiries.antt` has
 //! what the server is asked then, and `specs/ServerLines.antt` what is said after that.
 #![tactic(auto)]
 

@@ -7,7 +7,7 @@ use Rattle.scan_base.specs.declared.fault.Fault.TheVariants.{Transport}
 use Rattle.scan_base.specs.declared.put_options.PutMode.{PutMode}
 use Rattle.grpc_frame.specs.declared.ends.Input.{Ghosts as InputMembers}
 use Rattle.grpc_frame.specs.declared.ends.Output.{Ghosts as OutputMembers}
-use Rattle.csv_input.specs.Input.{form_of}
+use Rattle.csv_input.specs.Forms.{form_of}
 use Rattle.flight_calls.specs.OwedAnswers.{Connection, connection_of}
 use Rattle.flight_core.specs.Seats.{Seat}
 use Rattle.command_line.specs.declared.request.Format.{Format}

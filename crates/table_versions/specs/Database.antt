@@ -14,10 +14,10 @@ use Rattle.scan_base.specs.Reading.{first_fault, unless}
 use Rattle.scan_base.specs.Lists.{repeats}
 use Rattle.scan_base.specs.declared.put_options.IfExists.{IfExists}
 use Rattle.scan_base.specs.declared.put_options.IfExists.TheVariants.{Append}
-use Rattle.scan_base.specs.declared.put_options.IfNotExist.{IfNotExist}
 use Rattle.scan_base.specs.Limits.{most_name_bytes, most_rows, most_tables, most_commits}
 use Rattle.scan_base.specs.PutOptions.{refuses_present, refuses_absent}
-use Rattle.table_versions.specs.Table.{Name, Row, Table, same_name, same_fields, has_bad_null}
+pub use Rattle.table_versions.specs.Table.{Put}
+use Rattle.table_versions.specs.Table.{Name, Table, same_name, same_fields, has_bad_null}
 use Rattle.table_versions.specs.Table.{is_long_text}
 
 -- tables by name, in byte order of the names
@@ -44,14 +44,6 @@ without_table name [] = []
 without_table name (entry ∷ entries) =
     if bytes_eq entry.0 name then without_table name entries
     else entry ∷ without_table name entries
-
--- a put: the table's name, what to do where it is absent and where it is there, columns and rows
-pub record Put : Type 0 where
-  pub table : Name
-  pub if_not_exist : IfNotExist
-  pub if_exists : IfExists
-  pub schema : Schema
-  pub rows : List Row
 
 -- a change: a put, or a drop of the table of a name
 pub data Change : Type 0 where

@@ -1,4 +1,4 @@
--- Tables as plain lists: columns, and rows.
+-- Tables as plain lists, columns and rows, and what is put into one.
 use Rattle.std.specs.Prelude.{ℕ, Bool, true, false, not, ◌&&◌, List, [], ◌∷◌, length, nat_lt}
 use Rattle.std.specs.List.{list_any, zip}
 use Rattle.std.specs.Str.{bytes_eq}
@@ -10,6 +10,8 @@ use Rattle.arrow_types.specs.declared.data_type.DataType.TheVariants.{Dictionary
 use Rattle.arrow_types.specs.declared.schema.Field.{Field}
 use Rattle.arrow_types.specs.declared.schema.Schema.{Schema}
 use Rattle.arrow_types.specs.DataType.{same_number}
+use Rattle.scan_base.specs.declared.put_options.IfExists.{IfExists}
+use Rattle.scan_base.specs.declared.put_options.IfNotExist.{IfNotExist}
 use Rattle.scan_base.specs.Value.{is_null, same_flag}
 use Rattle.scan_base.specs.Limits.{most_text_bytes}
 
@@ -23,6 +25,14 @@ Row = List Value
 
 -- a table: its columns, and its rows in order
 pub record Table : Type 0 where
+  pub schema : Schema
+  pub rows : List Row
+
+-- a put: the table's name, what to do where it is absent and where it is there, columns and rows
+pub record Put : Type 0 where
+  pub table : Name
+  pub if_not_exist : IfNotExist
+  pub if_exists : IfExists
   pub schema : Schema
   pub rows : List Row
 

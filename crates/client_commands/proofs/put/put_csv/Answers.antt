@@ -2,7 +2,8 @@ use Rattle.std.proofs.Common.{Err, inl, inr, refl}
 use Rattle.command_ends.specs.Printing.{Said, said_of}
 use Rattle.command_ends.specs.WholeInput.{Source}
 use Rattle.command_ends.specs.declared.exit_status.ExitStatus.{ExitStatus}
-use Rattle.csv_input.specs.Input.{Form, ReadsCsv, TextAt}
+use Rattle.csv_input.specs.Forms.{Form}
+use Rattle.csv_input.specs.Input.{ReadsCsv, TextAt}
 use Rattle.client_commands.proofs.put.put_csv.Goals as goal
 
 -- why there are no rows is the same, however they would be seen

@@ -1,4 +1,4 @@
-use Rattle.csv_input.specs.Input.{form_of}
+use Rattle.csv_input.specs.Forms.{form_of}
 use Rattle.csv_input.proofs.Told.{gave}
 use Rattle.csv_input.proofs.input.read_csv.Goals as goal
 
