@@ -4,6 +4,7 @@ use Rattle.command_ends.specs.Printing.{Said}
 use Rattle.command_ends.specs.WholeInput.{Source, Gives}
 use Rattle.command_ends.specs.declared.exit_status.ExitStatus.{ExitStatus}
 use Rattle.csv_columns.specs.TextRecords.{records_by}
+use Rattle.csv_input.specs.Forms.{Form}
 use Rattle.csv_input.specs.Input.{ReadsCsv, ReadsText, TextAt}
 
 pub gave : {A : Type 0} (form : Form) (view : A → TextAt) (result : Result A ExitStatus) (old new : Source) (said said' : Said) (text : List ℕ)
