@@ -4,11 +4,11 @@
     python3 scripts/drive.py [--connections N] [--seconds S] [--workers W,..] [--large] [--rough N] [--keep K] [--seed S]
                              [--parts P] [--program PATH]
 
-For a minute, 32 connections put, expire old versions, ask for infos and fetch endpoints at random, each endpoint over any
-connection, however long after its info. The Messages of puts go side by side, and their Ends one after another, so it is
-known which put made which version, and so go expiries; infos and fetches wait for none of them. Each info has to be one of a
-version between the newest that its connection knew and the newest of all; its tickets, its schema and each fetch have to be
-that version's, and so have the joined rows. A fetch is F19 exactly where its version is below the floor that its seat has
+For a minute, 32 connections put, drop tables, expire old versions, ask for infos and fetch endpoints at random, each endpoint
+over any connection, however long after its info. The Messages of puts go side by side, and their Ends one after another, so it
+is known which put made which version, and so go drops and expiries; infos and fetches wait for none of them. Each info has to
+be one of a version between the newest that its connection knew and the newest of all; its tickets, its schema and each fetch
+have to be that version's, and so have the joined rows. A fetch is F19 exactly where its version is below the floor that its seat has
 entered. That floor is no less than what was answered before the fetch was sent, or than what the connection met before, and no
 more than what was asked for until its answer came. Then all connections put at once, each into a table of its own: no put is
 lost, and each connection sees its own. Last, a table is replaced again and again: what the server holds grows by the bytes put
@@ -51,13 +51,13 @@ from interleavings import Info, LargeQuestions, Questions  # noqa: E402
 from loopback import Connection, Server  # noqa: E402
 from random_calls import large  # noqa: E402
 from random_calls import plain_model as model  # noqa: E402
-from random_calls.answers import Difference, FlightInfo, PutCount, Refusal, Rows, same  # noqa: E402
+from random_calls.answers import Difference, FlightInfo, NewVersion, PutCount, Refusal, Rows, Wanted, same  # noqa: E402
 from random_calls.batched import stream_in_batches  # noqa: E402
 from random_calls.plain_model import Database, Put, Refused, Table  # noqa: E402
 from random_calls.puts import MadePut, ingest, made_put, messages_of  # noqa: E402
 from random_calls.queries import Asker  # noqa: E402
 from reader import Fault  # noqa: E402
-from served.cases import A, descriptor_of, expiry_of, fetch_of, replaced  # noqa: E402
+from served.cases import A, descriptor_of, drop_of, expiry_of, fetch_of, replaced  # noqa: E402
 
 MOST_PUTS = 60_000  # a server takes 65,536
 OWN_PUTS = 20  # of each connection, into its own table
@@ -66,6 +66,7 @@ LARGE_QUERIES = 12
 STEPS_BETWEEN = 5  # as many rounds of other steps for each expiry
 OLDEST = 1_000  # so far behind the newest version an expiry may be
 SLACK = 4_000_000
+Change = Callable[[Database, int], tuple[Database, Wanted]]  # the database after it, and its answer, by its version
 
 
 @dataclass
@@ -154,17 +155,31 @@ class Drive:
             self.counts[what] += 1
 
     def end_put(self, connection: Connection, made: MadePut) -> int | None:
-        """Sends the End of a put, and adds the version that it makes, whose number is given. A refused one makes none."""
+        """Sends the End of a put, and gives the number of the version that it makes, if it makes one."""
+        def changed(database: Database, _: int) -> tuple[Database, Wanted]:
+            model.demand(made.fault is None, made.fault)
+            return model.after(database, made.put), PutCount(len(made.put.table.rows))
+
+        return self.change(connection, wire.END, changed)
+
+    def drop(self, connection: Connection, name: str) -> int | None:
+        """Drops a table, and gives the number of the version without it, if it was there."""
+        def changed(database: Database, version: int) -> tuple[Database, Wanted]:
+            return model.without(database, name), NewVersion(version)
+
+        return self.change(connection, drop_of(name), changed)
+
+    def change(self, connection: Connection, records: bytes, changed: Change) -> int | None:
+        """Sends what ends a change, and adds the version that it makes, whose number is given. A refused one makes none."""
         with self.ending:
+            version = len(self.versions)
             try:
-                model.demand(made.fault is None, made.fault)
-                after, wanted = model.after(self.versions[-1], made.put), PutCount(len(made.put.table.rows))
+                after, wanted = changed(self.versions[-1], version)
             except Refused as refused:
                 after, wanted = None, Refusal(refused.fault)
-            version = len(self.versions)
             if self.keep and after is not None:
                 self.asked_floor = max(self.floor, version + 1 - self.keep)
-            connection.send(wire.END)
+            connection.send(records)
             wanted.look(connection.answer())
             if after is None:
                 return None
@@ -219,7 +234,7 @@ class Worker(threading.Thread):
 
     def at_random(self) -> None:
         steps = [self.put, *[self.info] * 2, *[self.fetch] * 4, *[self.large_fetch] * bool(self.drive.large)]
-        steps = [*steps * STEPS_BETWEEN, self.expire]
+        steps = [*steps * STEPS_BETWEEN, self.drop, self.expire]
         while time.monotonic() < self.end and not self.drive.found:
             self.random.choice(steps)()
         while self.drive.waiting and not self.drive.found:
@@ -233,6 +248,14 @@ class Worker(threading.Thread):
         version = self.drive.end_put(self.connection, made)
         self.known = max(self.known, version or 0)
         self.drive.count("puts" if version else "refused puts")
+
+    def drop(self) -> None:
+        if len(self.drive.versions) > MOST_PUTS:
+            return
+        names = [*without_large(self.drive.versions[-1]), "none", ""]
+        version = self.drive.drop(self.connection, self.random.choice(names))
+        self.known = max(self.known, version or 0)
+        self.drive.count("drops" if version else "refused drops")
 
     def expire(self) -> None:
         version = max(self.drive.newest() + 2 - self.random.randrange(OLDEST), 0)

@@ -1,5 +1,5 @@
 #!/usr/bin/env python3
-"""Random interleavings of puts, flight infos and fetches through `flightscan pipe`, compared with a plain list model.
+"""Random interleavings of puts, drops, flight infos and fetches through `flightscan pipe`, compared with a plain list model.
 
     python3 scripts/interleavings.py [--count N] [--large N] [--workers W,..] [--seed S] [--program PATH] [--without-infos]
 
@@ -42,8 +42,8 @@ import wire  # noqa: E402
 from built import program, worker_counts  # noqa: E402
 from random_calls import joined, large  # noqa: E402
 from random_calls import plain_model as model  # noqa: E402
-from random_calls.answers import Difference, FlightInfo, PutCount, Refusal, Rows, SchemaResult, Wanted  # noqa: E402
-from random_calls.answers import same  # noqa: E402
+from random_calls.answers import Difference, FlightInfo, NewVersion, PutCount, Refusal, Rows, SchemaResult  # noqa: E402
+from random_calls.answers import Wanted, same  # noqa: E402
 from random_calls.batched import BatchedAsker, BatchedPuts, stream_in_batches  # noqa: E402
 from random_calls.plain_model import Column, Database, Put, Query, Refused, Row, Table  # noqa: E402
 from random_calls.puts import ingest, made_put, messages_of  # noqa: E402
@@ -51,11 +51,12 @@ from random_calls.queries import Asker, Speller, no_sentence  # noqa: E402
 from random_calls.refused import FETCHES, QUERY, TABLES, WITH_INFOS  # noqa: E402
 from random_calls.wide import Sorted  # noqa: E402
 from reader import Fault  # noqa: E402
+from served.cases import drop_of  # noqa: E402
 
 SECONDS = 120  # that one interleaving may take
 LONGEST_TEXT = 16_384
 KINDS = {b"DoPut": "puts", b"GetFlightInfo": "infos", b"GetSchema": "schemas", b"DoGet": "fetches"}
-OTHER = "other calls"
+DROPS, OTHER = "drops", "other calls"
 
 
 @dataclass
@@ -223,7 +224,7 @@ class Interleaving:
         self.questions = Questions(self.random, self.versions, self.asks, BatchedAsker if self.batched else Asker)
         for _ in range(self.random.randint(0, 3)):
             self.put()
-        steps = [*[self.put] * 4, *[self.ask] * 2, self.schema, self.stray, self.refused]
+        steps = [*[self.put] * 6, self.drop, *[self.ask] * 2, self.schema, self.stray, self.refused]
         steps += [self.fetch] * self.random.choice([0, 3, 10])
         for _ in range(self.random.choice([3, 10, 20, 40])):
             self.random.choice(steps)()
@@ -242,6 +243,16 @@ class Interleaving:
         except Refused as refused:
             wanted = Refusal(refused.fault)
         self.add(b"DoPut", made.said, made.messages, wanted)
+
+    def drop(self) -> None:
+        """A drop of a table, which makes the next version; or its fault, and no version."""
+        name = self.random.choice([*self.versions[-1], "t", "T", "", "a" * 65])
+        try:
+            self.versions.append(model.without(self.versions[-1], name))
+            wanted = NewVersion(len(self.versions) - 1)
+        except Refused as refused:
+            wanted = Refusal(refused.fault)
+        self.calls.append(Call(DROPS, f"drop of {name!r}", drop_of(name), wanted))
 
     # ---- infos and schemas
 
@@ -477,7 +488,7 @@ def main() -> int:
                 return 1
         count(interleaving, counts)
     print(f"{words.count} interleavings and {words.large} large ones, each through a pipe with workers {workers}, and no difference")
-    for kind in [*KINDS.values(), OTHER]:
+    for kind in [*KINDS.values(), DROPS, OTHER]:
         print(f"{counts[kind]:9} {kind}, of which {counts[kind, 'refused']} had to be refused")
     print(f"{counts['rows']:9} rows; {counts['endpoints']} endpoints were joined to the rows of {counts['joins']} infos")
     return 0

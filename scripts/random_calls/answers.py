@@ -108,6 +108,16 @@ class PutCount:
 
 
 @dataclass
+class NewVersion:
+    """The Result of a drop, which says the version that it made."""
+
+    version: int
+
+    def look(self, answer: wire.Answer) -> None:
+        same("the Result", wire.chunk(1, self.version.to_bytes(8, "big")), only_message(answer))
+
+
+@dataclass
 class SchemaResult:
     columns: list[Column]
 
@@ -152,4 +162,4 @@ class Rows:
         same("the rows", self.rows, self.streams[self.endpoint])
 
 
-Wanted = Refusal | PutCount | SchemaResult | FlightInfo | Rows
+Wanted = Refusal | PutCount | NewVersion | SchemaResult | FlightInfo | Rows

@@ -101,6 +101,13 @@ def after(database: Database, put: Put) -> Database:
     return database | {put.name: Table(columns, rows)}
 
 
+def without(database: Database, name: str) -> Database:
+    """The database after a drop; its checks stand in their order."""
+    demand(1 <= len(name.encode()) <= 64, "F12")
+    demand(name in database, "F9")
+    return {other: table for other, table in database.items() if other != name}
+
+
 TABLE_COLUMNS = (Column("catalog_name", "Utf8", True), Column("db_schema_name", "Utf8", True),
                  Column("table_name", "Utf8", False), Column("table_type", "Utf8", False))
 

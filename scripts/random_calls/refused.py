@@ -36,6 +36,8 @@ FETCHES = [
 ACTIONS = [
     RefusedCall(b"DoAction", [], "F4", "no Message"),
     RefusedCall(b"DoAction", [chunk(1, b"another")], "F5", "another action"),
+    RefusedCall(b"DoAction", [chunk(1, b"scan.drop") + chunk(2, b"\xff")], "F4", "a table's name that is not UTF-8"),
+    RefusedCall(b"DoAction", [chunk(1, b"scan.drop")], "F12", "no name of a table"),
 ]
 
 
