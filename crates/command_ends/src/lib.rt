@@ -15,9 +15,7 @@ mod snapshot;
 pub mod whole_input;
 
 pub use crate::accept_failure::AcceptFailure;
-pub use crate::ending::{
-    end_by_answer, end_by_cause, end_by_fault, end_by_fault_and, print_fault,
-};
+pub use crate::ending::{end_by_answer, end_by_cause, end_by_fault, end_by_fault_and, print_fault};
 pub use crate::exit_status::ExitStatus;
 pub use crate::network::{Connect, Listen};
 pub use crate::printing::{PortLine, print_count, print_dropped, print_floor, print_listening};
