@@ -102,6 +102,11 @@ def put_trips(client: Client) -> None:
     ask(client, put_of("walks", A, [(7,)]), PutCount(1))
 
 
+def update_of(text: str) -> list[flight.FlightData]:
+    """The message of an update."""
+    return [flight.FlightData(flight_descriptor=descriptor(stock.CommandStatementUpdate(query=text)))]
+
+
 # ---- sequences
 
 
@@ -255,6 +260,17 @@ def lists(run: Run) -> None:
             same("it is whole", (1.0, False), (poll.progress, poll.HasField("flight_descriptor")))
 
 
+@case("DROP TABLE as an update: its count is 0, and the table is away; F9 where it is absent")
+def dropped_tables(run: Run) -> None:
+    with run.serving() as (_, gateway), Client(gateway.port) as client:
+        put_trips(client)
+        for text in ("DROP TABLE trips", ' drop\ttable "walks" ; '):
+            same(text, 0, client.put(update_of(text)))
+            absent = (grpc.StatusCode.NOT_FOUND, "F9 TableMissing")
+            same(f"{text} once more", absent, refusal(client.put, update_of(text)))
+        same("the tables", [], asked(client, sql.CommandGetTables(), TABLES))
+
+
 @case("what is refused: parameters, transactions, updates, wrong queries, another number of messages; each by its text")
 def refused_drivers(run: Run) -> None:
     parameters = "parameters of prepared statements are not supported"
@@ -271,8 +287,8 @@ def refused_drivers(run: Run) -> None:
         same("a transaction", (UNIMPLEMENTED, "transactions are not supported"),
              refusal(acted, client, "CreatePreparedStatement", packed(in_one)))
         unknown = (UNIMPLEMENTED, "F5 UnknownCommand")
-        update = flight.FlightData(flight_descriptor=descriptor(stock.CommandStatementUpdate(query="DROP TABLE trips")))
-        same("an update", unknown, refusal(client.put, [update]))
+        same("an update", (UNIMPLEMENTED, "of statements that change something only DROP TABLE is supported"),
+             refusal(client.put, update_of("DELETE FROM trips")))
         for kind in ("BeginTransaction", "SetSessionOptions", "none"):
             same(kind, unknown, refusal(acted, client, kind, packed(stock.ActionBeginTransactionRequest())))
         same("criteria", (UNIMPLEMENTED, "an expression of ListFlights is not supported"),

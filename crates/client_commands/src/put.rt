@@ -25,8 +25,9 @@ use crate::rows_put::put_rows;
 use crate::server_inquiry::{Asked, end_by_asking};
 use bytes::Bytes;
 use client_calls::{Connection, Failure, Target};
-use command_ends::{Connect, ExitStatus, end_by_cause, end_by_fault, end_by_fault_and};
-use command_ends::{print_count, read_whole};
+use command_ends::{
+    Connect, ExitStatus, end_by_cause, end_by_fault, end_by_fault_and, print_count, read_whole,
+};
 use command_line::CsvForm;
 use csv_columns::columns_in;
 use csv_input::{CsvText, read_csv};
