@@ -7,9 +7,8 @@ ghost use Rattle.std.specs.Time.{instant_nanos};
 mod patient_stream;
 mod silence;
 
-pub use crate::silence::{Await, TellingNetwork, TellingReader};
-
 use crate::patient_stream::PatientStream;
+pub use crate::silence::{Await, TellingNetwork, TellingReader};
 use command_ends::{AcceptFailure, Connect, Listen, PortLine, SeatView};
 use grpc_frame::{CountedEnd, Output};
 use scan_base::Fault;
