@@ -77,7 +77,7 @@ AsksMore Gives speech inquiry old new =
 abbrev pub TellsAlone : {N : Type 0} → Speech → N → N → Failure → ExitStatus → Said → Said →
     Type 0
 TellsAlone speech before behind failure status old new =
-    (behind ≡ before) × TellsFailure speech.hint failure status old new
+    (behind ≡ before) × TellsFailure speech failure status old new
     × (MayBeLeft (inquiry_after speech failure) ⊎ (new.failures ≢ old.failures))
 
 -- A failure was told, and its lines were printed whole. Then the server is asked. The status is
@@ -85,7 +85,7 @@ TellsAlone speech before behind failure status old new =
 pub record TellsAndAsks {N : Type 0} (Gives : Giving N) (speech : Speech) (before behind : N)
     (failure : Failure) (status : ExitStatus) (old new : Said) : Type 0 where
   pub middle : Said
-  pub told : TellsFailure speech.hint failure status old middle
+  pub told : TellsFailure speech failure status old middle
   pub whole : middle.failures ≡ old.failures
   pub asks : AsksMore (λ ends. Gives before ends behind) speech (inquiry_after speech failure)
       middle new

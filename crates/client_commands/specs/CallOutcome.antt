@@ -1,8 +1,9 @@
 -- How a command ends by what came of its calls.
-use Rattle.std.specs.Prelude.{◌≡◌, ◌⊎◌, ℕ, ◌+◌, List, [], ◌++◌, Result, Ok, Err, codes}
+use Rattle.std.specs.Prelude.{◌≡◌, ◌⊎◌, ℕ, ◌+◌, Bool, true, List, [], ◌++◌, Result, Ok, Err, codes}
 use Rattle.std.specs.Io.KnownBytes.{Appends}
 use Rattle.scan_base.specs.declared.fault.Fault.{Fault}
 use Rattle.scan_base.specs.declared.fault.Fault.TheVariants.{BadFrame, Transport}
+use Rattle.fault_hints.specs.Speech.{Speech}
 use Rattle.grpc_frame.specs.Ends.{AppendsBeginning}
 use Rattle.client_calls.specs.declared.failure.Failure.{Failure}
 use Rattle.client_calls.specs.declared.failure.Failure.TheVariants.{Answered, Found}
@@ -11,11 +12,11 @@ use Rattle.command_ends.specs.declared.exit_status.ExitStatus.{ExitStatus}
 use Rattle.command_ends.specs.declared.exit_status.ExitStatus.TheVariants.{Done, FaultAnswered}
 use Rattle.command_ends.specs.declared.exit_status.ExitStatus.TheVariants.{FaultAtThisEnd}
 
--- the fault's line is printed, and after it what there is to say of the fault, unless memory for
--- that is refused
-abbrev pub Explains : (Fault → List ℕ) → Fault → Said → Said → Type 0
-Explains hint fault old new =
-    (more : List ℕ) × ((more ≡ hint fault) ⊎ (more ≡ []))
+-- the fault's line is printed, and after it what there is to say of the fault; where that is made,
+-- memory for it may be refused
+abbrev pub Explains : (Fault → List ℕ) → (Fault → Bool) → Fault → Said → Said → Type 0
+Explains hint made fault old new =
+    (more : List ℕ) × ((more ≡ hint fault) ⊎ ((more ≡ []) × (made fault ≡ true)))
     × Prints (fault_line fault ++ more) old new
 
 -- what is said of a fault that a server answered; how the connection fared is not said
@@ -25,11 +26,11 @@ answered_hint hint Transport = []
 answered_hint hint fault = hint fault
 
 -- the fault is explained, and the status says who found it
-abbrev pub TellsFailure : (Fault → List ℕ) → Failure → ExitStatus → Said → Said → Type 0
-TellsFailure hint (Answered fault) status old new =
-    (status ≡ FaultAnswered) × Explains (answered_hint hint) fault old new
-TellsFailure hint (Found fault) status old new =
-    (status ≡ FaultAtThisEnd) × Explains hint fault old new
+abbrev pub TellsFailure : Speech → Failure → ExitStatus → Said → Said → Type 0
+TellsFailure speech (Answered fault) status old new =
+    (status ≡ FaultAnswered) × Explains (answered_hint speech.hint) speech.made fault old new
+TellsFailure speech (Found fault) status old new =
+    (status ≡ FaultAtThisEnd) × Explains speech.hint speech.made fault old new
 
 -- the lines of an output that took not all
 abbrev pub output_lines : List ℕ
@@ -51,8 +52,8 @@ TellsText text status out out' said said' =
 
 -- the text for what calls gave; or they gave nothing, no byte of it is printed, and the fault is
 -- explained
-abbrev pub Tells : {A : Type 0} → (Fault → List ℕ) → (A → List ℕ) → Result A Failure → ExitStatus →
-    Said → Said → Said → Said → Type 0
-Tells hint text (Ok x) status out out' said said' = TellsText (text x) status out out' said said'
-Tells hint text (Err failure) status out out' said said' =
-    (out' ≡ out) × TellsFailure hint failure status said said'
+abbrev pub Tells : {A : Type 0} → Speech → (A → List ℕ) → Result A Failure → ExitStatus → Said →
+    Said → Said → Said → Type 0
+Tells speech text (Ok x) status out out' said said' = TellsText (text x) status out out' said said'
+Tells speech text (Err failure) status out out' said said' =
+    (out' ≡ out) × TellsFailure speech failure status said said'

@@ -9,6 +9,7 @@ use Rattle.sql_text.specs.Values.{quoted}
 use Rattle.flight_proto.specs.Expiry.{expiry_bytes}
 use Rattle.flight_proto.specs.InfoCommand.{InfoCommand, rows_of, tables}
 use Rattle.fault_hints.specs.Hints.{call_line, expiry_hint}
+use Rattle.fault_hints.specs.Speech.{plain_speech}
 use Rattle.table_versions.specs.Table.{Table}
 use Rattle.row_text.specs.Lines.{name_line}
 use Rattle.client_calls.specs.declared.call.Method.TheVariants.{DoAction}
@@ -85,7 +86,7 @@ FetchesNames view (Err failure) old new =
 -- a line for each name
 abbrev pub ListsTables : (Option Ends → Type 0) → ExitStatus → Desk → Desk → Type 0
 ListsTables Gives status old new = Connects Gives (FetchesNames (λ (names : List (List ℕ)). names))
-    (Tells call_line (flat_map name_line)) status old new
+    (Tells (plain_speech call_line) (flat_map name_line)) status old new
 
 -- ---- expire
 
@@ -93,7 +94,7 @@ ListsTables Gives status old new = Connects Gives (FetchesNames (λ (names : Lis
 abbrev pub Expires : (Option Ends → Type 0) → ℕ → ExitStatus → Desk → Desk → Type 0
 Expires Gives version status old new =
     Connects Gives (Calls DoAction (expiry_bytes version ∷ []) (AnswersOne ReadsFloor))
-    (Tells expiry_hint floor_line) status old new
+    (Tells (plain_speech expiry_hint) floor_line) status old new
 
 -- ---- describe
 

@@ -21,7 +21,7 @@ pub(crate) fn end_by_failure<E: Output>(
     question: Question<'_>,
 ) -> ExitStatus
     requires { CanFail (E.failures faults.old) }
-    ensures { TellsFailure (speech_of question.entry).hint failure result
+    ensures { TellsFailure (speech_of question.entry) failure result
         (said_of E.Output faults.old) (said_of E.Output faults.new) }
 {
     match failure {
@@ -51,11 +51,11 @@ pub(crate) fn end_by_printing<E: Output>(faults: &mut E, printed: Result<(), Fau
 // Prints a fault in a line, and what there is to say of it after that.
 fn explain<E: Output>(alloc: Global, faults: &mut E, fault: Fault, question: Question<'_>)
     requires { CanFail (E.failures faults.old) }
-    ensures { Explains (speech_of question.entry).hint fault
+    ensures { Explains (speech_of question.entry).hint (speech_of question.entry).made fault
         (said_of E.Output faults.old) (said_of E.Output faults.new) }
 {
     match hint(alloc, question, fault) {
-        Ok(more) => print_fault(faults, fault, &more),
+        Ok(more) => print_fault(faults, fault, more.as_slice()),
         Err(AllocError) => print_fault(faults, fault, &[]),
     }
 }
@@ -63,7 +63,8 @@ fn explain<E: Output>(alloc: Global, faults: &mut E, fault: Fault, question: Que
 // The same of a fault that a server answered: how the connection fared is not said.
 fn explain_answered<E: Output>(alloc: Global, faults: &mut E, fault: Fault, question: Question<'_>)
     requires { CanFail (E.failures faults.old) }
-    ensures { Explains (answered_hint (speech_of question.entry).hint) fault
+    ensures { Explains (answered_hint (speech_of question.entry).hint)
+        (speech_of question.entry).made fault
         (said_of E.Output faults.old) (said_of E.Output faults.new) }
 {
     match fault {

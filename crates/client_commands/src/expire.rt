@@ -2,6 +2,7 @@
 
 ghost use Rattle.command_ends.specs.Printing.{floor_line, said_of};
 ghost use Rattle.fault_hints.specs.Hints.{expiry_hint};
+ghost use Rattle.fault_hints.specs.Speech.{plain_speech};
 ghost use Rattle.grpc_frame.specs.Ends.{CanFail};
 ghost use Rattle.client_commands.specs.CallOutcome.{Tells};
 ghost use Rattle.client_commands.specs.Commands.{Expires, desk_of};
@@ -50,7 +51,7 @@ fn tell_floor<W: Output, E: Output>(
 ) -> ExitStatus
     requires writes { CanFail (W.failures output.old) }
     requires prints { CanFail (E.failures faults.old) }
-    ensures { Tells expiry_hint floor_line expired result
+    ensures { Tells (plain_speech expiry_hint) floor_line expired result
         (said_of W.Output output.old) (said_of W.Output output.new)
         (said_of E.Output faults.old) (said_of E.Output faults.new) }
 {

@@ -5,6 +5,7 @@ ghost use Rattle.std.specs.List.{flat_map};
 ghost use Rattle.grpc_frame.specs.Ends.{CanFail};
 ghost use Rattle.row_text.specs.Lines.{name_line};
 ghost use Rattle.fault_hints.specs.Hints.{call_line};
+ghost use Rattle.fault_hints.specs.Speech.{plain_speech};
 ghost use Rattle.client_commands.specs.CallOutcome.{Tells};
 ghost use Rattle.client_commands.specs.Commands.{FetchesNames, ListsTables, desk_of};
 
@@ -57,7 +58,8 @@ fn tell_names<W: Output, E: Output>(
 ) -> ExitStatus
     requires writes { CanFail (W.failures output.old) }
     requires prints { CanFail (E.failures faults.old) }
-    ensures { Tells call_line (λ names. flat_map name_line names.items) fetched result
+    ensures { Tells (plain_speech call_line) (λ names. flat_map name_line names.items) fetched
+        result
         (said_of W.Output output.old) (said_of W.Output output.new)
         (said_of E.Output faults.old) (said_of E.Output faults.new) }
 {

@@ -1,6 +1,6 @@
 -- What a client says of a fault on the lines after the fault's own, from what it has itself.
-use Rattle.std.specs.Prelude.{ℕ, Bool, ◌==◌, ◌||◌, nat_lt, List, [], ◌++◌, length, Option, Some}
-use Rattle.std.specs.Prelude.{None, codes, option_map, if◌then◌else◌}
+use Rattle.std.specs.Prelude.{ℕ, Bool, true, false, ◌==◌, ◌||◌, nat_lt, List, [], ◌++◌, length}
+use Rattle.std.specs.Prelude.{Option, Some, None, codes, option_map, if◌then◌else◌}
 use Rattle.std.specs.Borrow.{Bor}
 use Rattle.std.specs.Fmt.{decimal}
 use Rattle.scan_base.specs.Limits.{most_name_bytes, most_query_bytes}
@@ -50,6 +50,13 @@ query_line Transport =
     codes "the connection or the output failed; `head` ends the output early\n"
 query_line fault = call_line fault
 
+-- whether what is said of a query's fault is made for the query
+abbrev pub query_made : Fault → Bool
+query_made (BadSql place) = true
+query_made NotInSubset = true
+query_made LimitReached = true
+query_made fault = false
+
 -- of a query: the place in it, or what it has that is left out
 abbrev pub query_hint : List ℕ → Fault → List ℕ
 query_hint sql (BadSql place) = marked sql place
@@ -94,6 +101,11 @@ put_line fault = call_line fault
 abbrev pub type_line : Option (List ℕ) → List ℕ
 type_line (Some header) = refused_type_line header
 type_line None = column_line None
+
+-- whether what is said of a put's fault is made for what is put
+abbrev pub put_made : Fault → Bool
+put_made UnsupportedArrow = true
+put_made fault = false
 
 -- of a put into a table by a mode, of a stream whose first message has this header
 abbrev pub put_hint : List ℕ → PutMode → Option (List ℕ) → Fault → List ℕ

@@ -3,6 +3,7 @@ pub mod LeftOut
 pub mod InputKinds
 pub mod RefusedTypes
 pub mod Hints
+pub mod HintLines
 pub mod NearNames
 pub mod QueryNames
 pub mod Inquiries

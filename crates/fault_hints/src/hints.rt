@@ -1,12 +1,14 @@
 //! What a client says of a fault on the lines after the fault's own.
 
-ghost use Rattle.std.specs.Prelude.{◌≡◌, IfOk};
+ghost use Rattle.std.specs.Prelude.{◌≡◌, IfErr, IfOk, true};
 ghost use Rattle.fault_hints.specs.Hints.{batch_line, call_line, drop_hint, drop_limit};
 ghost use Rattle.fault_hints.specs.Hints.{expiry_hint, is_bad_name, lent};
-ghost use Rattle.fault_hints.specs.Hints.{put_hint, put_limit, put_line, query_hint, query_limit};
-ghost use Rattle.fault_hints.specs.Hints.{query_line, schema_line, spelling_lines, type_line};
+ghost use Rattle.fault_hints.specs.Hints.{put_hint, put_limit, put_line, put_made, query_hint};
+ghost use Rattle.fault_hints.specs.Hints.{query_limit, query_line, query_made, schema_line};
+ghost use Rattle.fault_hints.specs.Hints.{spelling_lines, type_line};
 ghost use Rattle.fault_hints.specs.Speech.{speech_of};
 
+use crate::hint::Hint;
 use crate::left_out::left_out_lines;
 use crate::marked_lines::marked;
 use crate::question::Question;
@@ -29,18 +31,17 @@ fn call_line(fault: Fault) -> &'static [u8]
 }
 
 // Which limit a query passes.
-fn query_limit(alloc: Global, sql: &str) -> Result<Vec<u8>, AllocError>
-    ensures { IfOk result (λ lines. lines.items ≡ query_limit sql.now) }
+fn query_limit(alloc: Global, sql: &str) -> Result<Hint, AllocError>
+    ensures { IfOk result (λ lines. lines ≡ query_limit sql.now) }
 {
     let len = sql.len();
     if len > MOST_BYTES {
         let line = format!(in alloc; "the query has {len} bytes, and at most 16384 are taken\n")?;
-        return Vec::from_slice(alloc, line.as_bytes());
+        return Ok(Hint::made(Vec::from_slice(alloc, line.as_bytes())?));
     }
-    Vec::from_slice(
-        alloc,
+    Ok(Hint::known(
         b"a query has at most 4 tables, 64 items and names of 64 bytes, an IN 256 values\n",
-    )
+    ))
 }
 
 // What is said of a query's fault whatever the query is.
@@ -68,14 +69,15 @@ fn query_line(fault: Fault) -> &'static [u8]
 }
 
 // Of a query: the place in it, or what it has that is left out.
-fn query_hint(alloc: Global, sql: &str, fault: Fault) -> Result<Vec<u8>, AllocError>
-    ensures { IfOk result (λ lines. lines.items ≡ query_hint sql.now fault) }
+fn query_hint(alloc: Global, sql: &str, fault: Fault) -> Result<Hint, AllocError>
+    ensures ok { IfOk result (λ lines. lines ≡ query_hint sql.now fault) }
+    ensures err { IfErr result (λ _. query_made fault ≡ true) }
 {
     match fault {
-        Fault::BadSql { position } => marked(alloc, sql, position),
-        Fault::NotInSubset => left_out_lines(alloc, sql),
+        Fault::BadSql { position } => Ok(Hint::made(marked(alloc, sql, position)?)),
+        Fault::NotInSubset => Ok(Hint::made(left_out_lines(alloc, sql)?)),
         Fault::LimitReached => query_limit(alloc, sql),
-        _ => Vec::from_slice(alloc, query_line(fault)),
+        _ => Ok(Hint::known(query_line(fault))),
     }
 }
 
@@ -136,14 +138,14 @@ fn put_line(fault: Fault) -> &'static [u8]
 }
 
 // Which type is not taken.
-fn type_line(alloc: Global, header: Option<&[u8]>) -> Result<Vec<u8>, AllocError>
-    ensures { IfOk result (λ lines. lines.items ≡ type_line (lent header.entry)) }
+fn type_line(alloc: Global, header: Option<&[u8]>) -> Result<Hint, AllocError>
+    ensures { IfOk result (λ lines. lines ≡ type_line (lent header.entry)) }
 {
     let line = match header {
         Some(header) => refused_type_line(alloc, header)?,
         None => column_line(alloc, None)?,
     };
-    Vec::from_slice(alloc, line.as_bytes())
+    Ok(Hint::made(Vec::from_slice(alloc, line.as_bytes())?))
 }
 
 // Of a put into a table by a mode, of a stream whose first message has this header.
@@ -153,16 +155,17 @@ fn put_hint(
     mode: PutMode,
     header: Option<&[u8]>,
     fault: Fault,
-) -> Result<Vec<u8>, AllocError>
-    ensures { IfOk result
-        (λ lines. lines.items ≡ put_hint table.now mode (lent header.entry) fault) }
+) -> Result<Hint, AllocError>
+    ensures ok { IfOk result
+        (λ lines. lines ≡ put_hint table.now mode (lent header.entry) fault) }
+    ensures err { IfErr result (λ _. put_made fault ≡ true) }
 {
     match fault {
         Fault::UnsupportedArrow => type_line(alloc, header),
-        Fault::BadBatch => Vec::from_slice(alloc, batch_line(header)),
-        Fault::SchemaMismatch => Vec::from_slice(alloc, schema_line(mode)),
-        Fault::LimitReached => Vec::from_slice(alloc, put_limit(table)),
-        _ => Vec::from_slice(alloc, put_line(fault)),
+        Fault::BadBatch => Ok(Hint::known(batch_line(header))),
+        Fault::SchemaMismatch => Ok(Hint::known(schema_line(mode))),
+        Fault::LimitReached => Ok(Hint::known(put_limit(table))),
+        _ => Ok(Hint::known(put_line(fault))),
     }
 }
 
@@ -212,16 +215,17 @@ fn drop_hint(table: &str, fault: Fault) -> &'static [u8]
 ///
 /// # Errors
 ///
-/// `AllocError` where memory is refused.
-pub fn hint(alloc: Global, question: Question<'_>, fault: Fault) -> Result<Vec<u8>, AllocError>
-    ensures { IfOk result (λ lines. lines.items ≡ (speech_of question.entry).hint fault) }
+/// `AllocError` where lines are made for what was asked, and memory for them is refused.
+pub fn hint(alloc: Global, question: Question<'_>, fault: Fault) -> Result<Hint, AllocError>
+    ensures ok { IfOk result (λ lines. lines ≡ (speech_of question.entry).hint fault) }
+    ensures err { IfErr result (λ _. (speech_of question.entry).made fault ≡ true) }
 {
     match question {
         Question::Rows(sql) => query_hint(alloc, sql, fault),
         Question::Put(table, mode, header) => put_hint(alloc, table, mode, header, fault),
         Question::Records(table, mode, _) => put_hint(alloc, table, mode, Some(&[]), fault),
-        Question::Names => Vec::from_slice(alloc, call_line(fault)),
-        Question::Expiry => Vec::from_slice(alloc, expiry_hint(fault)),
-        Question::Drop(table) => Vec::from_slice(alloc, drop_hint(table, fault)),
+        Question::Names => Ok(Hint::known(call_line(fault))),
+        Question::Expiry => Ok(Hint::known(expiry_hint(fault))),
+        Question::Drop(table) => Ok(Hint::known(drop_hint(table, fault))),
     }
 }
