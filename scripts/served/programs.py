@@ -572,15 +572,21 @@ def separated_fields(run: Run) -> None:
         same("another", (2, True), (status, b"--separator" in said))
 
 
-@case("a client that waits for a seat says so after a second; and a question after a fault waits for two")
+@case("a client that waits for a seat says so after a second: before its answer, and before a put is sent whole")
 def waiting_clients(run: Run) -> None:
+    large = stream(A, [(row,) for row in range(1_000_000)])
     with run.serving("--seats", "1") as server:
         same("put", printed("7 rows"), put(run, server, "t", TRIPS))
         with Connection(server.port):
-            words = [run.path, "tables", "--port", str(server.port)]
-            with subprocess.Popen(words, stdout=subprocess.PIPE, stderr=subprocess.PIPE) as waiting:
-                same("its line", WAITING, waiting.stderr.readline() if waiting.stderr else b"")
-                waiting.terminate()
+            for words, data in ((("tables",), b""), (("put", "--table", "u", "--mode", "create"), large)):
+                typed_words = [run.path, *words, "--port", str(server.port)]
+                pipe = subprocess.PIPE
+                with subprocess.Popen(typed_words, stdin=pipe, stdout=pipe, stderr=pipe) as waiting:
+                    if waiting.stdin and waiting.stderr:
+                        waiting.stdin.write(data)
+                        waiting.stdin.close()
+                        same(f"the line of {words[0]}", WAITING, waiting.stderr.readline())
+                    waiting.terminate()
 
 
 LINES = [[], ["another"], ["--help"], ["put", "--help"], ["pipe", "--parts", "0"], ["pipe", "--parts", "65"],

@@ -13,7 +13,7 @@ use command_line::Request;
 use commands::arguments::refuse_arguments;
 use commands::program_words::read_words;
 use grpc_frame::{CountedEnd, Output};
-use loopback::{Loopback, Port, TellingNetwork};
+use loopback::{Port, TellingLoopback};
 use progress::{Meter, MeteredNetwork};
 use scan_base::HashSeed;
 use std::alloc::Global;
@@ -99,7 +99,7 @@ fn main(rt: HostRuntime) -> ExitCode {
     };
     let meter = tells_progress(&request).then(|| Meter::new(&rt, alloc, rt.stderr()));
     // (both by handles of their own)
-    let sockets = TellingNetwork::new(Loopback::new(&rt), rt.stderr());
+    let sockets = TellingLoopback::new(&rt, rt.stderr());
     let mut network = Network {
         connector: MeteredNetwork::new(sockets, alloc, meter.as_ref()),
         listener: Port::new(&rt),

@@ -8,7 +8,7 @@ mod patient_stream;
 mod silence;
 
 use crate::patient_stream::PatientStream;
-pub use crate::silence::{Await, TellingNetwork, TellingReader};
+pub use crate::silence::{TellingLoopback, TellingStream};
 use command_ends::{AcceptFailure, Connect, Listen, PortLine, SeatView};
 use grpc_frame::{CountedEnd, Output};
 use scan_base::Fault;
@@ -21,7 +21,7 @@ use std::time::{Clock, Duration, Instant};
 const WAIT_SECONDS: u64 = 5;
 
 // A server is waited for so long where a question may stay without an answer.
-const ANSWER_SECONDS: u64 = 2;
+pub(crate) const ANSWER_SECONDS: u64 = 2;
 
 /// The end of a client's stream that is written to. It can look whether the client is still there.
 #[derive(Drop)]
