@@ -8,7 +8,7 @@ ghost use Rattle.fault_hints.specs.Hints.{query_limit, query_line, query_made, s
 ghost use Rattle.fault_hints.specs.Hints.{spelling_lines, type_line};
 ghost use Rattle.fault_hints.specs.Speech.{speech_of};
 
-use crate::hint::Hint;
+use crate::hint_text::HintText;
 use crate::left_out::left_out_lines;
 use crate::marked_lines::marked;
 use crate::question::Question;
@@ -31,15 +31,15 @@ fn call_line(fault: Fault) -> &'static [u8]
 }
 
 // Which limit a query passes.
-fn query_limit(alloc: Global, sql: &str) -> Result<Hint, AllocError>
+fn query_limit(alloc: Global, sql: &str) -> Result<HintText, AllocError>
     ensures { IfOk result (λ lines. lines ≡ query_limit sql.now) }
 {
     let len = sql.len();
     if len > MOST_BYTES {
         let line = format!(in alloc; "the query has {len} bytes, and at most 16384 are taken\n")?;
-        return Ok(Hint::made(Vec::from_slice(alloc, line.as_bytes())?));
+        return Ok(HintText::made(Vec::from_slice(alloc, line.as_bytes())?));
     }
-    Ok(Hint::known(
+    Ok(HintText::known(
         b"a query has at most 4 tables, 64 items and names of 64 bytes, an IN 256 values\n",
     ))
 }
@@ -69,15 +69,15 @@ fn query_line(fault: Fault) -> &'static [u8]
 }
 
 // Of a query: the place in it, or what it has that is left out.
-fn query_hint(alloc: Global, sql: &str, fault: Fault) -> Result<Hint, AllocError>
+fn query_hint(alloc: Global, sql: &str, fault: Fault) -> Result<HintText, AllocError>
     ensures ok { IfOk result (λ lines. lines ≡ query_hint sql.now fault) }
     ensures err { IfErr result (λ _. query_made fault ≡ true) }
 {
     match fault {
-        Fault::BadSql { position } => Ok(Hint::made(marked(alloc, sql, position)?)),
-        Fault::NotInSubset => Ok(Hint::made(left_out_lines(alloc, sql)?)),
+        Fault::BadSql { position } => Ok(HintText::made(marked(alloc, sql, position)?)),
+        Fault::NotInSubset => Ok(HintText::made(left_out_lines(alloc, sql)?)),
         Fault::LimitReached => query_limit(alloc, sql),
-        _ => Ok(Hint::known(query_line(fault))),
+        _ => Ok(HintText::known(query_line(fault))),
     }
 }
 
@@ -138,14 +138,14 @@ fn put_line(fault: Fault) -> &'static [u8]
 }
 
 // Which type is not taken.
-fn type_line(alloc: Global, header: Option<&[u8]>) -> Result<Hint, AllocError>
+fn type_line(alloc: Global, header: Option<&[u8]>) -> Result<HintText, AllocError>
     ensures { IfOk result (λ lines. lines ≡ type_line (lent header.entry)) }
 {
     let line = match header {
         Some(header) => refused_type_line(alloc, header)?,
         None => column_line(alloc, None)?,
     };
-    Ok(Hint::made(Vec::from_slice(alloc, line.as_bytes())?))
+    Ok(HintText::made(Vec::from_slice(alloc, line.as_bytes())?))
 }
 
 // Of a put into a table by a mode, of a stream whose first message has this header.
@@ -155,17 +155,17 @@ fn put_hint(
     mode: PutMode,
     header: Option<&[u8]>,
     fault: Fault,
-) -> Result<Hint, AllocError>
+) -> Result<HintText, AllocError>
     ensures ok { IfOk result
         (λ lines. lines ≡ put_hint table.now mode (lent header.entry) fault) }
     ensures err { IfErr result (λ _. put_made fault ≡ true) }
 {
     match fault {
         Fault::UnsupportedArrow => type_line(alloc, header),
-        Fault::BadBatch => Ok(Hint::known(batch_line(header))),
-        Fault::SchemaMismatch => Ok(Hint::known(schema_line(mode))),
-        Fault::LimitReached => Ok(Hint::known(put_limit(table))),
-        _ => Ok(Hint::known(put_line(fault))),
+        Fault::BadBatch => Ok(HintText::known(batch_line(header))),
+        Fault::SchemaMismatch => Ok(HintText::known(schema_line(mode))),
+        Fault::LimitReached => Ok(HintText::known(put_limit(table))),
+        _ => Ok(HintText::known(put_line(fault))),
     }
 }
 
@@ -216,7 +216,7 @@ fn drop_hint(table: &str, fault: Fault) -> &'static [u8]
 /// # Errors
 ///
 /// `AllocError` where lines are made for what was asked, and memory for them is refused.
-pub fn hint(alloc: Global, question: Question<'_>, fault: Fault) -> Result<Hint, AllocError>
+pub fn hint(alloc: Global, question: Question<'_>, fault: Fault) -> Result<HintText, AllocError>
     ensures ok { IfOk result (λ lines. lines ≡ (speech_of question.entry).hint fault) }
     ensures err { IfErr result (λ _. (speech_of question.entry).made fault ≡ true) }
 {
@@ -224,8 +224,8 @@ pub fn hint(alloc: Global, question: Question<'_>, fault: Fault) -> Result<Hint,
         Question::Rows(sql) => query_hint(alloc, sql, fault),
         Question::Put(table, mode, header) => put_hint(alloc, table, mode, header, fault),
         Question::Records(table, mode, _) => put_hint(alloc, table, mode, Some(&[]), fault),
-        Question::Names => Ok(Hint::known(call_line(fault))),
-        Question::Expiry => Ok(Hint::known(expiry_hint(fault))),
-        Question::Drop(table) => Ok(Hint::known(drop_hint(table, fault))),
+        Question::Names => Ok(HintText::known(call_line(fault))),
+        Question::Expiry => Ok(HintText::known(expiry_hint(fault))),
+        Question::Drop(table) => Ok(HintText::known(drop_hint(table, fault))),
     }
 }

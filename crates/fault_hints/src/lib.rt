@@ -6,7 +6,7 @@
 //! what the server is asked then, and `specs/ServerLines.antt` what is said after that.
 #![tactic(auto)]
 
-pub mod hint;
+pub mod hint_text;
 pub mod hints;
 mod input_kinds;
 pub mod inquiry;
@@ -18,7 +18,7 @@ pub mod question;
 mod refused_types;
 mod server_lines;
 
-pub use crate::hint::Hint;
+pub use crate::hint_text::HintText;
 pub use crate::hints::{hint, spelling_lines};
 pub use crate::input_kinds::input_line;
 pub use crate::inquiry::{Inquiry, inquiry_of};

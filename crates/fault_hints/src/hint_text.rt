@@ -13,11 +13,11 @@ enum HintLines {
 
 /// Lines that are said of a fault. A contract sees their bytes.
 #[derive(Drop)]
-pub struct Hint {
+pub struct HintText {
     lines: HintLines,
 }
 
-impl Model for Hint {
+impl Model for HintText {
     ghost use Rattle.std.specs.Prelude.{List, ℕ};
     ghost use Rattle.fault_hints.specs.HintLines.{bytes_of};
 
@@ -26,21 +26,21 @@ impl Model for Hint {
     ghost view = { λ h. bytes_of h.lines };
 }
 
-impl Hint {
+impl HintText {
     // Lines that stand in the program.
-    pub(crate) fn known(lines: &'static [u8]) -> Hint
+    pub(crate) fn known(lines: &'static [u8]) -> HintText
         ensures { result ≡ lines.now }
     {
-        Hint {
+        HintText {
             lines: HintLines::Known(lines),
         }
     }
 
     // Lines that were made.
-    pub(crate) fn made(lines: Vec<u8>) -> Hint
+    pub(crate) fn made(lines: Vec<u8>) -> HintText
         ensures { result ≡ lines.items }
     {
-        Hint {
+        HintText {
             lines: HintLines::Made(lines),
         }
     }
