@@ -50,7 +50,7 @@ impl HintText {
         ensures { result.now ≡ self.now }
     {
         match &self.lines {
-            HintLines::Known(lines) => lines,
+            HintLines::Known(lines) => *lines,
             HintLines::Made(lines) => lines.as_slice(),
         }
     }
