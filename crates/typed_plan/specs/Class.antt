@@ -44,8 +44,8 @@ literal_class (literal.Number kind number) = number_class kind
 literal_class (literal.Timestamp zeptos) = Moment
 literal_class (literal.Time zeptos) = Clock
 
--- the value of a literal: of a number the number, whatever its type, of a timestamp and a time the
--- zeptoseconds
+-- the value of a literal: of a number the number, whatever its type, and of a timestamp or a time
+-- that stands next to no column of such the zeptoseconds
 abbrev pub literal_value : Literal → Value
 literal_value (literal.Text bytes) = value.Text bytes
 literal_value (literal.Truth flag) = value.Bool flag

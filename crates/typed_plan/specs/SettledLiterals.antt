@@ -1,10 +1,11 @@
 -- A literal of a timestamp or a time next to a column of such: it gets the column's type, and the
 -- number that compares with those of the column as the literal does.
-use Rattle.std.specs.Prelude.{◌≡◌, ℕ, ◌^◌, ◌==◌, map, slice_get, Option, Some, None, Result}
+use Rattle.std.specs.Prelude.{◌≡◌, ℕ, ◌^◌, ◌==◌, Bool, true, false, List, [], ◌∷◌, map}
+use Rattle.std.specs.Prelude.{slice_get, Option, Some, None, Result}
 use Rattle.std.specs.Prelude.{Ok, Err, if◌then◌else◌, ℤ, pos, ◌+ℤ◌, ◌*ℤ◌, ◌<ℤ◌, unsigned_abs}
 use Rattle.std.specs.Prelude.{option_map}
 use Rattle.std.specs.Int.{int_div_euclid, int_rem_euclid}
-use Rattle.std.specs.Ordering.{int_cmp}
+use Rattle.std.specs.Ordering.{int_cmp, int_eq}
 use Rattle.arrow_types.specs.declared.data_type.DataType.{DataType}
 use Rattle.arrow_types.specs.declared.data_type.DataType.TheVariants as type
 use Rattle.arrow_types.specs.declared.data_type.NumberType.{NumberType}
@@ -78,6 +79,50 @@ settled_operand scope comparison (Column (term.Name name)) (Column (term.Literal
     Column (term.Literal (typed_by beside comparison written))
 settled_operand scope comparison other operand = operand
 
+-- whether an operand is a literal that has a type only next to a column
+abbrev pub is_untyped : Operand Term → Bool
+is_untyped (Column (term.Literal (literal.Timestamp zeptos))) = true
+is_untyped (Column (term.Literal (literal.Time zeptos))) = true
+is_untyped other = false
+
+-- ---- a literal on the left of IN
+
+-- the type of the first column among these
+abbrev pub first_type : Scope → List (Operand Term) → Option DataType
+first_type scope [] = None
+first_type scope (Column (term.Name name) ∷ items) = type_of_column scope (column_of scope name)
+first_type scope (item ∷ items) = first_type scope items
+
+-- an operand, which has a type where it is a literal
+abbrev pub operand_by : Option DataType → Operand Term → Operand Term
+operand_by beside (Column (term.Literal written)) =
+    Column (term.Literal (typed_by beside Equal written))
+operand_by beside other = other
+
+-- the number of a literal among the items: the left one's where both say the same, else another
+abbrev pub number_alike : TimeUnit → ℤ → ℤ → ℤ
+number_alike unit left zeptos = if int_eq left zeptos then number_beside Equal unit left
+    else number_beside Equal unit left +ℤ pos 1
+
+-- a literal among the items, where the left one has numbers of a type
+abbrev pub alike : NumberType → Literal → Literal → Literal
+alike (number.Timestamp unit zoned) (literal.Timestamp left) (literal.Timestamp zeptos) =
+    literal.Number (number.Timestamp unit zoned) (number_alike unit left zeptos)
+alike (number.Time unit) (literal.Time left) (literal.Time zeptos) =
+    literal.Number (number.Time unit) (number_alike unit left zeptos)
+alike kind left written = written
+
+-- the same where the first column has a type
+abbrev pub alike_by : Option DataType → Literal → Literal → Literal
+alike_by (Some (type.Number kind)) left written = alike kind left written
+alike_by other left written = written
+
+-- an item, where the first column among the items has this type
+abbrev pub settled_item : Scope → Option DataType → Operand Term → Operand Term → Operand Term
+settled_item scope beside (Column (term.Literal left)) (Column (term.Literal written)) =
+    Column (term.Literal (alike_by beside left written))
+settled_item scope beside left item = settled_operand scope Equal left item
+
 -- ---- predicates
 
 -- the comparison with its sides exchanged
@@ -89,28 +134,60 @@ turned LessOrEqual = GreaterOrEqual
 turned Greater = Less
 turned GreaterOrEqual = LessOrEqual
 
+-- a comparison, with its literals next to columns
+abbrev pub settled_pair : Scope → Comparison → Operand Term → Operand Term → Pred Term
+settled_pair scope comparison left right = comparing comparison
+    (settled_operand scope (turned comparison) right left)
+    (settled_operand scope comparison left right)
+
+-- a predicate, or NOT of it
+abbrev pub negated_pred : {C : Type 0} → Bool → Pred C → Pred C
+negated_pred true predicate = negation predicate
+negated_pred false predicate = predicate
+
+-- BETWEEN, where the left side is a column
+abbrev pub settled_range : Scope → Bool → Operand Term → Operand Term → Operand Term → Pred Term
+settled_range scope negated operand low high = between negated operand
+    (settled_operand scope GreaterOrEqual operand low)
+    (settled_operand scope LessOrEqual operand high)
+
+-- BETWEEN: where the left side is a literal, it is two comparisons
+abbrev pub settled_between : Scope → Bool → Operand Term → Operand Term → Operand Term → Pred Term
+settled_between scope negated operand low high = if is_untyped operand
+    then negated_pred negated (conjunction (settled_pair scope GreaterOrEqual operand low)
+    (settled_pair scope LessOrEqual operand high))
+    else settled_range scope negated operand low high
+
+-- IN: a literal on the left gets the type of the first column among the items
+abbrev pub settled_in : Scope → Bool → Operand Term → List (Operand Term) → Pred Term
+settled_in scope negated operand items =
+    membership negated (operand_by (first_type scope items) operand)
+    (map (settled_item scope (first_type scope items) operand) items)
+
 -- a predicate, with its literals next to columns
 abbrev pub settled : Scope → Pred Term → Pred Term
 settled scope (conjunction p q) = conjunction (settled scope p) (settled scope q)
 settled scope (disjunction p q) = disjunction (settled scope p) (settled scope q)
 settled scope (negation p) = negation (settled scope p)
 settled scope (truth_test negated tested p) = truth_test negated tested (settled scope p)
-settled scope (comparing comparison left right) = comparing comparison
-    (settled_operand scope (turned comparison) right left)
-    (settled_operand scope comparison left right)
-settled scope (between negated operand low high) = between negated operand
-    (settled_operand scope GreaterOrEqual operand low)
-    (settled_operand scope LessOrEqual operand high)
-settled scope (membership negated operand items) =
-    membership negated operand (map (settled_operand scope Equal operand) items)
+settled scope (comparing comparison left right) = settled_pair scope comparison left right
+settled scope (between negated operand low high) = settled_between scope negated operand low high
+settled scope (membership negated operand items) = settled_in scope negated operand items
 settled scope (null_test negated operand) = null_test negated operand
 settled scope (constant truth) = constant truth
 
--- ---- the law
+-- ---- the laws
 
 -- a number of 64 bits compares with the literal's number as its own zeptoseconds do with the
--- literal's
+-- literal's, also with the literal on the left
 abbrev pub ComparesExactly : Comparison → TimeUnit → ℤ → ℤ → Type 0
 ComparesExactly comparison unit number zeptos = number <ℤ no_number →
-    satisfies comparison (int_cmp number (number_beside comparison unit zeptos))
-    ≡ satisfies comparison (int_cmp (number *ℤ pos (zeptos_in unit)) zeptos)
+    (satisfies comparison (int_cmp number (number_beside comparison unit zeptos))
+    ≡ satisfies comparison (int_cmp (number *ℤ pos (zeptos_in unit)) zeptos))
+    × (satisfies comparison (int_cmp (number_beside (turned comparison) unit zeptos) number)
+    ≡ satisfies comparison (int_cmp zeptos (number *ℤ pos (zeptos_in unit))))
+
+-- two literals of one IN are equal as they are written
+abbrev pub AgreesExactly : TimeUnit → ℤ → ℤ → Type 0
+AgreesExactly unit left zeptos = int_eq (number_beside Equal unit left)
+    (number_alike unit left zeptos) ≡ int_eq left zeptos
