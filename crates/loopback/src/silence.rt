@@ -17,7 +17,7 @@ const SILENT_SECONDS: u64 = 1;
 const SILENT: &[u8] = b"waiting: the server is at work, or all its seats are taken\n";
 
 // Says that the server is silent.
-fn tell_silence<E: Write>(faults: E) {
+fn tell_silence<E: Write + Copy>(faults: E) {
     let mut faults = faults;
     let _ = faults.write(SILENT);
 }
