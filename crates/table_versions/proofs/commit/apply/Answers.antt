@@ -9,33 +9,33 @@ no_rows (Ok made) = tt
 no_rows (Err cause) = tt
 
 pub returns-in-Put-clause-batches : goal.returns-in-Put-clause-batches
-returns-in-Put-clause-batches c = rw (← c.change.view_is, c.in-Put.is) c.next_catalog.ensures.exact
+returns-in-Put-clause-batches c = rw (← c.change.view_is, c.in-Put.is) (rw c.in-Put.is at c.next_catalog.ensures.exact)
 
 pub returns-in-Put-clause-rows : goal.returns-in-Put-clause-rows
 returns-in-Put-clause-rows c =
     rw (← c.change.view_is, c.in-Put.is)
-    (gives_tables c.args.catalog.now c.args.above (storing c.in-Put.put) c.next_catalog.result c.next_catalog.ensures.exact)
+    (gives_tables c.args.catalog.now c.args.above (storing c.in-Put.put) c.next_catalog.result (rw c.in-Put.is at c.next_catalog.ensures.exact))
 
 pub returns-in-Put-clause-refused : goal.returns-in-Put-clause-refused
 returns-in-Put-clause-refused c =
     rw (← c.change.view_is, c.in-Put.is)
-    (refuses_rows c.args.catalog.now c.args.above (storing c.in-Put.put) c.next_catalog.result c.next_catalog.ensures.refused)
+    (refuses_rows c.args.catalog.now c.args.above (storing c.in-Put.put) c.next_catalog.result (rw c.in-Put.is at c.next_catalog.ensures.refused))
 
 pub returns-in-Put-clause-typed : goal.returns-in-Put-clause-typed
-returns-in-Put-clause-typed c = rw (← c.change.view_is, c.in-Put.is) c.next_catalog.ensures.typed
+returns-in-Put-clause-typed c = rw (← c.change.view_is, c.in-Put.is) (rw c.in-Put.is at c.next_catalog.ensures.typed)
 
 pub returns-in-Drop-clause-batches : goal.returns-in-Drop-clause-batches
-returns-in-Drop-clause-batches c = rw (← c.change.view_is, c.in-Drop.is) c.dropped.ensures.exact
+returns-in-Drop-clause-batches c = rw (← c.change.view_is, c.in-Drop.is) (rw c.in-Drop.is at c.dropped.ensures.exact)
 
 pub returns-in-Drop-clause-rows : goal.returns-in-Drop-clause-rows
 returns-in-Drop-clause-rows c =
     rw (← c.change.view_is, c.in-Drop.is)
-    (gives_tables c.args.catalog.now c.args.above (removing c.in-Drop.name) c.dropped.result c.dropped.ensures.exact)
+    (gives_tables c.args.catalog.now c.args.above (removing c.in-Drop.name) c.dropped.result (rw c.in-Drop.is at c.dropped.ensures.exact))
 
 pub returns-in-Drop-clause-refused : goal.returns-in-Drop-clause-refused
 returns-in-Drop-clause-refused c =
     rw (← c.change.view_is, c.in-Drop.is)
-    (refuses_rows c.args.catalog.now c.args.above (removing c.in-Drop.name) c.dropped.result c.dropped.ensures.refused)
+    (refuses_rows c.args.catalog.now c.args.above (removing c.in-Drop.name) c.dropped.result (rw c.in-Drop.is at c.dropped.ensures.refused))
 
 pub returns-in-Drop-clause-typed : goal.returns-in-Drop-clause-typed
 returns-in-Drop-clause-typed c = rw (← c.change.view_is, c.in-Drop.is) (no_rows c.dropped.result)
