@@ -1,11 +1,11 @@
 -- Tables without that of a name.
-use Rattle.std.proofs.Common.{◌≡◌, ◌≤◌, ℕ, suc, ◌+◌, Bool, true, false, if◌then◌else◌, List, [], ◌∷◌, ◌++◌, length, map, drop, Option, Some, None, refl, sym, ap, ◌∙◌, arith, append_assoc, append-nil, subst, slice_get}
+use Rattle.std.proofs.Common.{◌≡◌, ◌≤◌, ℕ, suc, ◌+◌, Bool, true, false, if◌then◌else◌, List, [], ◌∷◌, ◌++◌, length, drop, Some, None, refl, sym, ap, ◌∙◌, arith, append_assoc, append-nil, subst, slice_get}
 use Rattle.std.specs.Str.{bytes_eq}
 use Rattle.std.proofs.lemmas.Cmp.{nat_list_eq_equiv}
 use Rattle.std.proofs.lemmas.List.{drop_all}
 use Rattle.table_versions.specs.Table.{Name}
 use Rattle.table_versions.specs.Database.{table_at, without_table}
-use Rattle.table_versions.specs.StoredTables.{TableAt, CatalogAt, table_of, tables_of}
+use Rattle.table_versions.specs.StoredTables.{CatalogAt, table_of, tables_of}
 use Rattle.table_versions.specs.Laws.{DroppedTablesAreAway}
 use Rattle.table_versions.proofs.Databases.{skipped, replaced, apart}
 use Rattle.table_versions.proofs.Places.{split_at}

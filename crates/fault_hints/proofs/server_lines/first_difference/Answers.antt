@@ -19,6 +19,6 @@ pub loop-place-preserved : goal.loop-place-preserved
 loop-place-preserved c =
     let table = c.args.table.now in
     let put = c.args.put.now in
-    let same = is_true _ (sym c.in_ok-differ_at.ensures ∙ c.if-differ_at.false) in
+    let same = is_true _ (sym c.in_ok-differ_at.ensures ∙ c.if-branch.false) in
     c.loop-place.invariant
     ∙ one_less table put c.loop-place.place (max (length table) (length put)) (rw c.max-place-end.ensures at c.loop-place-test.true) same

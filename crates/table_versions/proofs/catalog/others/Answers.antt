@@ -1,4 +1,4 @@
-use Rattle.std.proofs.Common.{◌≡◌, map, arith, length, sym, refl}
+use Rattle.std.proofs.Common.{map, arith, refl}
 use Rattle.std.specs.Arc.{arc_value}
 use Rattle.std.proofs.lemmas.List.{length-map}
 use Rattle.shared_pages.proofs.Lists.{handle_at}

@@ -1,4 +1,4 @@
-use Rattle.std.proofs.Common.{rules, ◌≡◌, ◌≤◌, arith, map, length, sym, subst}
+use Rattle.std.proofs.Common.{rules, ◌≡◌, ◌≤◌, arith, map, length, subst}
 use Rattle.std.specs.Arc.{arc_value}
 use Rattle.table_versions.specs.Table.{Name}
 use Rattle.table_versions.specs.StoredTables.{TableAt}
