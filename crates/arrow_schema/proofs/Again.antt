@@ -157,11 +157,11 @@ childless_again table led =
     let s = short_tables [] in
     rw ((led_vector table 5 [] (omega arith) tt led).0) refl
 
-value_type_again : (table : TableAt) (t : DataType) → scalar_of 1 table 2 0 ≡ Ok (type_number t) → LeadsToBlock table 3 (type_part t) → value_type_of table ≡ Ok (values t)
+value_type_again : (table : TableAt) (t : DataType) → IsType t → scalar_of 1 table 2 0 ≡ Ok (type_number t) → LeadsToBlock table 3 (type_part t) → value_type_of table ≡ Ok (values t)
 unfolding value_type_of table_wanted
-value_type_again table t number led =
+value_type_again table t taken number led =
     let there = kind_there t table number in
-    rw (there.1, number, (row t).known, led_table table 3 (type_part t) led) ((row t).again table.bytes led.place led.stands)
+    rw (there.1, number, (row t).known, led_table table 3 (type_part t) led) ((row t).again taken table.bytes led.place led.stands)
 
 field_again : (field : Field) (bytes : List ℕ) (at : ℕ) → IsField field → Stands (field_part field).bytes bytes at →
     field_in (table_at bytes at (field_part field)) ≡ Ok field
@@ -179,7 +179,7 @@ field_again field bytes at is s =
     let nullable : scalar_of 1 table 1 0 ≡ Ok (flag field.nullable) = reads 1 1 0 (omega arith) (omega arith) in
     let number : scalar_of 1 table 2 0 ≡ Ok (type_number t) = reads 2 1 0 (omega arith) (omega arith) in
     let d = encodes table t is.typed (reads 4) in
-    rw (name, nullable, value_type_again table t number (reads 3), childless_again table (reads 5), d.found, d.says, flag_again field.nullable) refl
+    rw (name, nullable, value_type_again table t is.typed number (reads 3), childless_again table (reads 5), d.found, d.says, flag_again field.nullable) refl
 
 -- ---- schemas
 

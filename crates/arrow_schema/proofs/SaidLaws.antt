@@ -11,6 +11,7 @@ use Rattle.flatbuf.specs.Place.{number_at}
 use Rattle.flatbuf.proofs.Readings.{byte_of, seen_finds, seen_number}
 use Rattle.arrow_types.specs.declared.data_type.DataType.{DataType}
 use Rattle.arrow_types.specs.declared.data_type.DataType.TheVariants.{Number, Utf8, Bool as Flags, Dictionary}
+use Rattle.arrow_types.specs.declared.data_type.NumberType.TheVariants as number
 use Rattle.arrow_types.specs.declared.schema.Field.{Field}
 use Rattle.arrow_types.specs.declared.schema.Schema.{Schema}
 use Rattle.arrow_types.specs.Schema.{IsType, IsField, IsSchema}
@@ -43,6 +44,7 @@ text_utf8 bytes None text r = absurd r
 text_utf8 bytes (Some at) text r = r.there.utf8
 
 plain : (t : DataType) (table : TableAt) → SaysType t table → IsType t
+plain (Number (number.Decimal digits scale)) table says = says.taken
 plain (Number kind) table says = tt
 plain Utf8 table says = tt
 plain Flags table says = tt

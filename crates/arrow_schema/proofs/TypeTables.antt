@@ -1,6 +1,6 @@
 -- The table of each type is read as it is written, and as what it says.
-use Rattle.std.proofs.Common.{◌≡◌, ℕ, ◌≤◌, ◌<◌, ◌==◌, ◌&&◌, not, Bool, true, false, List, [], ◌∷◌, codes, length, Option, Some, None, IsUtf8, Result, Ok, refl, ap, append-nil, arith, sym, subst}
-use Rattle.std.proofs.lemmas.Bool.{and_parts, eq-eqb, eqb-true}
+use Rattle.std.proofs.Common.{◌≡◌, ℕ, ◌≤◌, ◌<◌, ◌==◌, ◌&&◌, nat_le, IsTrue, not, Bool, true, false, List, [], ◌∷◌, codes, length, Option, Some, None, IsUtf8, Result, Ok, refl, ap, append-nil, arith, sym, subst}
+use Rattle.std.proofs.lemmas.Bool.{and_parts, eq-eqb, eqb-true, leb-true, le-leb}
 use Rattle.std.proofs.lemmas.Str.{IsUtf8-from_is_utf8}
 use Rattle.scan_base.specs.declared.fault.Fault.{Fault}
 use Rattle.scan_base.specs.declared.fault.Fault.TheVariants.{UnsupportedArrow}
@@ -21,9 +21,10 @@ use Rattle.arrow_types.specs.declared.data_type.TimeUnit.TheVariants.{Second, Mi
 use Rattle.arrow_types.specs.declared.data_type.DataType.{DataType}
 use Rattle.arrow_types.specs.declared.data_type.DataType.TheVariants.{Number, Utf8, Bool as Flags, Dictionary}
 use Rattle.arrow_types.specs.DataType.{bit_width, is_signed}
+use Rattle.arrow_types.specs.Schema.{IsNumber, IsType}
 use Rattle.arrow_schema.specs.Meanings.{meaning_of}
 use Rattle.arrow_schema.specs.TimeTables.{SaysTimestamp, SaysTime, SaysDuration, unit_number, time_units, is_zone, timestamp_of, timestamp_slots, time_bits, time_of, duration_of}
-use Rattle.arrow_schema.specs.TypeTables.{flag, SaysInteger, SaysDecimal, SaysDate, SaysType, signed_types, unsigned_types, integer_type, integer_of, integer_slots, integer_part, decimal_of, date_of, type_readings, type_written, type_number, type_part, type_of}
+use Rattle.arrow_schema.specs.TypeTables.{flag, SaysInteger, SaysDecimal, SaysDate, SaysType, signed_types, unsigned_types, integer_type, integer_of, integer_slots, integer_part, is_decimal, decimal_of, decimal_slots, date_of, type_readings, type_written, type_number, type_part, type_of}
 use Rattle.arrow_schema.proofs.Readings.{bind_ok, demand_ok, HoldOf, meaning_told, says_scalar, reads_scalar, says_text, reads_text}
 
 -- ---- Int
@@ -111,24 +112,33 @@ integer_row table t is e =
     let f : Number (Integer a.0) ≡ t = cc in
     rw (← f) (refl, integer_told table a.0 is a.1)
 
+-- decimals that there are
+pub decimal_taken : (digits scale : ℕ) → is_decimal digits scale ≡ true → IsNumber (Decimal digits scale)
+decimal_taken digits scale is =
+    let outer = and_parts (nat_le 1 digits) (nat_le digits 38 && nat_le scale digits) is in
+    let inner = and_parts (nat_le digits 38) (nat_le scale digits) outer.1 in
+    (leb-true 1 digits outer.0, (leb-true digits 38 inner.0, leb-true scale digits inner.1))
+
+taken_again : (digits scale : ℕ) → IsNumber (Decimal digits scale) → is_decimal digits scale ≡ true
+taken_again digits scale is = rw (le-leb 1 digits is.0, le-leb digits 38 is.1.0, le-leb scale digits is.1.1) refl
+
 decimal_row : IsTold 7 decimal_of
 unfolding decimal_of
 decimal_row table t is e =
     let a = bind_ok (scalar_of 4 table 0 0) _ t e in
     let b = bind_ok (scalar_of 4 table 1 0) _ t a.2 in
     let c = bind_ok (scalar_of 4 table 2 128) _ t b.2 in
-    let d = bind_ok (demand ((a.0 == 38) && (b.0 == 0) && (c.0 == 128)) UnsupportedArrow) _ t c.2 in
-    let tests = demand_ok ((a.0 == 38) && (b.0 == 0) && (c.0 == 128)) UnsupportedArrow d.0 d.1 in
-    let both = and_parts ((a.0 == 38) && (b.0 == 0)) (c.0 == 128) tests in
-    let first = and_parts (a.0 == 38) (b.0 == 0) both.0 in
+    let d = bind_ok (demand (is_decimal a.0 b.0 && (c.0 == 128)) UnsupportedArrow) _ t c.2 in
+    let both = and_parts (is_decimal a.0 b.0) (c.0 == 128) (demand_ok (is_decimal a.0 b.0 && (c.0 == 128)) UnsupportedArrow d.0 d.1) in
     let last = d.2 in
-    let f : Number Decimal ≡ t = cc in
+    let f : Number (Decimal a.0 b.0) ≡ t = cc in
     rw (← f) (
       refl,
       record {
-        precision = subst (λ (n : ℕ). HasScalar 4 table 0 0 n) (eqb-true a.0 38 first.0) (says_scalar 4 table 0 0 a.0 is a.1);
-        scale = subst (λ (n : ℕ). HasScalar 4 table 1 0 n) (eqb-true b.0 0 first.1) (says_scalar 4 table 1 0 b.0 is b.1);
+        precision = says_scalar 4 table 0 0 a.0 is a.1;
+        scale = says_scalar 4 table 1 0 b.0 is b.1;
         width = subst (λ (n : ℕ). HasScalar 4 table 2 128 n) (eqb-true c.0 128 both.1) (says_scalar 4 table 2 128 c.0 is c.1);
+        taken = decimal_taken a.0 b.0 both.0;
       },
     )
 
@@ -236,24 +246,32 @@ pub record Row (t : DataType) : Type 0 where
   pub short : length (type_part t).bytes ≤ 60
   pub reading : TableAt → Result DataType Fault
   pub known : meaning_of type_readings (type_number t) ≡ Ok reading
-  pub again : (bytes : List ℕ) (at : ℕ) → Stands (type_part t).bytes bytes at → reading (table_at bytes at (type_part t)) ≡ Ok (values t)
+  pub again : IsType t → (bytes : List ℕ) (at : ℕ) → Stands (type_part t).bytes bytes at → reading (table_at bytes at (type_part t)) ≡ Ok (values t)
   pub read : (table : TableAt) → IsBytes table.bytes → SaysType t table → reading table ≡ Ok t
 
-decimal_again : (bytes : List ℕ) (at : ℕ) → Stands (type_part (Number Decimal)).bytes bytes at → decimal_of (table_at bytes at (type_part (Number Decimal))) ≡ Ok (Number Decimal)
-unfolding type_part decimal_of
-decimal_again bytes at s =
-    let slots = (type_written (Number Decimal)).1 in
-    let t = table_at bytes at (table_part slots) in
-    let reads = table_reads slots bytes at (fits_table slots (omega arith) (omega arith)) tt s in
-    let precision : scalar_of 4 t 0 0 ≡ Ok 38 = reads 0 4 0 (omega arith) (omega arith) in
-    let scale : scalar_of 4 t 1 0 ≡ Ok 0 = reads 1 4 0 (omega arith) (omega arith) in
-    let bits : scalar_of 4 t 2 128 ≡ Ok 128 = reads 2 4 128 (omega arith) (omega arith) in
-    rw (precision, scale, bits) refl
-
-decimal_read : (table : TableAt) → IsBytes table.bytes → SaysDecimal table → decimal_of table ≡ Ok (Number Decimal)
+decimal_again : (digits scale : ℕ) → IsNumber (Decimal digits scale) → (bytes : List ℕ) (at : ℕ) → Stands (table_part (decimal_slots digits scale)).bytes bytes at →
+    decimal_of (table_at bytes at (table_part (decimal_slots digits scale))) ≡ Ok (Number (Decimal digits scale))
 unfolding decimal_of
-decimal_read table is says =
-    rw (reads_scalar 4 table 0 0 38 is says.precision, reads_scalar 4 table 1 0 0 is says.scale, reads_scalar 4 table 2 128 128 is says.width) refl
+decimal_again digits scale taken bytes at s =
+    let slots = decimal_slots digits scale in
+    let t = table_at bytes at (table_part slots) in
+    let few = taken.1.0 in
+    let within = taken.1.1 in
+    let reads = table_reads slots bytes at (fits_table slots (omega arith) (omega arith)) tt s in
+    let precision : scalar_of 4 t 0 0 ≡ Ok digits = reads 0 4 0 (omega arith) (omega arith) in
+    let places : scalar_of 4 t 1 0 ≡ Ok scale = reads 1 4 0 (omega arith) (omega arith) in
+    let bits : scalar_of 4 t 2 128 ≡ Ok 128 = reads 2 4 128 (omega arith) (omega arith) in
+    rw (precision, places, bits, taken_again digits scale taken) refl
+
+decimal_read : (digits scale : ℕ) (table : TableAt) → IsBytes table.bytes → SaysDecimal table digits scale → decimal_of table ≡ Ok (Number (Decimal digits scale))
+unfolding decimal_of
+decimal_read digits scale table is says =
+    rw (
+      reads_scalar 4 table 0 0 digits is says.precision,
+      reads_scalar 4 table 1 0 scale is says.scale,
+      reads_scalar 4 table 2 128 128 is says.width,
+      taken_again digits scale says.taken,
+    ) refl
 
 date_again : (bytes : List ℕ) (at : ℕ) → Stands (type_part (Number Date)).bytes bytes at → date_of (table_at bytes at (type_part (Number Date))) ≡ Ok (Number Date)
 unfolding type_part date_of
@@ -376,24 +394,31 @@ row (Number (Integer integer)) = record {
   short = (let s = short_integer integer in omega arith);
   reading = λ table. integer_of table >>= λ integer. Ok (Number (Integer integer));
   known = refl;
-  again = λ bytes at s. rw (integer_again integer bytes at s) refl;
+  again = λ taken bytes at s. rw (integer_again integer bytes at s) refl;
   read = λ table is says. rw (integer_read table integer is says) refl;
 }
-row (Number Decimal) = record { whole = tt; short = (let s = short_table (type_written (Number Decimal)).1 in omega arith); reading = decimal_of; known = refl; again = decimal_again; read = decimal_read }
-row (Number Date) = record { whole = tt; short = (let s = short_table (type_written (Number Date)).1 in omega arith); reading = date_of; known = refl; again = date_again; read = date_read }
+row (Number (Decimal digits scale)) = record {
+  whole = tt;
+  short = (let s = short_table (decimal_slots digits scale) in omega arith);
+  reading = decimal_of;
+  known = refl;
+  again = decimal_again digits scale;
+  read = decimal_read digits scale;
+}
+row (Number Date) = record { whole = tt; short = (let s = short_table (type_written (Number Date)).1 in omega arith); reading = date_of; known = refl; again = λ taken. date_again; read = date_read }
 row (Number (Timestamp unit zoned)) = record {
   whole = whole_timestamp unit zoned;
   short = short_timestamp unit zoned;
   reading = timestamp_of;
   known = refl;
-  again = timestamp_again unit zoned;
+  again = λ taken. timestamp_again unit zoned;
   read = timestamp_read unit zoned;
 }
-row (Number (Time unit)) = record { whole = tt; short = (let s = short_table (time_slots unit) in omega arith); reading = time_of; known = refl; again = time_again unit; read = time_read unit }
-row (Number (Duration unit)) = record { whole = tt; short = (let s = short_table (duration_slots unit) in omega arith); reading = duration_of; known = refl; again = duration_again unit; read = duration_read unit }
-row Utf8 = record { whole = tt; short = (let s = short_table [] in omega arith); reading = λ table. Ok Utf8; known = refl; again = λ bytes at s. refl; read = λ table is says. refl }
-row Flags = record { whole = tt; short = (let s = short_table [] in omega arith); reading = λ table. Ok Flags; known = refl; again = λ bytes at s. refl; read = λ table is says. refl }
-row (Dictionary encoding) = record { whole = tt; short = (let s = short_table [] in omega arith); reading = λ table. Ok Utf8; known = refl; again = λ bytes at s. refl; read = λ table is says. absurd says }
+row (Number (Time unit)) = record { whole = tt; short = (let s = short_table (time_slots unit) in omega arith); reading = time_of; known = refl; again = λ taken. time_again unit; read = time_read unit }
+row (Number (Duration unit)) = record { whole = tt; short = (let s = short_table (duration_slots unit) in omega arith); reading = duration_of; known = refl; again = λ taken. duration_again unit; read = duration_read unit }
+row Utf8 = record { whole = tt; short = (let s = short_table [] in omega arith); reading = λ table. Ok Utf8; known = refl; again = λ taken bytes at s. refl; read = λ table is says. refl }
+row Flags = record { whole = tt; short = (let s = short_table [] in omega arith); reading = λ table. Ok Flags; known = refl; again = λ taken bytes at s. refl; read = λ table is says. refl }
+row (Dictionary encoding) = record { whole = tt; short = (let s = short_table [] in omega arith); reading = λ table. Ok Utf8; known = refl; again = λ taken bytes at s. refl; read = λ table is says. absurd says }
 
 -- the number of a kind is one of a byte that is not 0
 abbrev IsKind : ℕ → (TableAt → Result DataType Fault) → Type 0

@@ -1,7 +1,7 @@
 -- The table of each type in a schema, in the words of Arrow's `Schema.fbs`: what it says, how it is
 -- read, and how it is written. Each list below has one row for a type.
 use Rattle.std.specs.Prelude.{◌≡◌, ℕ, ◌==◌, ◌&&◌, not, Bool, true, false, List, [], ◌∷◌}
-use Rattle.std.specs.Prelude.{Result, Ok}
+use Rattle.std.specs.Prelude.{Result, Ok, nat_le}
 use Rattle.scan_base.specs.declared.fault.Fault.{Fault}
 use Rattle.scan_base.specs.declared.fault.Fault.TheVariants.{UnsupportedArrow}
 use Rattle.scan_base.specs.Reading.{◌>>=◌, demand}
@@ -18,6 +18,7 @@ use Rattle.arrow_types.specs.declared.data_type.DataType.{DataType}
 use Rattle.arrow_types.specs.declared.data_type.DataType.TheVariants.{Number, Utf8, Bool as Flags}
 use Rattle.arrow_types.specs.declared.data_type.DataType.TheVariants.{Dictionary}
 use Rattle.arrow_types.specs.DataType.{bit_width, is_signed}
+use Rattle.arrow_types.specs.Schema.{IsNumber}
 use Rattle.arrow_schema.specs.Meanings.{meaning_of}
 use Rattle.arrow_schema.specs.TimeTables.{SaysTimestamp, SaysTime, SaysDuration}
 use Rattle.arrow_schema.specs.TimeTables.{timestamp_of, time_of, duration_of}
@@ -69,20 +70,30 @@ integer_part integer = table_part (integer_slots integer)
 
 -- ---- Decimal
 
--- a Decimal table: precision 38, scale 0, bitWidth 128, which is the default
-pub record SaysDecimal (table : TableAt) : Type 0 where
-  pub precision : HasScalar 4 table 0 0 38
-  pub scale : HasScalar 4 table 1 0 0
+-- a Decimal table: precision, from 1 to 38, scale, from 0 to the precision, and bitWidth 128, which
+-- is the default
+pub record SaysDecimal (table : TableAt) (digits scale : ℕ) : Type 0 where
+  pub precision : HasScalar 4 table 0 0 digits
+  pub scale : HasScalar 4 table 1 0 scale
   pub width : HasScalar 4 table 2 128 128
+  pub taken : IsNumber (Decimal digits scale)
 
--- what a Decimal table says: 38 digits, none of them after the point, in 128 bits
+-- whether there are decimals of so many digits, so many of them after the point
+abbrev pub is_decimal : ℕ → ℕ → Bool
+is_decimal digits scale = nat_le 1 digits && (nat_le digits 38 && nat_le scale digits)
+
+-- what a Decimal table says: how many digits, and how many after the point, in 128 bits
 unfoldable pub decimal_of : TableAt → Result DataType Fault
 decimal_of table = do
-  precision ← scalar_of 4 table 0 0
+  digits ← scalar_of 4 table 0 0
   scale ← scalar_of 4 table 1 0
   bits ← scalar_of 4 table 2 128
-  _ ← demand ((precision == 38) && (scale == 0) && (bits == 128)) UnsupportedArrow
-  Ok (Number Decimal)
+  _ ← demand (is_decimal digits scale && (bits == 128)) UnsupportedArrow
+  Ok (Number (Decimal digits scale))
+
+-- what is written into a Decimal table
+abbrev pub decimal_slots : ℕ → ℕ → List Given
+decimal_slots digits scale = Scalar digits ∷ Scalar scale ∷ Scalar 128 ∷ []
 
 -- ---- Date
 
@@ -102,7 +113,7 @@ date_of table = do
 -- what the table of a type says; no type's table says a dictionary
 abbrev pub SaysType : DataType → TableAt → Type 0
 SaysType (Number (Integer integer)) table = SaysInteger table integer
-SaysType (Number Decimal) table = SaysDecimal table
+SaysType (Number (Decimal digits scale)) table = SaysDecimal table digits scale
 SaysType (Number Date) table = SaysDate table
 SaysType (Number (Timestamp unit zoned)) table = SaysTimestamp table unit zoned
 SaysType (Number (Time unit)) table = SaysTime table unit
@@ -127,7 +138,7 @@ type_readings = (2, λ table. integer_of table >>= λ integer. Ok (Number (Integ
 -- are the ones of its values.
 abbrev pub type_written : DataType → ℕ × List Given
 type_written (Number (Integer integer)) = (2, integer_slots integer)
-type_written (Number Decimal) = (7, Scalar 38 ∷ Scalar 0 ∷ Scalar 128 ∷ [])
+type_written (Number (Decimal digits scale)) = (7, decimal_slots digits scale)
 type_written (Number Date) = (8, Scalar 0 ∷ [])
 type_written (Number (Timestamp unit zoned)) = (10, timestamp_slots unit zoned)
 type_written (Number (Time unit)) = (9, Scalar (unit_number unit) ∷ Scalar (time_bits unit) ∷ [])

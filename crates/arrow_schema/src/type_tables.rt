@@ -7,6 +7,7 @@ ghost use Rattle.flatbuf.specs.Block.{table_part};
 ghost use Rattle.arrow_types.specs.Schema.{IsType};
 ghost use Rattle.arrow_schema.specs.Fields.{table_wanted};
 ghost use Rattle.arrow_schema.specs.TypeTables.{integer_type, integer_of, decimal_of, date_of};
+ghost use Rattle.arrow_schema.specs.TypeTables.{is_decimal};
 ghost use Rattle.arrow_schema.specs.Meanings.{meaning_of};
 ghost use Rattle.arrow_schema.specs.TimeTables.{is_zone, time_units, timestamp_of};
 ghost use Rattle.arrow_schema.specs.TimeTables.{time_bits, time_of, timestamp_slots, unit_number};
@@ -44,18 +45,27 @@ pub(crate) fn integer(table: &Table<'_>) -> Result<IntegerType, Fault>
     integer_type(signed != 0, bits)
 }
 
-#[tactic(auto, unfolding(crate::specs::TypeTables::decimal_of))]
+// Whether there are decimals of so many digits, so many of them after the point.
+fn is_decimal(digits: u64, scale: u64) -> bool
+    ensures { result ≡ is_decimal digits scale }
+{
+    1 <= digits && (digits <= 38 && scale <= digits)
+}
+
+// A decimal of 128 bits.
+#[tactic(auto, using(crate::proofs::TypeTables::decimal_taken), unfolding(crate::specs::TypeTables::decimal_of))]
 fn decimal(table: &Table<'_>) -> Result<DataType, Fault>
     ensures value { Gives (λ decimal. decimal) result (decimal_of table.now) }
     ensures valid { IfOk result IsType }
 {
-    let precision = table.scalar(0, Width::Four, 0)?;
+    let digits = table.scalar(0, Width::Four, 0)?;
     let scale = table.scalar(1, Width::Four, 0)?;
     let bits = table.scalar(2, Width::Four, 128)?;
-    if precision != 38 || scale != 0 || bits != 128 {
-        return Err(Fault::UnsupportedArrow);
+    if is_decimal(digits, scale) && bits == 128 {
+        Ok(DataType::Number(NumberType::Decimal(digits as u8, scale as u8)))
+    } else {
+        Err(Fault::UnsupportedArrow)
     }
-    Ok(DataType::Number(NumberType::Decimal))
 }
 
 // A date of whole days.
@@ -207,8 +217,13 @@ pub(crate) fn type_block(builder: &Builder, data_type: DataType) -> Result<(u64,
         DataType::Number(NumberType::Integer(integer)) => Ok((2, integer_block(builder, integer)?)),
         DataType::Utf8 | DataType::Dictionary(_) => Ok((5, builder.table(&[])?)),
         DataType::Bool => Ok((6, builder.table(&[])?)),
-        DataType::Number(NumberType::Decimal) => {
-            let slots = [Slot::Number(38), Slot::Number(0), Slot::Number(128)];
+        DataType::Number(NumberType::Decimal(digits, scale)) => {
+            let (digits, scale) = (u64::from(digits), u64::from(scale));
+            let slots = [
+                Slot::Number(digits),
+                Slot::Number(scale),
+                Slot::Number(128),
+            ];
             Ok((7, builder.table(&slots)?))
         }
         DataType::Number(NumberType::Date) => Ok((8, builder.table(&[Slot::Number(0)])?)),

@@ -10,11 +10,11 @@ use Rattle.arrow_types.specs.declared.schema.Field.{Field}
 use Rattle.arrow_types.specs.Schema.{same_dictionary, shares_dictionary, IsType}
 use Rattle.arrow_types.specs.Answer.{answered_at, answered_from}
 
-pub answered_typed : (number : ℕ) (t : DataType) → number ≤ most_columns → IsType (answered_at number t)
-answered_typed number (Number kind) few = tt
-answered_typed number Utf8 few = tt
-answered_typed number Flags few = tt
-answered_typed number (Dictionary encoding) few = omega (arith, few)
+pub answered_typed : (number : ℕ) (t : DataType) → number ≤ most_columns → IsType t → IsType (answered_at number t)
+answered_typed number (Number kind) few is = is
+answered_typed number Utf8 few is = tt
+answered_typed number Flags few is = tt
+answered_typed number (Dictionary encoding) few is = omega (arith, few)
 
 unshared : (number later : ℕ) (t other : DataType) → number < later → shares_dictionary (answered_at number t) (answered_at later other) ≡ false
 unshared number later (Number kind) other low = refl

@@ -1,3 +1,5 @@
 pub mod Answered
 pub mod Plain
+pub mod Floors
+pub mod Scales
 pub mod SameNumber

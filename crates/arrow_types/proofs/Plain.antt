@@ -18,7 +18,7 @@ plain Flags = refl
 plain (Dictionary encoding) = refl
 
 typed : (t : DataType) → IsType t → IsType (copied_type t)
-typed (Number kind) is = tt
+typed (Number kind) is = is
 typed Utf8 is = tt
 typed Flags is = tt
 typed (Dictionary encoding) is = tt

@@ -1,6 +1,6 @@
 -- Types of numbers that are one.
 use Rattle.std.proofs.Common.{◌≡◌, ◌==◌, ◌&&◌, Bool, true, false, refl, ap}
-use Rattle.std.proofs.lemmas.Bool.{and_parts}
+use Rattle.std.proofs.lemmas.Bool.{and_parts, eq-eqb, eqb-true}
 use Rattle.scan_base.specs.Value.{same_flag}
 use Rattle.arrow_types.specs.declared.data_type.TimeUnit.{TimeUnit}
 use Rattle.arrow_types.specs.declared.data_type.TimeUnit.TheVariants.{Second, Millisecond, Microsecond, Nanosecond}
@@ -47,7 +47,9 @@ same_flag_self false = refl
 
 pub same_number_is : (a b : NumberType) → same_number a b ≡ true → a ≡ b
 same_number_is (Integer a) (Integer b) h = ap Integer (same_integer a b h)
-same_number_is Decimal Decimal h = refl
+same_number_is (Decimal digits scale) (Decimal others other) h =
+    let parts = and_parts (digits == others) (scale == other) h in
+    rw (eqb-true digits others parts.0, eqb-true scale other parts.1) refl
 same_number_is Date Date h = refl
 same_number_is (Timestamp a z) (Timestamp b y) h =
     let parts = and_parts (per_second a == per_second b) (same_flag z y) h in
@@ -65,7 +67,7 @@ same_number_self (Integer UInt8) = refl
 same_number_self (Integer UInt16) = refl
 same_number_self (Integer UInt32) = refl
 same_number_self (Integer UInt64) = refl
-same_number_self Decimal = refl
+same_number_self (Decimal digits scale) = rw (eq-eqb digits digits refl) (eq-eqb scale scale refl)
 same_number_self Date = refl
 same_number_self (Timestamp a z) = rw (same_unit_self a) (same_flag_self z)
 same_number_self (Time a) = same_unit_self a

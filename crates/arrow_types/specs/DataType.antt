@@ -60,7 +60,7 @@ time_integer Nanosecond = Int64
 -- time by its unit, a decimal in 128
 abbrev pub cell_of : NumberType → Cell
 cell_of (number.Integer integer) = cell.Integer integer
-cell_of number.Decimal = cell.Wide
+cell_of (number.Decimal digits scale) = cell.Wide
 cell_of number.Date = cell.Integer Int32
 cell_of (number.Timestamp unit zoned) = cell.Integer Int64
 cell_of (number.Time unit) = cell.Integer (time_integer unit)
@@ -70,7 +70,8 @@ cell_of (number.Duration unit) = cell.Integer Int64
 abbrev pub same_number : NumberType → NumberType → Bool
 same_number (number.Integer one) (number.Integer other) =
     bit_width one == bit_width other && same_flag (is_signed one) (is_signed other)
-same_number number.Decimal number.Decimal = true
+same_number (number.Decimal digits scale) (number.Decimal others other) =
+    digits == others && scale == other
 same_number number.Date number.Date = true
 same_number (number.Timestamp one zoned) (number.Timestamp other too) =
     per_second one == per_second other && same_flag zoned too

@@ -1,3 +1,4 @@
 pub mod Answer
 pub mod DataType
+pub mod Scales
 pub mod Schema

@@ -3,7 +3,9 @@ use Rattle.std.specs.Prelude.{◌==◌, ◌≡◌, ℕ, ◌≤◌, ◌<◌, ◌^
 use Rattle.scan_base.specs.Limits.{most_columns, most_name_bytes}
 use Rattle.scan_base.specs.Lists.{repeats}
 use Rattle.arrow_types.specs.declared.data_type.DataType.{DataType}
-use Rattle.arrow_types.specs.declared.data_type.DataType.TheVariants.{Dictionary}
+use Rattle.arrow_types.specs.declared.data_type.DataType.TheVariants.{Number, Dictionary}
+use Rattle.arrow_types.specs.declared.data_type.NumberType.{NumberType}
+use Rattle.arrow_types.specs.declared.data_type.NumberType.TheVariants.{Decimal}
 use Rattle.arrow_types.specs.declared.schema.Field.{Field}
 use Rattle.arrow_types.specs.declared.schema.Schema.{Schema}
 
@@ -22,8 +24,14 @@ pub record IsName (name : List ℕ) : Type 0 where
   pub few : length name ≤ most_name_bytes
   pub utf8 : IsUtf8 name
 
--- a dictionary's id is a number of 64 bits
+-- a decimal has 1 to 38 digits, of which all or fewer stand after the point
+abbrev pub IsNumber : NumberType → Type 0
+IsNumber (Decimal digits scale) = (1 ≤ digits) × ((digits ≤ 38) × (scale ≤ digits))
+IsNumber _ = Unit {0}
+
+-- so is a column's type, and a dictionary's id is a number of 64 bits
 abbrev pub IsType : DataType → Type 0
+IsType (Number kind) = IsNumber kind
 IsType (Dictionary encoding) = encoding.id < 2 ^ 64
 IsType _ = Unit {0}
 

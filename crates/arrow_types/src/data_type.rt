@@ -45,12 +45,14 @@ pub enum TimeUnit {
     Nanosecond,
 }
 
-/// The types whose values are whole numbers, in whose order they stand. A decimal is one of 38
-/// digits with none after the point. A date is a number of whole days from 1970-01-01 on.
+/// The types whose values are whole numbers, in whose order they stand. A date is a number of whole
+/// days from 1970-01-01 on.
 #[derive(Clone, Copy, Debug, PartialEq, Eq)]
 pub enum NumberType {
     Integer(IntegerType),
-    Decimal,
+    /// Numbers of so many digits, of which so many stand after the point: 1250 is 12.50 where two
+    /// do.
+    Decimal(u8, u8),
     Date,
     /// How many of the unit have passed since 1970-01-01 00:00:00, and whether the type has a zone:
     /// then that is said of UTC.
@@ -160,7 +162,7 @@ impl NumberType {
     {
         match self {
             NumberType::Integer(integer) => Cell::Integer(integer),
-            NumberType::Decimal => Cell::Wide,
+            NumberType::Decimal(_, _) => Cell::Wide,
             NumberType::Date => Cell::Integer(IntegerType::Int32),
             NumberType::Timestamp(_, _) => Cell::Integer(IntegerType::Int64),
             NumberType::Time(unit) => Cell::Integer(unit.time_integer()),
@@ -176,7 +178,9 @@ impl NumberType {
             (NumberType::Integer(one), NumberType::Integer(other)) => {
                 one.bit_width() == other.bit_width() && one.is_signed() == other.is_signed()
             }
-            (NumberType::Decimal, NumberType::Decimal) => true,
+            (NumberType::Decimal(digits, scale), NumberType::Decimal(others, other)) => {
+                digits == others && scale == other
+            }
             (NumberType::Date, NumberType::Date) => true,
             (NumberType::Timestamp(one, zoned), NumberType::Timestamp(other, too)) => {
                 one.per_second() == other.per_second() && zoned == too

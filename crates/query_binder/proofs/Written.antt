@@ -45,15 +45,15 @@ use Rattle.typed_plan.proofs.TypedNames.{then_none}
 -- the name is the alias where there is one
 field_answered : (place : ℕ) (field : Field) (alias : Option Name) → place ≤ most_columns → IsField field → IsNameIfThere alias →
     IsField (record (answered_field place field) { name = unwrap_or alias field.name })
-field_answered place field None few f a = record { named = f.named; typed = answered_typed place field.data_type few }
-field_answered place field (Some name) few f a = record { named = a; typed = answered_typed place field.data_type few }
+field_answered place field None few f a = record { named = f.named; typed = answered_typed place field.data_type few f.typed }
+field_answered place field (Some name) few f a = record { named = a; typed = answered_typed place field.data_type few f.typed }
 
 -- the types of what is selected
 item_type : Scope → Expression → DataType
 item_type scope (Column name) = unwrap_or (option_map type_in (slice_get scope (numbered scope name))) Utf8
 item_type scope CountRows = Number (Integer Int64)
 item_type scope (Count name) = Number (Integer Int64)
-item_type scope (Sum name) = Number Decimal
+item_type scope (Sum name) = Number (Decimal 38 0)
 
 list_types : (scope : Scope) (place : ℕ) (items : List SelectItem) →
     types_of (list_fields scope place items) ≡ answered_from place (map (λ item. item_type scope item.expression) items)

@@ -51,7 +51,7 @@ numbered_fields : (number : ℕ) (fields : List Field) → number + length field
 numbered_fields number [] few all = All-nil IsField
 numbered_fields number (field ∷ fields) few all =
     let one : IsField field = All-head IsField field fields all in
-    All-cons IsField (answered_field number field) (numbered_from (number + 1) fields) (record { named = one.named; typed = answered_typed number field.data_type (omega (arith, few)) })
+    All-cons IsField (answered_field number field) (numbered_from (number + 1) fields) (record { named = one.named; typed = answered_typed number field.data_type (omega (arith, few)) one.typed })
     (numbered_fields (number + 1) fields (omega (arith, few)) (All-tail IsField field fields all))
 
 -- so may all
