@@ -8,4 +8,5 @@ pub mod TypeWords
 pub mod MomentTexts
 pub mod LiteralNames
 pub mod MomentForms
+pub mod DecimalForms
 pub mod Back

@@ -1,3 +1,4 @@
+pub mod DecimalTexts
 pub mod Dates
 pub mod DateText
 pub mod LiteralWords

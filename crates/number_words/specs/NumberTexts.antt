@@ -1,8 +1,9 @@
 -- How numbers of a type are written and read.
-use Rattle.std.specs.Prelude.{◌≡◌, ℕ, ◌^◌, ◌&&◌, Bool, true, false, nat_lt, List, [], ◌∷◌, ◌++◌}
-use Rattle.std.specs.Prelude.{codes, IsTrue}
+use Rattle.std.specs.Prelude.{◌≡◌, ℕ, zero, ◌/◌, ◌%◌, ◌+◌, ◌^◌, ◌==◌, ◌&&◌, Bool, true, false}
+use Rattle.std.specs.Prelude.{nat_lt, List, [], ◌∷◌, ◌++◌, codes, IsTrue, if◌then◌else◌}
 use Rattle.std.specs.Prelude.{ℤ, unsigned_abs, Option, Some, None, option_map, unwrap_or}
 use Rattle.std.specs.Fmt.{signed_decimal}
+use Rattle.std.specs.Str.{byte}
 use Rattle.arrow_types.specs.declared.data_type.IntegerType.TheVariants.{Int8, Int16, Int32, Int64}
 use Rattle.arrow_types.specs.declared.data_type.IntegerType.TheVariants.{UInt8, UInt16, UInt32}
 use Rattle.arrow_types.specs.declared.data_type.IntegerType.TheVariants.{UInt64}
@@ -12,13 +13,25 @@ use Rattle.arrow_types.specs.declared.data_type.NumberType.TheVariants.{Timestam
 use Rattle.arrow_types.specs.declared.data_type.TimeUnit.TheVariants.{Second, Millisecond}
 use Rattle.arrow_types.specs.declared.data_type.TimeUnit.TheVariants.{Microsecond, Nanosecond}
 use Rattle.arrow_types.specs.DataType.{cell_of}
+use Rattle.arrow_types.specs.Scales.{has_digits}
 use Rattle.number_words.specs.Dates.{day_in}
 use Rattle.number_words.specs.DateText.{date_within, has_date}
+use Rattle.number_words.specs.DecimalTexts.{scaled_in, scaled_within}
 use Rattle.number_words.specs.Moments.{time_said, timestamp_in}
 use Rattle.number_words.specs.MomentText.{day_at, is_time, time_within, timestamp_within}
 use Rattle.number_words.specs.WholeNumbers.{holds, kept_in, decimal_in}
 
 -- ---- words
+
+-- a number below 100 in digits, the first of which is no zero if there are two
+abbrev pub in_digits : ℕ → List ℕ
+in_digits number = if nat_lt number 10 then (byte "0" + number % 10) ∷ []
+    else (byte "0" + number / 10 % 10) ∷ (byte "0" + number % 10) ∷ []
+
+-- the word for decimals of so many digits, so many of them after the point
+abbrev pub decimal_word : ℕ → ℕ → List ℕ
+decimal_word digits scale =
+    codes "decimal_" ++ (in_digits digits ++ (codes "_" ++ in_digits scale))
 
 -- the word for a type
 abbrev pub word : NumberType → List ℕ
@@ -30,7 +43,8 @@ word (Integer UInt8) = codes "uint8"
 word (Integer UInt16) = codes "uint16"
 word (Integer UInt32) = codes "uint32"
 word (Integer UInt64) = codes "uint64"
-word Decimal = codes "decimal"
+word (Decimal digits scale) = if (digits == 38) && (scale == 0) then codes "decimal"
+    else decimal_word digits scale
 word Date = codes "date"
 word (Timestamp Second false) = codes "timestamp_s"
 word (Timestamp Millisecond false) = codes "timestamp_ms"
@@ -51,7 +65,7 @@ word (Duration Nanosecond) = codes "duration_ns"
 
 -- how a column of a text is spelled, with the words of all types, for people
 abbrev pub spelling_line : List ℕ
-spelling_line = codes "'a:int8, b:utf8?': int8..int64, uint8..uint64, decimal, date, "
+spelling_line = codes "'a:int8, b:utf8?': int8..int64, uint8..uint64, decimal[_12_2], date, "
     ++ codes "timestamp[tz][_s|_ms|_ns], time[..], duration[..], bool or utf8\n"
 
 -- the word before a literal of a type; an integer, a decimal and a duration have none
@@ -63,17 +77,18 @@ keyword _ = None
 
 -- the types that a text may be of, in the order in which they are tried
 abbrev pub types_tried : List NumberType
-types_tried = Integer Int64 ∷ Decimal ∷ Date
+types_tried = Integer Int64 ∷ Decimal 38 0 ∷ Date
     ∷ Timestamp Microsecond false ∷ Timestamp Nanosecond false
     ∷ Timestamp Microsecond true ∷ Timestamp Nanosecond true
     ∷ Time Microsecond ∷ Time Nanosecond ∷ []
 
 -- ---- what is printed
 
--- what a type has for a number in the place of its decimal: a date, and a timestamp, in the years
--- 1 to 9999, and a time of a day
+-- what a type has for a number in the place of its digits: a date, and a timestamp, in the years 1
+-- to 9999, a time of a day, and a decimal with digits after the point
 abbrev pub form_of : NumberType → ℤ → Option (List ℕ)
 form_of Date day = date_within day
+form_of (Decimal digits scale) number = scaled_within scale number
 form_of (Timestamp unit zoned) number = timestamp_within unit zoned number
 form_of (Time unit) number = time_within unit number
 form_of _ number = None
@@ -95,24 +110,38 @@ literal_text kind number =
 
 -- ---- what is read
 
--- the number that a text says: a day, a moment or a time in its unit, or a whole number
+-- the decimal of a scale that a text says: without a point, if none of its digits stands after one
+abbrev pub decimal_said : ℕ → List ℕ → Option ℤ
+decimal_said zero text = decimal_in text
+decimal_said scale text = scaled_in scale text
+
+-- the number that a text says: a day, a moment or a time in its unit, a decimal of its scale, or a
+-- whole number
 abbrev pub number_said : NumberType → List ℕ → Option ℤ
 number_said Date text = day_in text
 number_said (Timestamp unit zoned) text = timestamp_in unit zoned text
 number_said (Time unit) text = time_said unit text
+number_said (Decimal digits scale) text = decimal_said scale text
 number_said _ text = decimal_in text
 
--- the number that a text says, if a cell of the type holds it
+-- the number, if it has no more digits than its type
+abbrev pub with_digits : NumberType → Option ℤ → Option ℤ
+with_digits kind None = None
+with_digits kind (Some number) = if has_digits kind number then Some number else None
+
+-- the number that a text says, if the type has it
 abbrev pub number_read : NumberType → List ℕ → Option ℤ
-number_read kind text = kept_in (cell_of kind) (number_said kind text)
+number_read kind text = kept_in (cell_of kind) (with_digits kind (number_said kind text))
 
 -- ---- laws
 
--- whether a text may say the number: it lies in the years 1 to 9999 or in a day, or is below 10^38
+-- whether a text may say the number: it lies in the years 1 to 9999 or in a day, has no more digits
+-- than its type, or is below 10^38
 abbrev pub is_sayable : NumberType → ℤ → Bool
 is_sayable Date day = has_date day
 is_sayable (Timestamp unit zoned) number = has_date (day_at unit number)
 is_sayable (Time unit) number = is_time unit number
+is_sayable (Decimal digits scale) number = has_digits (Decimal digits scale) number
 is_sayable _ number = nat_lt (unsigned_abs number) (10 ^ 38)
 
 -- the day of a number: that of a timestamp, and the number of any other type

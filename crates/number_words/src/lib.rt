@@ -2,6 +2,7 @@
 #![tactic(auto)]
 
 mod calendar;
+mod decimal_text;
 pub mod laws;
 mod literal_words;
 mod moment;
@@ -11,6 +12,7 @@ mod whole_number;
 mod words;
 
 pub use crate::calendar::day_in;
+pub use crate::decimal_text::parts_in;
 pub use crate::literal_words::tokens;
 pub use crate::moment::{time_zeptos, zeptos_said};
 pub use crate::number_text::NumberText;

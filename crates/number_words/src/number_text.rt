@@ -5,6 +5,7 @@ ghost use Rattle.std.specs.Fmt.{signed_decimal};
 ghost use Rattle.number_words.specs.NumberTexts.{form_of, literal_text, shown, worded};
 
 use crate::calendar::{FORM_BYTES, date_of};
+use crate::decimal_text::scaled_within;
 use crate::keyword;
 use crate::moment::{time_of, timestamp_of};
 use arrayvec::ArrayString;
@@ -16,7 +17,7 @@ use itoa::Buffer;
 pub struct NumberText {
     decimal: Buffer,
     form: Option<ArrayString<FORM_BYTES>>,
-    literal: Option<ArrayString<56>>,
+    literal: Option<ArrayString<96>>,
 }
 
 impl NumberText {
@@ -29,8 +30,8 @@ impl NumberText {
         }
     }
 
-    /// What is printed of a number: what its type has in the place of its decimal, as the date of a
-    /// day, or else its decimal.
+    /// What is printed of a number: what its type has in the place of its digits, as the date of a
+    /// day, or else its digits.
     pub fn shown(&mut self, kind: NumberType, number: i128) -> &str
         ensures { result.now ≡ shown kind number }
     {
@@ -60,12 +61,13 @@ fn form_of(kind: NumberType, number: i128) -> Option<ArrayString<FORM_BYTES>>
         NumberType::Date => date_of(number),
         NumberType::Timestamp(unit, zoned) => timestamp_of(unit, zoned, number),
         NumberType::Time(unit) => time_of(unit, number),
-        NumberType::Integer(_) | NumberType::Decimal | NumberType::Duration(_) => None,
+        NumberType::Decimal(_, scale) => scaled_within(scale, number),
+        NumberType::Integer(_) | NumberType::Duration(_) => None,
     }
 }
 
 // A number after the word of its type.
-fn worded(word: &str, kind: NumberType, number: i128) -> ArrayString<56>
+fn worded(word: &str, kind: NumberType, number: i128) -> ArrayString<96>
     requires { length word.now ≤ 12 }
     ensures { result.bytes ≡ worded word.now number (form_of kind number) }
 {
@@ -76,9 +78,9 @@ fn worded(word: &str, kind: NumberType, number: i128) -> ArrayString<56>
 }
 
 // A form in quotes, after a word.
-fn in_quotes(word: &str, form: &str) -> ArrayString<56>
+fn in_quotes(word: &str, form: &str) -> ArrayString<96>
     requires word { length word.now ≤ 12 }
-    requires form { length form.now ≤ 30 }
+    requires form { length form.now ≤ 80 }
     ensures { result.bytes ≡ word.now ++ (codes " '" ++ (form.now ++ codes "'")) }
 {
     let mut text = ArrayString::new();
@@ -90,7 +92,7 @@ fn in_quotes(word: &str, form: &str) -> ArrayString<56>
 }
 
 // A number in brackets, after a word.
-fn in_brackets(word: &str, number: i128) -> ArrayString<56>
+fn in_brackets(word: &str, number: i128) -> ArrayString<96>
     requires { length word.now ≤ 12 }
     ensures { result.bytes ≡ word.now ++ (codes "(" ++ (signed_decimal number ++ codes ")")) }
 {

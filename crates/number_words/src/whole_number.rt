@@ -8,8 +8,8 @@ ghost use Rattle.sql_text.specs.Values.{number_of};
 use arrow_types::{Cell, IntegerType};
 use sql_text::{Token, TokenKind};
 
-// The value of digits alone, if it is below 10^38: that of a literal in a query.
-fn digits_in(text: &str) -> Option<i128>
+/// The value of digits alone, if it is below 10^38: that of a literal in a query.
+pub(crate) fn digits_in(text: &str) -> Option<i128>
     ensures value { result ≡ number_of text.now }
     ensures sign { IfSome result (λ number. pos 0 ≤ℤ number) }
 {

@@ -21,14 +21,14 @@ use Rattle.scan_base.specs.Predicate.{conjunction, disjunction, negation}
 use Rattle.grammar.specs.Rule.{many, make}
 use Rattle.grammar.proofs.Deep.{flat_alike}
 use Rattle.sql_query.specs.declared.query.Term.{Term}
-use Rattle.sql_parse.specs.Productions.{name, column, minus, digits, literal_after, date, number, string, literal, operand}
+use Rattle.sql_parse.specs.Productions.{name, column, minus, unsigned, fraction, digits, literal_after, date, number, string, literal, operand}
 use Rattle.sql_parse.specs.Productions.{compare}
 use Rattle.sql_parse.specs.Notation.{Condition}
 use Rattle.sql_parse.specs.Productions.{negated}
 use Rattle.sql_parse.specs.PredicateProductions.{truth_value, conj, pred, inner}
 use Rattle.sql_parse.specs.Notation.{a_word, a_symbol, ◌⊳◌, ◌⊲◌}
 use Rattle.sql_parse.specs.FactoredGrammar.{compared, nulled, ranged, among, tail, forms, primary, test, factor_by_operand}
-use Rattle.sql_parse.specs.Steps.{at, token_at, name_at, column_at, minus_at, given, digits_at, literal_after_at, number_at}
+use Rattle.sql_parse.specs.Steps.{at, token_at, name_at, column_at, minus_at, given, digits_at, fraction_at, unsigned_at, literal_after_at, number_at}
 use Rattle.sql_parse.specs.Steps.{literal_at, operand_at, compare_at}
 use Rattle.sql_parse.specs.PredicateSteps.{negated_at, truth_at, compared_at, nulled_at, ranged_at}
 use Rattle.sql_parse.specs.PredicateSteps.{operands_at, among_at, tail_at, factor_at, ands_at, conj_at, ors_at, pred_at}
@@ -100,9 +100,17 @@ date_same : (D : Nest) (ts : List Mark) → seen (reads D date ts) ≡ literal_a
 unfolding date
 date_same D ts = literal_after_same word.Date D date_token ts
 
+fraction_same : (D : Nest) (ts : List Mark) → seen (reads D fraction ts) ≡ fraction_at ts
+unfolding fraction fraction_at token_at
+fraction_same D ts = simp (flat, seen_kept)
+
+unsigned_same : (D : Nest) (ts : List Mark) → seen (reads D unsigned ts) ≡ unsigned_at ts
+unfolding unsigned unsigned_at token_at at
+unsigned_same D ts = simp (flat, digits_same, fraction_same)
+
 number_same : (D : Nest) (ts : List Mark) → seen (reads D number ts) ≡ number_at ts
 unfolding number number_at token_at
-number_same D ts = simp (flat, minus_same, digits_same)
+number_same D ts = simp (flat, minus_same, unsigned_same)
 
 pub column_starts : (ts : List Mark) → begins (starts column) ts ≡ at is_name ts
 unfolding column name at
@@ -162,7 +170,7 @@ unfolding among at
 among_starts ts = refl
 
 among_flat : (D : Nest) (ts : List Mark) → reads D among ts ≡ reads None among ts
-unfolding among literal operand column name number minus digits date string
+unfolding among literal operand column name number minus unsigned fraction digits date string
 among_flat D ts = flat_alike D None among refl ts
 
 among_first : (n : Bool) (a : Operand Term) (ts : List Mark) →
@@ -266,13 +274,13 @@ pub nil_after : {A : Type 0} (xs ys : List A) (x : A) → (xs ++ x ∷ []) ++ ys
 nil_after xs ys x = append_assoc xs (x ∷ []) ys
 
 operand_made : well_made (a_symbol symbol.Comma ⊳ operand) ≡ true
-unfolding literal operand column name number minus digits date string same_symbol same_word number_of unquoted days_from_civil day_count days_of_years days_of_months
+unfolding literal operand column name number minus unsigned fraction digits date string same_symbol same_word number_of unquoted days_from_civil day_count days_of_years days_of_months
     clock_in fraction_in moment_in time_in
 operand_made = refl
 
 operands_flat : (D : Nest) (ts : List Mark) →
     reads D (many (a_symbol symbol.Comma ⊳ operand)) ts ≡ reads None (many (a_symbol symbol.Comma ⊳ operand)) ts
-unfolding literal operand column name number minus digits date string
+unfolding literal operand column name number minus unsigned fraction digits date string
 operands_flat D ts = flat_alike D None (many (a_symbol symbol.Comma ⊳ operand)) refl ts
 
 pub operands_step : (front : List (Operand Term)) (ts : List Mark) →

@@ -1,5 +1,6 @@
 -- The grammar of operands, production by production.
-use Rattle.std.specs.Prelude.{Bool, true, false, ℕ, ℤ, neg_ℤ, List, Option, Some, None, option_map}
+use Rattle.std.specs.Prelude.{Bool, true, false, ℕ, ◌-◌, ◌^◌, ◌==◌, ℤ, pos, ◌-ℤ◌, neg_ℤ, List}
+use Rattle.std.specs.Prelude.{Option, Some, None, option_map, unwrap_or, if◌then◌else◌}
 use Rattle.arrow_types.specs.declared.data_type.NumberType.TheVariants.{Decimal, Date}
 use Rattle.scan_base.specs.declared.comparison.Comparison.{Comparison}
 use Rattle.scan_base.specs.declared.comparison.Comparison.TheVariants as comparison
@@ -12,8 +13,10 @@ use Rattle.grammar.specs.Rule.{one, empty, both, either, make}
 use Rattle.sql_query.specs.declared.query.ColumnName.{ColumnName}
 use Rattle.sql_query.specs.declared.query.Literal.{Literal}
 use Rattle.sql_query.specs.declared.query.Literal.TheVariants.{Text, Truth, Number, Timestamp, Time}
+use Rattle.sql_query.specs.declared.query.Literal.TheVariants.{Fraction}
 use Rattle.sql_query.specs.declared.query.Term.{Term}
 use Rattle.sql_query.specs.declared.query.Term.TheVariants as term
+use Rattle.number_words.specs.DecimalTexts.{parts_in}
 use Rattle.number_words.specs.NumberTexts.{number_read}
 use Rattle.number_words.specs.Moments.{time_zeptos, zeptos_said}
 use Rattle.sql_text.specs.Words.{is_name}
@@ -52,9 +55,25 @@ signed false number = number
 unfoldable pub digits : Of ℤ
 digits = one is_digits (λ t. numeral t.0 t.1.1) digits_token
 
--- [ "+" | "-" ] digits
-unfoldable pub number : Of ℤ
-number = make (λ p. signed p.0 p.1) (both minus digits)
+-- digits after a point, as parts of which a whole has 10^38
+unfoldable pub fraction : Of ℕ
+fraction = one is_digits (λ t. parts_in t.1.1) digits_token
+
+-- digits [ "." digits ]
+unfoldable pub unsigned : Of (ℤ × ℕ)
+unsigned = make (λ p. (p.0, unwrap_or p.1 0))
+    (both digits (maybe (a_symbol symbol.Period ⊳ fraction)))
+
+-- the literal of a sign, of wholes and of parts of one more; one that is whole is a decimal
+abbrev pub number_literal : Bool → ℤ → ℕ → Literal
+number_literal negative whole part =
+    if part == 0 then Number (Decimal 38 0) (signed negative whole)
+    else (if negative then Fraction (neg_ℤ whole -ℤ pos 1) (10 ^ 38 - part)
+    else Fraction whole part)
+
+-- [ "+" | "-" ] digits [ "." digits ]
+unfoldable pub number : Of Literal
+number = make (λ p. number_literal p.0 p.1.0 p.1.1) (both minus unsigned)
 
 -- a text in single quotes
 unfoldable pub string : Of (List ℕ)
@@ -82,7 +101,7 @@ literal = either date
     (either (literal_after word.Timestamp timestamp_token)
     (either (literal_after word.Time time_token) (either (make Text string)
     (either (word_for word.True (Truth true)) (either (word_for word.False (Truth false))
-    (make (Number Decimal) number))))))
+    number)))))
 
 -- column | literal
 unfoldable pub operand : Of (Operand Term)

@@ -1,7 +1,6 @@
 -- Inside: what the parser of names, numbers and operands answers, step by step.
 use Rattle.std.specs.Prelude.{ℕ, Bool, true, false, if◌then◌else◌, List, length, Option}
 use Rattle.std.specs.Prelude.{Some, None, Ok, Err, ℤ}
-use Rattle.arrow_types.specs.declared.data_type.NumberType.TheVariants.{Decimal}
 use Rattle.scan_base.specs.declared.comparison.Comparison.{Comparison}
 use Rattle.scan_base.specs.declared.comparison.Comparison.TheVariants as comparison
 use Rattle.scan_base.specs.declared.predicate.Operand.{Operand}
@@ -13,7 +12,7 @@ use Rattle.sql_text.specs.declared.token.TokenKind.{TokenKind}
 use Rattle.grammar.specs.Reading.{begins, token}
 use Rattle.sql_query.specs.declared.query.ColumnName.{ColumnName}
 use Rattle.sql_query.specs.declared.query.Literal.{Literal}
-use Rattle.sql_query.specs.declared.query.Literal.TheVariants.{Text, Truth, Number}
+use Rattle.sql_query.specs.declared.query.Literal.TheVariants.{Text, Truth}
 use Rattle.sql_query.specs.declared.query.Term.{Term}
 use Rattle.sql_query.specs.declared.query.Term.TheVariants as term
 use Rattle.sql_parse.specs.declared.refusal.Refusal.TheVariants as refusal
@@ -21,7 +20,8 @@ use Rattle.sql_text.specs.Words.{is_name}
 use Rattle.sql_parse.specs.Tokens.{Mark, is_word, is_symbol, is_string, is_digits, value_of}
 use Rattle.sql_parse.specs.Tokens.{number_in}
 use Rattle.sql_parse.specs.Answers.{Answer, seen, ◌>>=◌}
-use Rattle.sql_parse.specs.Productions.{column_name, literal_said, signed}
+use Rattle.number_words.specs.DecimalTexts.{parts_in}
+use Rattle.sql_parse.specs.Productions.{column_name, literal_said, number_literal}
 
 unfoldable pub at : (TokenKind → Bool) → List Mark → Bool
 at p ts = begins p ts
@@ -62,11 +62,24 @@ digits_at ts = do
   t ← token_at is_digits ts
   given (number_in t.0) ts t.1
 
-unfoldable pub number_at : List Mark → Answer ℤ
+unfoldable pub fraction_at : List Mark → Answer ℕ
+fraction_at ts = do
+  t ← token_at is_digits ts
+  given (parts_in t.0.1.1) ts t.1
+
+unfoldable pub unsigned_at : List Mark → Answer (ℤ × ℕ)
+unsigned_at ts = do
+  n ← digits_at ts
+  if at (is_symbol symbol.Period) n.1 then (do
+    d ← token_at (is_symbol symbol.Period) n.1
+    f ← fraction_at d.1
+    Ok ((n.0, f.0), f.1)) else Ok ((n.0, 0), n.1)
+
+unfoldable pub number_at : List Mark → Answer Literal
 number_at ts = do
   m ← minus_at ts
-  n ← digits_at m.1
-  Ok (signed m.0 n.0, n.1)
+  n ← unsigned_at m.1
+  Ok (number_literal m.0 n.0.0 n.0.1, n.1)
 
 unfoldable pub literal_after_at : Keyword → List Mark → Answer Literal
 literal_after_at before ts = do
@@ -85,9 +98,7 @@ literal_at ts =
         t ← token_at (is_word word.True) ts
         Ok (Truth true, t.1)) else (if at (is_word word.False) ts then (do
           t ← token_at (is_word word.False) ts
-          Ok (Truth false, t.1)) else (do
-            n ← number_at ts
-            Ok (Number Decimal n.0, n.1)))))))
+          Ok (Truth false, t.1)) else number_at ts)))))
 
 unfoldable pub operand_at : List Mark → Answer (Operand Term)
 operand_at ts =

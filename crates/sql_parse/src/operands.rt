@@ -1,15 +1,15 @@
 //! Names, literals and comparisons.
 
-ghost use Rattle.std.specs.Prelude.{◌≡◌, ◌<◌, ◌≤◌, ◌≤ℤ◌, pos, IfOk};
+ghost use Rattle.std.specs.Prelude.{◌≡◌, ◌<◌, ◌≤◌, ◌^◌, ◌≤ℤ◌, pos, IfOk};
 ghost use Rattle.sql_parse.specs.Answers.{Gives};
 ghost use Rattle.sql_parse.specs.Calls.{unread, remaining};
-ghost use Rattle.sql_parse.specs.Productions.{literal_said};
+ghost use Rattle.sql_parse.specs.Productions.{literal_said, number_literal};
 ghost use Rattle.sql_parse.specs.Steps as steps;
 
 use crate::refusal::Refusal;
 use crate::tokens::{Class, Rest};
-use arrow_types::NumberType;
-use number_words::{read, time_zeptos, zeptos_said};
+use arrow_types::{MOST_DIGITS, NumberType};
+use number_words::{parts_in, read, time_zeptos, zeptos_said};
 use scan_base::{Comparison, Operand, Text};
 use sql_query::{ColumnName, Literal, Term};
 use sql_text::{Keyword, Symbol};
@@ -80,15 +80,66 @@ fn digits<'t>(tokens: Rest<'t>) -> Result<(i128, Rest<'t>), Refusal>
     }
 }
 
-// [ "+" | "-" ] digits
+// How many parts a whole has.
+const WHOLE: u128 = 100_000_000_000_000_000_000_000_000_000_000_000_000;
+
+// digits after a point, as parts of a whole
+#[tactic(auto, unfolding(crate::specs::Steps::fraction_at))]
+fn fraction<'t>(tokens: Rest<'t>) -> Result<(u128, Rest<'t>), Refusal>
+    ensures exact { Gives (λ x. (x.0, unread x.1)) result (steps.fraction_at (unread tokens.entry)) }
+    ensures shorter { IfOk result (λ x. remaining x.1 < remaining tokens.entry) }
+    ensures small { IfOk result (λ x. x.0 < 10 ^ 38) }
+{
+    let (token, rest) = tokens.take(Class::Digits)?;
+    match parts_in(token.text) {
+        Some(part) => Ok((part, rest)),
+        None => Err(Refusal::Offends(tokens.tokens.len())),
+    }
+}
+
+// digits [ "." digits ]: the whole number, and the parts of one more
+#[tactic(auto, unfolding(crate::specs::Steps::unsigned_at))]
+fn unsigned<'t>(tokens: Rest<'t>) -> Result<((i128, u128), Rest<'t>), Refusal>
+    ensures exact { Gives (λ x. (x.0, unread x.1)) result (steps.unsigned_at (unread tokens.entry)) }
+    ensures shorter { IfOk result (λ x. remaining x.1 < remaining tokens.entry) }
+    ensures positive { IfOk result (λ x. pos 0 ≤ℤ x.0.0) }
+    ensures small { IfOk result (λ x. x.0.1 < 10 ^ 38) }
+{
+    let (whole, rest) = digits(tokens)?;
+    if rest.at(Class::Symbol(Symbol::Period)) {
+        let (_, rest) = rest.take(Class::Symbol(Symbol::Period))?;
+        let (part, rest) = fraction(rest)?;
+        Ok(((whole, part), rest))
+    } else {
+        Ok(((whole, 0), rest))
+    }
+}
+
+// The literal of a sign, of wholes and of parts of one more.
+fn number_literal(negative: bool, whole: i128, part: u128) -> Literal
+    requires positive { pos 0 ≤ℤ whole }
+    requires small { part < 10 ^ 38 }
+    ensures { result ≡ number_literal negative whole part }
+{
+    if part == 0 {
+        let number = if negative { -whole } else { whole };
+        Literal::Number(NumberType::Decimal(MOST_DIGITS, 0), number)
+    } else if negative {
+        Literal::Fraction(-whole - 1, WHOLE - part)
+    } else {
+        Literal::Fraction(whole, part)
+    }
+}
+
+// [ "+" | "-" ] digits [ "." digits ]
 #[tactic(auto, unfolding(crate::specs::Steps::number_at))]
-fn signed_number<'t>(tokens: Rest<'t>) -> Result<(i128, Rest<'t>), Refusal>
+fn number<'t>(tokens: Rest<'t>) -> Result<(Literal, Rest<'t>), Refusal>
     ensures exact { Gives (λ x. (x.0, unread x.1)) result (steps.number_at (unread tokens.entry)) }
     ensures shorter { IfOk result (λ x. remaining x.1 < remaining tokens.entry) }
 {
     let (negative, rest) = minus(tokens)?;
-    let (number, rest) = digits(rest)?;
-    Ok((if negative { -number } else { number }, rest))
+    let ((whole, part), rest) = unsigned(rest)?;
+    Ok((number_literal(negative, whole, part), rest))
 }
 
 // a word and a string, where the string says a literal
@@ -145,8 +196,7 @@ fn literal<'t>(alloc: Global, tokens: Rest<'t>) -> Result<(Literal, Rest<'t>), R
         let (_, rest) = tokens.take(Class::Word(Keyword::False))?;
         Ok((Literal::Truth(false), rest))
     } else {
-        let (number, rest) = signed_number(tokens)?;
-        Ok((Literal::Number(NumberType::Decimal, number), rest))
+        number(tokens)
     }
 }
 

@@ -30,9 +30,12 @@ pub enum Literal {
     Text(Text),
     /// `TRUE` or `FALSE`
     Truth(bool),
-    /// A number of a type: of Decimal what a sign and digits say, of another type what the string
-    /// after its word says.
+    /// A number of a type: of decimals without digits after the point what a sign and digits say, of
+    /// another type what the string after its word says.
     Number(NumberType, i128),
+    /// What a sign, digits, a point and digits say, rounded down to a whole number, and so many parts
+    /// of one more. A whole has 10^38. Next to a column it gets the column's type.
+    Fraction(i128, u128),
     /// What the string after `TIMESTAMP` says, in zeptoseconds since 1970-01-01 00:00:00. A second
     /// has 10^21. Next to a column it gets the column's type.
     Timestamp(i128),

@@ -7,8 +7,8 @@ ghost use Rattle.number_words.specs.DateText.{DayReadsBack, date_text, date_with
 use arrayvec::ArrayString;
 use jiff_core::civil::Date;
 
-/// The most bytes of a number's form: those of a timestamp of nanoseconds with a zone.
-pub(crate) const FORM_BYTES: usize = 30;
+/// The most bytes of a number's form: a sign, two numbers and a point.
+pub(crate) const FORM_BYTES: usize = 80;
 
 /// The date of a day as `yyyy-mm-dd`, where 1970-01-01 is 0. `None` outside the years 0001 to 9999.
 /// It takes no memory.
