@@ -106,7 +106,7 @@ high_bound z h = grind (arith, ints)
 low_bound : (z : ℤ) → z ≤ℤ neg_ℤ no_decimal → bounded z ≡ neg_ℤ no_decimal
 low_bound z h = grind (arith, ints)
 
-no_bound : (z : ℤ) → neg_ℤ no_decimal ≤ℤ z → z <ℤ no_decimal → bounded z ≡ z
+pub no_bound : (z : ℤ) → neg_ℤ no_decimal ≤ℤ z → z <ℤ no_decimal → bounded z ≡ z
 no_bound z low high = grind (arith, ints)
 
 -- how far the wholes and the parts of a step are from the bounds

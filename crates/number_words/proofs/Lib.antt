@@ -8,5 +8,6 @@ pub mod TypeWords
 pub mod MomentTexts
 pub mod LiteralNames
 pub mod MomentForms
+pub mod DecimalDigits
 pub mod DecimalForms
 pub mod Back

@@ -13,7 +13,7 @@ use Rattle.number_words.specs.DateText.{date_of}
 use Rattle.number_words.specs.Moments.{clock_in, fraction_in, moment_in, time_in}
 use Rattle.number_words.specs.MomentText.{timestamp_text}
 use Rattle.number_words.specs.WholeNumbers.{kept_in}
-use Rattle.number_words.specs.NumberTexts.{form_of, literal_text, number_read, shown, worded}
+use Rattle.number_words.specs.NumberTexts.{form_of, literal_text, number_read, shown, word, worded}
 use Rattle.number_words.proofs.Texts.{texts_are_dates}
 
 -- ---- texts that are a date
@@ -104,7 +104,7 @@ pub before_literal : literal_text Date (negsuc 719162) ≡ codes "DATE(-719163)"
 unfolding digits
 before_literal = ap (worded (codes "DATE") (negsuc 719162)) before_form
 
-number_literal : literal_text Decimal (pos 36893488147419103230) ≡ codes "36893488147419103230"
+number_literal : literal_text (Decimal 38 0) (pos 36893488147419103230) ≡ codes "36893488147419103230"
 unfolding digits
 number_literal = refl
 
@@ -127,13 +127,60 @@ unfolding number_of
 plus = refl
 
 -- zeros in front, and a number of 39 digits
-zeros : number_read Decimal (codes "-007") ≡ Some (negsuc 6)
+zeros : number_read (Decimal 38 0) (codes "-007") ≡ Some (negsuc 6)
 unfolding number_of
 zeros = refl
 
-too_long : number_read Decimal (codes "100000000000000000000000000000000000000") ≡ None
+too_long : number_read (Decimal 38 0) (codes "100000000000000000000000000000000000000") ≡ None
 unfolding number_of
 too_long = refl
+
+-- ---- decimals with digits after the point
+
+fare : number_read (Decimal 12 2) (codes "12.50") ≡ Some (pos 1250)
+unfolding number_of
+fare = refl
+
+whole_fare : number_read (Decimal 12 2) (codes "12") ≡ Some (pos 1200)
+unfolding number_of
+whole_fare = refl
+
+below_0 : number_read (Decimal 12 2) (codes "-0.05") ≡ Some (negsuc 4)
+unfolding number_of
+below_0 = refl
+
+-- a digit that the scale has not, a point without digits, and more digits than the type has
+mill : number_read (Decimal 12 2) (codes "12.505") ≡ None
+unfolding number_of
+mill = refl
+
+zeros_after : number_read (Decimal 12 2) (codes "12.5000") ≡ Some (pos 1250)
+unfolding number_of
+zeros_after = refl
+
+only_a_point : number_read (Decimal 12 2) (codes "12.") ≡ None
+unfolding number_of
+only_a_point = refl
+
+too_many_digits : number_read (Decimal 4 2) (codes "100.00") ≡ None
+unfolding number_of
+too_many_digits = refl
+
+fare_shown : shown (Decimal 12 2) (pos 1250) ≡ codes "12.50"
+unfolding digits
+fare_shown = refl
+
+below_0_shown : literal_text (Decimal 12 2) (negsuc 4) ≡ codes "-0.05"
+unfolding digits
+below_0_shown = refl
+
+-- ---- words
+
+decimal_38 : word (Decimal 38 0) ≡ codes "decimal"
+decimal_38 = refl
+
+decimal_12 : word (Decimal 12 2) ≡ codes "decimal_12_2"
+decimal_12 = refl
 
 -- ---- timestamps
 

@@ -1,6 +1,6 @@
 -- How numbers of a type are written and read.
 use Rattle.std.specs.Prelude.{◌≡◌, ℕ, zero, ◌/◌, ◌%◌, ◌+◌, ◌^◌, ◌==◌, ◌&&◌, Bool, true, false}
-use Rattle.std.specs.Prelude.{nat_lt, List, [], ◌∷◌, ◌++◌, codes, IsTrue, if◌then◌else◌}
+use Rattle.std.specs.Prelude.{nat_le, nat_lt, List, [], ◌∷◌, ◌++◌, codes, IsTrue, if◌then◌else◌}
 use Rattle.std.specs.Prelude.{ℤ, unsigned_abs, Option, Some, None, option_map, unwrap_or}
 use Rattle.std.specs.Fmt.{signed_decimal}
 use Rattle.std.specs.Str.{byte}
@@ -141,7 +141,8 @@ abbrev pub is_sayable : NumberType → ℤ → Bool
 is_sayable Date day = has_date day
 is_sayable (Timestamp unit zoned) number = has_date (day_at unit number)
 is_sayable (Time unit) number = is_time unit number
-is_sayable (Decimal digits scale) number = has_digits (Decimal digits scale) number
+is_sayable (Decimal digits scale) number =
+    nat_le scale 38 && has_digits (Decimal digits scale) number
 is_sayable _ number = nat_lt (unsigned_abs number) (10 ^ 38)
 
 -- the day of a number: that of a timestamp, and the number of any other type
