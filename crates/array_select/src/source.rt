@@ -67,7 +67,7 @@ impl Source for Option<i128> {
 
     ghost IsThere = { λ _. Unit {0} };
 
-    ghost IsOf = { λ data_type _. data_type ≡ type.Number number.Decimal };
+    ghost IsOf = { λ data_type _. data_type ≡ type.Number (number.Decimal 38 0) };
 
     fn value(&self) -> ValueRef<'_> {
         match self {

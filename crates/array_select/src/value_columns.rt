@@ -12,7 +12,7 @@ ghost use Rattle.array_select.specs.ColumnValues.{value_or_null};
 
 use crate::slot_filling::fill_column;
 use arrays::Column;
-use arrow_types::{DataType, IntegerType, NumberType};
+use arrow_types::{DataType, IntegerType, MOST_DIGITS, NumberType};
 use std::alloc::{AllocError, Global};
 
 /// A column of Int64 of these values, null where there is none.
@@ -43,10 +43,10 @@ pub fn column_of_int64s(alloc: Global, values: &[Option<i64>]) -> Result<Column,
 pub fn column_of_decimals(alloc: Global, values: &[Option<i128>]) -> Result<Column, AllocError>
     ensures values { IfOk result
         (λ column. values_of column ≡ map (value_or_null value.Int) values.now) }
-    ensures typed { IfOk result (λ column. IsOfType (type.Number number.Decimal) column.layout) }
+    ensures typed { IfOk result (λ column. IsOfType (type.Number (number.Decimal 38 0)) column.layout) }
     ensures long { IfOk result (λ column. column.len ≡ length values.now) }
 {
-    fill_column(alloc, DataType::Number(NumberType::Decimal), values)
+    fill_column(alloc, DataType::Number(NumberType::Decimal(MOST_DIGITS, 0)), values)
 }
 
 /// A column of truth values, null where there is none.

@@ -1,11 +1,11 @@
 -- Numbers with digits after the point, in steps of a scale.
-use Rattle.std.proofs.Common.{◌≡◌, ℕ, zero, suc, ◌+◌, ◌-◌, ◌*◌, ◌/◌, ◌%◌, ◌^◌, ◌<◌, ◌≤◌, ℤ, pos, negsuc, ◌+ℤ◌, ◌*ℤ◌, ◌<ℤ◌, ◌≤ℤ◌, neg_ℤ, refl, sym, ap, ◌∙◌, subst, arith, mul_assoc, mul_comm, suc-mul, mul-le-mul_right, mod-lt, div-add-mod', inl, inr}
+use Rattle.std.proofs.Common.{◌≡◌, ℕ, zero, suc, ◌+◌, ◌-◌, ◌*◌, ◌/◌, ◌%◌, ◌^◌, ◌<◌, ◌≤◌, ℤ, pos, negsuc, ◌+ℤ◌, ◌*ℤ◌, ◌<ℤ◌, ◌≤ℤ◌, neg_ℤ, refl, sym, ap, ◌∙◌, subst, arith, mul_assoc, mul_comm, suc-mul, mul-le-mul_right, mod-lt, div-add-mod', add-mul, mul-add-mod_right, inl, inr}
 use Rattle.std.proofs.Math.{mul-add-div_right}
 use Rattle.std.proofs.Math.Nat.{pow-le-pow_right}
 use Rattle.std.proofs.lemmas.Bool.{cases_lt}
 use Rattle.std.proofs.lemmas.Int.{ints}
-use Rattle.std.proofs.lemmas.Nat.{div-mul-add}
-use Rattle.std.specs.Int.{int_div_euclid}
+use Rattle.std.proofs.lemmas.Nat.{div-mul-add, mod-mul-add}
+use Rattle.std.specs.Int.{int_div_euclid, int_rem_euclid}
 use Rattle.std.specs.Prelude.{min}
 use lib.Pow.{pow-add}
 use Rattle.arrow_types.specs.Scales.{no_decimal, parts_of, step_of, bounded, scaled}
@@ -72,6 +72,26 @@ quotient a b (negsuc n) p some low = below
         ∙ ap negsuc (quotient_above a b n (b * a - 1 - p) some ∙ ap (λ (m : ℕ). n * b + m) (rest a b p some low))
         ∙ sym right
 
+-- and what is left
+pub remainder : (a b : ℕ) (whole : ℤ) (p : ℕ) → 0 < a → p < b * a →
+    int_rem_euclid (whole *ℤ pos (b * a) +ℤ pos p) (pos a) ≡ pos (p % a)
+remainder a b (pos n) p some low = ap pos (ap (λ (m : ℕ). (m + p) % a) (sym (mul_assoc n b a)) ∙ mul-add-mod_right (n * b) a p)
+remainder a b (negsuc n) p some low =
+    let left : negsuc n *ℤ pos (b * a) +ℤ pos p ≡ negsuc (n * (b * a) + (b * a - 1 - p)) = omega (arith, ints, suc-mul n (b * a), low) in
+    let few = low_quotient a b p low in
+    let under = mod-lt p some in
+    let turned : (n * (b * a) + (b * a - 1 - p)) % a ≡ a - 1 - p % a =
+    ap (λ (m : ℕ). m % a) (turned_parts a b n p some low) ∙ mod-mul-add (n * b + (b - 1 - p / a)) a (a - 1 - p % a) (omega (arith, some)) in
+    ap (λ (z : ℤ). int_rem_euclid z (pos a)) left ∙ ap pos (omega (arith, turned, under))
+  where
+    turned_parts : (a b n p : ℕ) → 0 < a → p < b * a → n * (b * a) + (b * a - 1 - p) ≡ (n * b + (b - 1 - p / a)) * a + (a - 1 - p % a)
+    turned_parts a b n p some low =
+        let few = low_quotient a b p low in
+        let whole : b ≡ (b - 1 - p / a) + p / a + 1 = omega (arith, few) in
+        let parts : b * a ≡ (b - 1 - p / a) * a + p / a * a + a = ap (λ (m : ℕ). m * a) whole ∙ product (b - 1 - p / a) (p / a) a in
+        let sum : (n * b + (b - 1 - p / a)) * a ≡ n * b * a + (b - 1 - p / a) * a = add-mul (n * b) (b - 1 - p / a) a in
+        omega (arith, parts, sum, mul_assoc n b a, div-add-mod' p a, mod-lt p some)
+
 -- ---- decimals of a scale
 
 -- a scale of more than 38 digits is one of 38
@@ -96,6 +116,16 @@ floor_is scale whole part =
     rw (cap.step, cap.min) (
       ap (λ (n : ℕ). int_div_euclid (whole *ℤ pos n +ℤ pos (part % 10 ^ 38)) (pos (step_of cap.s))) (sym same)
       ∙ quotient (step_of cap.s) (10 ^ cap.s) whole (part % 10 ^ 38) (tens (38 - cap.s)) (omega (arith, same, mod-lt part (tens 38)))
+    )
+
+-- what is left of a number is what is left of its parts
+pub rest_is : (scale : ℕ) (whole : ℤ) (part : ℕ) → int_rem_euclid (parts_of whole part) (pos (step_of scale)) ≡ pos (part % 10 ^ 38 % step_of scale)
+rest_is scale whole part =
+    let cap = capped scale in
+    let same = steps cap.s cap.few in
+    rw cap.step (
+      ap (λ (n : ℕ). int_rem_euclid (whole *ℤ pos n +ℤ pos (part % 10 ^ 38)) (pos (step_of cap.s))) (sym same)
+      ∙ remainder (step_of cap.s) (10 ^ cap.s) whole (part % 10 ^ 38) (tens (38 - cap.s)) (omega (arith, same, mod-lt part (tens 38)))
     )
 
 -- ---- bounds

@@ -12,7 +12,7 @@ use Rattle.std.specs.Prelude.{Ok, Err}
 use Rattle.arrow_types.specs.declared.data_type.DataType.{DataType}
 use Rattle.arrow_types.specs.declared.data_type.DataType.TheVariants as type
 use Rattle.arrow_types.specs.declared.schema.Field.{Field}
-use Rattle.arrow_types.specs.Schema.{IsField}
+use Rattle.arrow_types.specs.Schema.{IsField, IsType}
 use Rattle.csv_columns.specs.Refusals.{IsText, WhyNoColumn, WhyNoColumns, WhyNoFields, WhyNoName}
 use Rattle.csv_columns.specs.SpelledColumns.{mark_of, spelled, word_of}
 use Rattle.csv_columns.specs.inside.Marks.{IsUnmarked}
@@ -50,13 +50,13 @@ pub without_colon : (text front : List ℕ) (nullable : Truth) → text ≡ fron
 without_colon text front nullable cut unmarked none =
     inr (inl (refl, λ column says. has_colon front column (front_of text front nullable column cut unmarked says.0) none))
 
-pub without_word : (text front : List ℕ) (nullable : Truth) (at : ℕ) → IsCut text front nullable at → ((data_type : DataType) → behind front at ≢ word_of data_type) → WhyNoColumn text BadBatch
+pub without_word : (text front : List ℕ) (nullable : Truth) (at : ℕ) → IsCut text front nullable at → ((data_type : DataType) → IsType data_type → behind front at ≢ word_of data_type) → WhyNoColumn text BadBatch
 without_word text front nullable at cut none =
     inr (inl (
       refl,
       λ column says.
           let parts = cut_is front at column (front_of text front nullable column cut.text_is cut.unmarked says.0) cut.low cut.colon cut.last in
-          none column.data_type (take_all _ _ (omega (arith, length-drop (at + 1) front)) ∙ parts.1),
+          none column.data_type says.1.0 (take_all _ _ (omega (arith, length-drop (at + 1) front)) ∙ parts.1),
     ))
 
 -- a name and a word around the colon spell the text
@@ -67,20 +67,20 @@ said_again text front name nullable at data_type cut is word =
 
 -- a name that is none
 pub without_name : (text front : List ℕ) (nullable : Truth) (at : ℕ) (data_type : DataType) (fault : Fault) → IsCut text front nullable at → behind front at ≡ word_of data_type
-    → WhyNoName (take at front) fault → WhyNoColumn text fault
-without_name text front nullable at data_type fault cut word why = elim why [
+    → IsType data_type → WhyNoName (take at front) fault → WhyNoColumn text fault
+without_name text front nullable at data_type fault cut word there why = elim why [
   | inl memory ↦ inl memory
   | inr other ↦ elim other [
     | inl none ↦ inr (inl (
       none.0,
       λ column says.
           let parts = cut_is front at column (front_of text front nullable column cut.text_is cut.unmarked says.0) cut.low cut.colon cut.last in
-          none.1 (subst IsText (sym parts.0) says.1),
+          none.1 (subst IsText (sym parts.0) says.1.1),
     ))
     | inr long ↦
         let column : Field = record { name = take at front; nullable = nullable; data_type = data_type } in
         let says : spelled column ≡ text = said_again text front (take at front) nullable at data_type cut refl word in
-        inr (inr (long.0, (column, (says, long.1), long.2)))
+        inr (inr (long.0, (column, (says, (there, long.1)), long.2)))
   ]
 ]
 

@@ -5,6 +5,7 @@ use Rattle.std.proofs.lemmas.Bool.{true≢false}
 use Rattle.arrow_types.specs.declared.data_type.DataType.{DataType}
 use Rattle.arrow_types.specs.declared.data_type.DataType.TheVariants.{Number, Utf8, Bool, Dictionary}
 use Rattle.arrow_types.specs.declared.data_type.NumberType.{NumberType}
+use Rattle.arrow_types.specs.Schema.{IsNumber, IsType}
 use Rattle.number_words.specs.NumberTexts.{word}
 use Rattle.number_words.proofs.TypeWords.{is_plain, plain_word}
 use Rattle.csv_columns.specs.SpelledColumns.{word_of}
@@ -24,8 +25,8 @@ pub no_mark : (byte : ℕ) → is_plain byte ≡ true → byte ≢ 63
 no_mark byte plain e = true≢false (sym plain ∙ ap is_plain e)
 
 -- a text that is no word of these is that of no type
-pub none_named : (text : List ℕ) → text ≢ codes "utf8" → text ≢ codes "bool" → ((kind : NumberType) → text ≢ word kind) → (t : DataType) → text ≢ word_of t
-none_named text texts flags numbers (Number kind) = numbers kind
-none_named text texts flags numbers Utf8 = texts
-none_named text texts flags numbers Bool = flags
-none_named text texts flags numbers (Dictionary encoding) = texts
+pub none_named : (text : List ℕ) → text ≢ codes "utf8" → text ≢ codes "bool" → ((kind : NumberType) → IsNumber kind → text ≢ word kind) → (t : DataType) → IsType t → text ≢ word_of t
+none_named text texts flags numbers (Number kind) is = numbers kind is
+none_named text texts flags numbers Utf8 is = texts
+none_named text texts flags numbers Bool is = flags
+none_named text texts flags numbers (Dictionary encoding) is = texts

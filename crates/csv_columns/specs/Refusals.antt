@@ -5,7 +5,7 @@ use Rattle.scan_base.specs.declared.fault.Fault.{Fault}
 use Rattle.scan_base.specs.declared.fault.Fault.TheVariants.{BadBatch, LimitReached, OutOfMemory}
 use Rattle.scan_base.specs.Limits.{most_columns, most_name_bytes}
 use Rattle.arrow_types.specs.declared.schema.Field.{Field}
-use Rattle.arrow_types.specs.Schema.{IsField}
+use Rattle.arrow_types.specs.Schema.{IsField, IsType}
 use Rattle.csv_columns.specs.SpelledColumns.{spelled}
 
 -- a text of a byte or more
@@ -20,9 +20,10 @@ WhyNoName bytes fault =
     ⊎ ((fault ≡ BadBatch) × ¬ IsText bytes)
     ⊎ ((fault ≡ LimitReached) × IsText bytes × (most_name_bytes < length bytes))
 
--- a field spells a column, whose name is a text of any length
+-- a field spells a column of a type that there is, whose name is a text of any length
 abbrev pub SpellsLong : List ℕ → Field → Type 0
-SpellsLong text column = (spelled column ≡ text) × IsText column.name
+SpellsLong text column =
+    (spelled column ≡ text) × (IsType column.data_type × IsText column.name)
 
 -- a field spells a column
 abbrev pub SpellsOne : List ℕ → Type 0

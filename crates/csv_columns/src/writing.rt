@@ -25,6 +25,7 @@ fn spelling(alloc: Global, column: &Field) -> Result<String, AllocError>
 {
     let name = column.name.as_str();
     let word = word_for(column.data_type);
+    let word = word.as_str();
     let mark = mark_for(column.nullable);
     format!(in alloc; "{name}:{word}{mark}")
 }

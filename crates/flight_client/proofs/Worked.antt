@@ -25,7 +25,7 @@ sql_status = (λ e. cc, inl sql)
 
 -- one column a
 abbrev column_a : Schema
-column_a = record { fields = record { name = codes "a"; nullable = true; data_type = Number Decimal } ∷ [] }
+column_a = record { fields = record { name = codes "a"; nullable = true; data_type = Number (Decimal 38 0) } ∷ [] }
 
 -- and texts of that name
 abbrev texts_a : Schema

@@ -139,10 +139,10 @@ counted_column answer item from to slice column are is ordered within values typ
 pub summed_column : (answer : GroupRows) (item from to summed : ℕ) (slice : List Tally) (column : ColumnAt) → AreTallies answer item slice →
     get_or answer.items.now item (Key 0) ≡ Sum summed → from ≤ to → to ≤ length (groups_in answer).found →
     values_of column ≡ map (λ (tally : Tally). if tally.count == 0 then Null else Int tally.sum) (take (to - from) (drop from slice)) →
-    IsOfType (Number Decimal) column.layout → column.len ≡ to - from →
+    IsOfType (Number (Decimal 38 0)) column.layout → column.len ≡ to - from →
     IsItemColumn (groups_in answer) item from (to - from) column
 summed_column answer item from to summed slice column are is ordered within values typed long =
-    tally_column (groups_in answer) item from to slice (λ (tally : Tally). if tally.count == 0 then Null else Int tally.sum) (Number Decimal) column are.whole are.long ordered within
+    tally_column (groups_in answer) item from to slice (λ (tally : Tally). if tally.count == 0 then Null else Int tally.sum) (Number (Decimal 38 0)) column are.whole are.long ordered within
     (λ key tally. ap (λ (item : Aggregate). item_value key item tally) is) (ap (λ (item : Aggregate). copied_type (item_type answer.keys.now answer.types.now item)) is) values typed long
 
 -- ---- the column of a key

@@ -63,7 +63,7 @@ pub(crate) fn sum_column(
     ensures values { IfOk result (λ made. values_of made
         ≡ map (λ tally. if tally.count == 0 then value.Null else value.Int tally.sum)
         (take (to - from) (drop from (tallies_in tallies.now)))) }
-    ensures typed { IfOk result (λ made. IsOfType (Number Decimal) made.layout) }
+    ensures typed { IfOk result (λ made. IsOfType (Number (Decimal 38 0)) made.layout) }
     ensures long { IfOk result (λ made. made.len ≡ to - from) }
 {
     match tallies {
@@ -94,7 +94,7 @@ fn column_of_counts(alloc: Global, counts: &[u64]) -> Result<Column, AllocError>
 fn column_of_sums(alloc: Global, tallies: &[Tally]) -> Result<Column, AllocError>
     ensures values { IfOk result (λ made. values_of made
         ≡ map (λ tally. if tally.count == 0 then value.Null else value.Int tally.sum) tallies.now) }
-    ensures typed { IfOk result (λ made. IsOfType (Number Decimal) made.layout) }
+    ensures typed { IfOk result (λ made. IsOfType (Number (Decimal 38 0)) made.layout) }
     ensures long { IfOk result (λ made. made.len ≡ length tallies.now) }
 {
     let mut sums = Vec::with_capacity(alloc, tallies.len())?;

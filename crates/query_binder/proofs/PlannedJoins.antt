@@ -34,7 +34,7 @@ must_none false fault e = cc
 compare_turned : (a b : Result Class Fault) → compare_fault a b ≡ None → compare_fault b a ≡ None
 compare_turned (Ok a) (Ok b) e =
     let one : a ≡ b = same_class_is a b (must_none (same_class a b) TypeClash e) in
-    subst (λ (z : Class). must (same_class z a) TypeClash ≡ None) one (ap (λ same. must same TypeClash) (same_class_self a))
+    subst (λ (z : Class). must (same_class z a) TypeClash ≡ None) one (ap (λ same. must same TypeClash) (same_class_self a b (must_none (same_class a b) TypeClash e)))
 compare_turned (Ok a) (Err fault) e = cc
 compare_turned (Err fault) b e = cc
 
@@ -69,7 +69,7 @@ equality_typed seam scope equality e =
     let b = class_of_name scope equality.right in
     let parts = then_none (compare_fault a b) (must (crosses seam left right) NotInSubset) e in (
       key_agrees (scope_types scope) seam left right
-          (compare_follows (λ class. class) a b (key_class (scope_types scope) left) (key_class (scope_types scope) right)
+          (compare_follows (λ class. class) (λ x e. e) a b (key_class (scope_types scope) left) (key_class (scope_types scope) right)
           (key_follows scope equality.left) (key_follows scope equality.right) parts.0),
       key_spans seam left right (must_none (crosses seam left right) NotInSubset parts.1),
     )

@@ -21,7 +21,7 @@ use Rattle.query_binder.specs.PlannedTree.{place_tree, joins_tree, from_tree, nu
 use Rattle.typed_plan.specs.Scope.{Scope, column_of, term_operand}
 use Rattle.typed_plan.specs.SettledLiterals.{settled}
 use Rattle.typed_plan.specs.TypedPlans.{class_of_number, is_place, output_types, HasOutput, is_grouping, IsTyped}
-use Rattle.typed_plan.proofs.ClassFollows.{bound_follows}
+use Rattle.typed_plan.proofs.ClassFollows.{bound_follows, bound_keeps}
 use Rattle.query_binder.proofs.PlannedJoins.{must_none, HasTypes, joins_typed}
 use Rattle.query_binder.proofs.PlannedOutput.{output_typed}
 use Rattle.query_binder.proofs.ScopeTypes.{scope_types, value_bound, term_follows, place_types}
@@ -34,7 +34,7 @@ where_typed scope tree None has e = has
 where_typed scope tree (Some predicate) has e =
     let numbers = predicate_bind (term_operand scope) (settled scope predicate) in
     let follows = bound_follows (class_of_term scope) (class_of_number (scope_types scope)) (term_operand scope)
-    bound_class value_bound (term_follows scope) (settled scope predicate) e in
+    bound_class bound_keeps value_bound (term_follows scope) (settled scope predicate) e in
     record {
       types = has.types;
       typed = (

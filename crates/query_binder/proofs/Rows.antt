@@ -60,7 +60,7 @@ abbrev literally : Literal → Operand Term
 literally written = operand.Column (term.Literal written)
 
 abbrev whole : ℕ → Operand Term
-whole n = literally (literal.Number number.Decimal (pos n))
+whole n = literally (literal.Number (number.Decimal 38 0) (pos n))
 
 abbrev string : Name → Operand Term
 string bytes = literally (literal.Text bytes)
@@ -147,7 +147,7 @@ totals_named one two three = record {
   fields =
       record { name = codes "col" ++ one; nullable = false; data_type = integer Int64 }
       ∷ record { name = codes "col" ++ two; nullable = false; data_type = integer Int64 }
-      ∷ record { name = codes "col" ++ three; nullable = true; data_type = Number number.Decimal } ∷ [];
+      ∷ record { name = codes "col" ++ three; nullable = true; data_type = Number (number.Decimal 38 0) } ∷ [];
 }
 
 totals_columns : result_schema totals (t_of (integer Int64) []) ≡ totals_named (codes "1") (codes "2") (codes "3")
@@ -324,7 +324,7 @@ not_grouped_by = refl
 sum_of_texts : rules_fault (from_t (select.List (item (Sum a) ∷ []))) (t_of Utf8 []) ≡ Some TypeClash
 sum_of_texts = refl
 
-sum_of_decimals : rules_fault (from_t (select.List (item (Sum a) ∷ []))) (t_of (Number number.Decimal) []) ≡ Some TypeClash
+sum_of_decimals : rules_fault (from_t (select.List (item (Sum a) ∷ []))) (t_of (Number (number.Decimal 38 0)) []) ≡ Some TypeClash
 sum_of_decimals = refl
 
 sum_of_dates : rules_fault (from_t (select.List (item (Sum a) ∷ []))) (t_of (Number number.Date) []) ≡ Some TypeClash

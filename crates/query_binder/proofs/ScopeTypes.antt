@@ -117,6 +117,7 @@ literal_bound : (l : Literal) → value_class (literal_value l) ≡ bound_class 
 literal_bound (literal.Text bytes) = refl
 literal_bound (literal.Truth flag) = refl
 literal_bound (literal.Number kind number) = sym (number_bound kind)
+literal_bound (literal.Fraction whole part) = refl
 literal_bound (literal.Timestamp zeptos) = refl
 literal_bound (literal.Time zeptos) = refl
 

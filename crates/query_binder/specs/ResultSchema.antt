@@ -39,7 +39,7 @@ expression_field scope number CountRows =
 expression_field scope number (Count name) =
     record { name = aggregate_name number; nullable = false; data_type = Number (Integer Int64) }
 expression_field scope number (Sum name) =
-    record { name = aggregate_name number; nullable = true; data_type = Number Decimal }
+    record { name = aggregate_name number; nullable = true; data_type = Number (Decimal 38 0) }
 
 -- the alias is the name where there is one
 abbrev pub item_field : Scope → ℕ → SelectItem → Field

@@ -31,7 +31,7 @@ ghost use Rattle.typed_plan.specs.Scope.{column_of, numbered};
 use crate::answer::answer_field;
 use crate::scope::Scope;
 use crate::selection::check_width;
-use arrow_types::{DataType, Field, IntegerType, NumberType, Schema};
+use arrow_types::{DataType, Field, IntegerType, MOST_DIGITS, NumberType, Schema};
 use scan_base::{Fault, Items, Text};
 use sql_query::{ColumnName, Expression, SelectItem};
 use std::alloc::{AllocError, Global};
@@ -232,11 +232,11 @@ fn count_field(name: Text) -> Field
 // The column of a SUM.
 fn sum_field(name: Text) -> Field
     ensures { result
-        ≡ record { name = name; nullable = true; data_type = NumberColumn DecimalNumber } }
+        ≡ record { name = name; nullable = true; data_type = NumberColumn (DecimalNumber 38 0) } }
 {
     Field {
         name,
         nullable: true,
-        data_type: DataType::Number(NumberType::Decimal),
+        data_type: DataType::Number(NumberType::Decimal(MOST_DIGITS, 0)),
     }
 }

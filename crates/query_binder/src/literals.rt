@@ -1,20 +1,20 @@
-//! Literals of timestamps and times next to a column.
+//! Literals of timestamps, times and numbers next to a column.
 
-ghost use Rattle.std.specs.Prelude.{◌≡◌, ◌^◌, ◌<ℤ◌, pos, unwrap_or};
-ghost use Rattle.typed_plan.specs.SettledLiterals.{number_beside, number_between, settled_operand};
-ghost use Rattle.typed_plan.specs.SettledLiterals.{turned, typed};
+ghost use Rattle.std.specs.Prelude.{◌≡◌, ◌≤ℤ◌, unwrap_or};
+ghost use Rattle.typed_plan.specs.SettledLiterals.{decimal_beside, no_number, number_beside};
+ghost use Rattle.typed_plan.specs.SettledLiterals.{number_between, settled_operand, turned, typed};
 
 use crate::scope::Scope;
-use arrow_types::{DataType, NumberType, TimeUnit};
+use arrow_types::{DataType, NumberType, TimeUnit, is_scaled, scaled};
 use scan_base::{Comparison, Operand};
 use sql_query::{Literal, Term};
 
-// A number that no column of 64 bits has.
-const NO_NUMBER: i128 = 18_446_744_073_709_551_616;
+// A number that no column has: 10^38.
+const NO_NUMBER: i128 = 100_000_000_000_000_000_000_000_000_000_000_000_000;
 
 // The number that stands for a value between a whole number and the next.
 fn number_between(comparison: Comparison, below: i128) -> i128
-    requires { below <ℤ pos (2 ^ 100) }
+    requires { below ≤ℤ no_number }
     ensures { result ≡ number_between comparison below }
 {
     match comparison {
@@ -36,6 +36,18 @@ fn number_beside(comparison: Comparison, unit: TimeUnit, zeptos: i128) -> i128
     }
 }
 
+// The decimal of a scale that stands there for wholes and parts of one more.
+fn decimal_beside(comparison: Comparison, scale: u8, whole: i128, part: u128) -> i128
+    ensures { result ≡ decimal_beside comparison scale whole part }
+{
+    let decimal = scaled(scale, whole, part);
+    if is_scaled(scale, part) {
+        decimal
+    } else {
+        number_between(comparison, decimal)
+    }
+}
+
 // A literal on the right of a comparison with numbers of a type, if it gets the type.
 fn typed(kind: NumberType, comparison: Comparison, literal: &Literal) -> Option<Literal>
     ensures { unwrap_or result literal.now ≡ typed kind comparison literal.now }
@@ -46,6 +58,18 @@ fn typed(kind: NumberType, comparison: Comparison, literal: &Literal) -> Option<
         }
         (NumberType::Time(unit), Literal::Time(zeptos)) => {
             Some(Literal::Number(kind, number_beside(comparison, unit, *zeptos)))
+        }
+        (NumberType::Decimal(_, scale), Literal::Fraction(whole, part)) => {
+            let number = decimal_beside(comparison, scale, *whole, *part);
+            Some(Literal::Number(kind, number))
+        }
+        (NumberType::Decimal(_, scale), Literal::Number(NumberType::Decimal(_, 0), whole)) => {
+            let number = decimal_beside(comparison, scale, *whole, 0);
+            Some(Literal::Number(kind, number))
+        }
+        (NumberType::Integer(_), Literal::Fraction(whole, part)) => {
+            let number = decimal_beside(comparison, 0, *whole, *part);
+            Some(Literal::Number(kind, number))
         }
         (_, _) => None,
     }

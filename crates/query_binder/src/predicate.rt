@@ -67,6 +67,7 @@ fn bind_literal(literal: &Literal) -> Result<Value, AllocError>
         Literal::Text(text) => Ok(Value::Text(text.clone()?)),
         Literal::Truth(flag) => Ok(Value::Bool(*flag)),
         Literal::Number(_, number) => Ok(Value::Int(*number)),
+        Literal::Fraction(whole, _) => Ok(Value::Int(*whole)),
         Literal::Timestamp(zeptos) | Literal::Time(zeptos) => Ok(Value::Int(*zeptos)),
     }
 }

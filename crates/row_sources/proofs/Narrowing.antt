@@ -10,7 +10,7 @@ use Rattle.arrays.specs.TypedLayouts.{AreOfTypes}
 use Rattle.table_versions.specs.KeptTables.{IsKept, Stands}
 use Rattle.table_versions.proofs.Storable.{first_false, second_false}
 use Rattle.table_versions.specs.StoredTables.{TableAt, has_rows}
-use Rattle.table_versions.specs.Table.{Row, has_bad_null, is_long_text}
+use Rattle.table_versions.specs.Table.{Row, has_bad_cell, is_long_text}
 use Rattle.batch_skipping.specs.ChosenColumns.{are_within}
 use Rattle.batch_skipping.specs.Narrow.{CanNarrow, batches_at, narrowed}
 
@@ -80,7 +80,7 @@ narrowed_kept table numbers all rows kept can = record {
   filled = each_filled (batches_at numbers table.batches) (all_at (λ (batch : BatchAt). has_rows batch ≡ true) table.batches (filled_each table.batches kept.filled) numbers);
   stand = all_at Stands table.batches kept.stand numbers;
   sound = record {
-    nulls = none_at (has_bad_null table.schema.fields) table.batches numbers kept.sound.nulls;
+    nulls = none_at (has_bad_cell table.schema.fields) table.batches numbers kept.sound.nulls;
     texts = none_at (list_any is_long_text) table.batches numbers kept.sound.texts;
   };
   counted = can.counted;

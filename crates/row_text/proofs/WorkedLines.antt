@@ -16,7 +16,7 @@ use Rattle.row_text.specs.Lines.{line_format, lines_of, name_line, quoted}
 abbrev counts : Schema
 counts = record {
   fields = record { name = codes "s"; nullable = true; data_type = Utf8 }
-      ∷ record { name = codes "col2"; nullable = false; data_type = Number Decimal } ∷ [];
+      ∷ record { name = codes "col2"; nullable = false; data_type = Number (Decimal 38 0) } ∷ [];
 }
 
 abbrev groups : List (List Value)

@@ -18,7 +18,7 @@ use Rattle.row_text.specs.Records.{csv_format, records_of}
 abbrev counts : Schema
 counts = record {
   fields = record { name = codes "town, old"; nullable = true; data_type = Utf8 }
-      ∷ record { name = codes "col2"; nullable = false; data_type = Number Decimal } ∷ [];
+      ∷ record { name = codes "col2"; nullable = false; data_type = Number (Decimal 38 0) } ∷ [];
 }
 
 abbrev groups : List (List Value)

@@ -9,7 +9,7 @@ use Rattle.row_text.specs.Rows.{values_row}
 use Rattle.row_text.specs.Tables.{count_line, rule_line, table_format}
 
 abbrev fields : List Field
-fields = record { name = codes "km"; nullable = true; data_type = Number Decimal } ∷ record { name = codes "paid"; nullable = true; data_type = Bool } ∷ []
+fields = record { name = codes "km"; nullable = true; data_type = Number (Decimal 38 0) } ∷ record { name = codes "paid"; nullable = true; data_type = Bool } ∷ []
 
 -- numbers stand at the right, and so do their nulls
 numbers : values_row (table_format fields (6 ∷ 5 ∷ [])) (Int (negsuc 11) ∷ Flag true ∷ []) ≡ codes "|    -12 | TRUE  |\n"

@@ -23,7 +23,7 @@ pub record Notation : Type 0 where
 -- the type of a column's numbers; those of a column of another type are decimals
 abbrev pub numbers_of : DataType → NumberType
 numbers_of (Number kind) = kind
-numbers_of _ = Decimal
+numbers_of _ = Decimal 38 0
 
 -- a value of a column of a type
 abbrev pub value_text : Notation → DataType → Value → List ℕ

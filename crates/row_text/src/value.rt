@@ -6,7 +6,7 @@ ghost use Rattle.grpc_frame.specs.Ends.{CanFail, CountsFailure, FailsByTransport
 ghost use Rattle.grpc_frame.specs.Sending.{Sends};
 ghost use Rattle.row_text.specs.Rows.{Notation, numbers_of, type_shown, value_text};
 
-use arrow_types::{DataType, Field, NumberType};
+use arrow_types::{DataType, Field, MOST_DIGITS, NumberType};
 use grpc_frame::{Outbox, Output};
 use number_words::NumberText;
 use scan_base::{Fault, ValueRef};
@@ -70,7 +70,7 @@ pub(crate) fn numbers_of(data_type: DataType) -> NumberType
 {
     match data_type {
         DataType::Number(kind) => kind,
-        _ => NumberType::Decimal,
+        _ => NumberType::Decimal(MOST_DIGITS, 0),
     }
 }
 

@@ -16,7 +16,7 @@ use Rattle.arrays.specs.Column.{ColumnAt}
 use Rattle.arrays.specs.Batch.{BatchAt}
 use Rattle.arrays.specs.TypedLayouts.{IsOfType, AreOfTypes, IsValueOf}
 use Rattle.scan_base.specs.Value.{is_null, same_flag}
-use Rattle.table_versions.specs.Table.{Row, same_type, same_field, same_fields, same_name, has_bad_null}
+use Rattle.table_versions.specs.Table.{Row, same_type, same_field, same_fields, same_name, has_bad_cell, is_bad_cell, is_too_wide}
 use Rattle.table_versions.specs.KeptTables.{AreSound}
 use Rattle.table_versions.specs.Valid.{IsRow}
 
@@ -61,18 +61,27 @@ typed_alike old new batches h typed =
     All-weaker (λ (batch : BatchAt). AreOfTypes new batch.columns) (λ (batch : BatchAt). AreOfTypes old batch.columns)
     (λ batch. typed_columns old new batch.columns h) batches typed
 
-nulls_alike : (old new : List Field) (row : Row) → same_fields old new ≡ true → has_bad_null old row ≡ has_bad_null new row
+-- types that are one have as many digits
+wide_alike : (a b : DataType) (value : Value) → same_type a b ≡ true → is_too_wide a value ≡ is_too_wide b value
+wide_alike (Number a) (Number b) value h = ap (λ (kind : NumberType). is_too_wide (Number kind) value) (same_number_is a b h)
+wide_alike Utf8 Utf8 value h = refl
+wide_alike Bool Bool value h = refl
+wide_alike (Dictionary a) (Dictionary b) value h = refl
+wide_alike _ _ value h = cc
+
+nulls_alike : (old new : List Field) (row : Row) → same_fields old new ≡ true → has_bad_cell old row ≡ has_bad_cell new row
 nulls_alike [] [] row h = refl
 nulls_alike [] (new ∷ news) row h = let no : false ≡ true = h in cc
 nulls_alike (old ∷ olds) [] row h = let no : false ≡ true = h in cc
 nulls_alike (old ∷ olds) (new ∷ news) [] h = refl
 nulls_alike (old ∷ olds) (new ∷ news) (value ∷ row) h =
     let same = and_parts (same_field old new) (same_fields olds news) h in
-    ap (λ nullable. (not nullable && is_null value) || has_bad_null olds row) (field_flag old new same.0)
-    ∙ ap (λ rest. (not new.nullable && is_null value) || rest) (nulls_alike olds news row same.1)
+    ap (λ nullable. ((not nullable && is_null value) || is_too_wide old.data_type value) || has_bad_cell olds row) (field_flag old new same.0)
+    ∙ ap (λ wide. ((not new.nullable && is_null value) || wide) || has_bad_cell olds row) (wide_alike old.data_type new.data_type value (field_type old new same.0))
+    ∙ ap (λ rest. is_bad_cell (new, value) || rest) (nulls_alike olds news row same.1)
 
 all_nulls_alike : (old new : List Field) (rows : List Row) → same_fields old new ≡ true →
-    list_any (has_bad_null old) rows ≡ list_any (has_bad_null new) rows
+    list_any (has_bad_cell old) rows ≡ list_any (has_bad_cell new) rows
 all_nulls_alike old new [] h = refl
 all_nulls_alike old new (row ∷ rows) h = rw (nulls_alike old new row h, all_nulls_alike old new rows h) refl
 

@@ -10,7 +10,7 @@ use Rattle.arrow_types.specs.declared.schema.Schema.{Schema}
 use Rattle.arrays.specs.Column.{ColumnAt}
 use Rattle.arrays.specs.Batch.{BatchAt, rows_of}
 use Rattle.arrays.specs.TypedLayouts.{AreOfTypes}
-use Rattle.table_versions.specs.Table.{Row, has_bad_null, is_long_text}
+use Rattle.table_versions.specs.Table.{Row, has_bad_cell, is_long_text}
 use Rattle.table_versions.specs.StoredTables.{TableAt, has_rows}
 use Rattle.table_versions.specs.KeptTables.{IsStorable, AreSound, IsKept}
 use Rattle.shared_pages.proofs.Lists.{all_at}
@@ -45,19 +45,19 @@ second_false false b h = h
 -- sound rows and sound rows after them
 pub sound-append : (fields : List Field) (front rest : List Row) → AreSound fields front → AreSound fields rest → AreSound fields (front ++ rest)
 sound-append fields front rest f r = record {
-  nulls = list_any-append (has_bad_null fields) front rest ∙ or_from _ _ f.nulls r.nulls;
+  nulls = list_any-append (has_bad_cell fields) front rest ∙ or_from _ _ f.nulls r.nulls;
   texts = list_any-append (list_any is_long_text) front rest ∙ or_from _ _ f.texts r.texts;
 }
 
 pub sound-front : (fields : List Field) (front rest : List Row) → AreSound fields (front ++ rest) → AreSound fields front
 sound-front fields front rest s = record {
-  nulls = first_false _ _ (sym (list_any-append (has_bad_null fields) front rest) ∙ s.nulls);
+  nulls = first_false _ _ (sym (list_any-append (has_bad_cell fields) front rest) ∙ s.nulls);
   texts = first_false _ _ (sym (list_any-append (list_any is_long_text) front rest) ∙ s.texts);
 }
 
 pub sound-rest : (fields : List Field) (front rest : List Row) → AreSound fields (front ++ rest) → AreSound fields rest
 sound-rest fields front rest s = record {
-  nulls = second_false _ _ (sym (list_any-append (has_bad_null fields) front rest) ∙ s.nulls);
+  nulls = second_false _ _ (sym (list_any-append (has_bad_cell fields) front rest) ∙ s.nulls);
   texts = second_false _ _ (sym (list_any-append (list_any is_long_text) front rest) ∙ s.texts);
 }
 

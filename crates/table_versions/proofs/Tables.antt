@@ -15,7 +15,7 @@ use Rattle.scan_base.specs.Value.{is_null}
 use Rattle.scan_base.specs.declared.put_options.IfExists.{IfExists}
 use Rattle.scan_base.specs.declared.put_options.IfExists.TheVariants.{Unspecified, Fail, Append, Replace}
 use Rattle.scan_base.specs.Limits.{most_name_bytes, most_rows}
-use Rattle.table_versions.specs.Table.{Name, Row, Table, same_name, same_fields, has_bad_null, is_long_text}
+use Rattle.table_versions.specs.Table.{Name, Row, Table, same_name, same_fields, has_bad_cell, is_long_text, is_bad_cell, is_too_wide}
 use Rattle.table_versions.specs.Database.{Database, Put, table_at, with_table, table_after, columns_of, differs, put_faults, after, accepted, with_put, with_all}
 use Rattle.table_versions.specs.Valid.{IsRow, IsTable, IsName, IsDatabase, HasTypes, IsPut}
 use Rattle.table_versions.specs.Laws.{AcceptedPutsKeepDatabases, VersionsAreDatabases}
@@ -30,28 +30,29 @@ null_taken : (nullable null : Bool) → (not nullable && null) ≡ false → nul
 null_taken true null h n = refl
 null_taken false null h n = let no : true ≡ false = sym n ∙ h in cc
 
-is_row : (fields : List Field) (row : Row) → HasTypes fields row → has_bad_null fields row ≡ false → list_any is_long_text row ≡ false → IsRow fields row
+is_row : (fields : List Field) (row : Row) → HasTypes fields row → has_bad_cell fields row ≡ false → list_any is_long_text row ≡ false → IsRow fields row
 is_row [] [] typed nulls texts = tt
 is_row [] (value ∷ row) typed nulls texts = absurd typed
 is_row (field ∷ fields) [] typed nulls texts = absurd typed
 is_row (field ∷ fields) (value ∷ row) typed nulls texts = (
   record {
     typed = typed.0;
-    null = null_taken field.nullable (is_null value) (first_false (not field.nullable && is_null value) (has_bad_null fields row) nulls);
+    null = null_taken field.nullable (is_null value) (first_false (not field.nullable && is_null value) (is_too_wide field.data_type value) (first_false (is_bad_cell (field, value)) (has_bad_cell fields row) nulls));
+    narrow = second_false (not field.nullable && is_null value) (is_too_wide field.data_type value) (first_false (is_bad_cell (field, value)) (has_bad_cell fields row) nulls);
     short = first_false (is_long_text value) (list_any is_long_text row) texts;
   },
-  is_row fields row typed.1 (second_false (not field.nullable && is_null value) (has_bad_null fields row) nulls)
+  is_row fields row typed.1 (second_false (is_bad_cell (field, value)) (has_bad_cell fields row) nulls)
       (second_false (is_long_text value) (list_any is_long_text row) texts),
 )
 
-are_rows : (fields : List Field) (rows : List Row) → All (HasTypes fields) rows → list_any (has_bad_null fields) rows ≡ false
+are_rows : (fields : List Field) (rows : List Row) → All (HasTypes fields) rows → list_any (has_bad_cell fields) rows ≡ false
     → list_any (list_any is_long_text) rows ≡ false → All (IsRow fields) rows
 are_rows fields [] typed nulls texts = All-nil (IsRow fields)
 are_rows fields (row ∷ rows) typed nulls texts =
-    let rest = are_rows fields rows (All-tail (HasTypes fields) row rows typed) (second_false (has_bad_null fields row) (list_any (has_bad_null fields) rows) nulls)
+    let rest = are_rows fields rows (All-tail (HasTypes fields) row rows typed) (second_false (has_bad_cell fields row) (list_any (has_bad_cell fields) rows) nulls)
     (second_false (list_any is_long_text row) (list_any (list_any is_long_text) rows) texts) in
     All-cons (IsRow fields) row rows
-    (is_row fields row (All-head (HasTypes fields) row rows typed) (first_false (has_bad_null fields row) (list_any (has_bad_null fields) rows) nulls)
+    (is_row fields row (All-head (HasTypes fields) row rows typed) (first_false (has_bad_cell fields row) (list_any (has_bad_cell fields) rows) nulls)
     (first_false (list_any is_long_text row) (list_any (list_any is_long_text) rows) texts)) rest
 
 -- ---- entries
@@ -85,7 +86,7 @@ found_is (entry ∷ entries) name table all at = by (bytes_eq entry.0 name) (fou
 record Passes (there : Option Table) (put : Put) : Type 0 where
   named : (length put.table == 0 || nat_lt most_name_bytes (length put.table)) ≡ false
   columns : (repeats same_name put.schema.fields || differs put.if_exists (columns_of there) put.schema) ≡ false
-  nulls : list_any (has_bad_null put.schema.fields) put.rows ≡ false
+  nulls : list_any (has_bad_cell put.schema.fields) put.rows ≡ false
   texts : list_any (list_any is_long_text) put.rows ≡ false
   few : nat_lt most_rows (length (table_after put.if_exists there put).rows) ≡ false
 
@@ -96,7 +97,7 @@ passes old n put none =
     record {
       named = among [] (length put.table == 0 || nat_lt most_name_bytes (length put.table)) LimitReached (drop 1 faults) none;
       columns = among (take 3 faults) (repeats same_name put.schema.fields || differs put.if_exists (columns_of there) put.schema) SchemaMismatch (drop 4 faults) none;
-      nulls = among (take 4 faults) (list_any (has_bad_null put.schema.fields) put.rows) BadBatch (drop 5 faults) none;
+      nulls = among (take 4 faults) (list_any (has_bad_cell put.schema.fields) put.rows) BadBatch (drop 5 faults) none;
       texts = among (take 5 faults) (list_any (list_any is_long_text) put.rows) LimitReached (drop 6 faults) none;
       few = among (take 6 faults) (nat_lt most_rows (length (table_after put.if_exists there put).rows)) LimitReached (drop 7 faults) none;
     }
@@ -105,7 +106,7 @@ few_rows : (rows : ℕ) → nat_lt most_rows rows ≡ false → rows ≤ most_ro
 few_rows rows h = search (rules, h)
 
 -- the table of a put alone
-alone : (put : Put) → IsPut put → repeats same_name put.schema.fields ≡ false → list_any (has_bad_null put.schema.fields) put.rows ≡ false
+alone : (put : Put) → IsPut put → repeats same_name put.schema.fields ≡ false → list_any (has_bad_cell put.schema.fields) put.rows ≡ false
     → list_any (list_any is_long_text) put.rows ≡ false → length put.rows ≤ most_rows → IsTable (record { schema = put.schema; rows = put.rows })
 alone put is names nulls texts few = record {
   columns = is.columns;
@@ -115,7 +116,7 @@ alone put is names nulls texts few = record {
 }
 
 -- the old table with the rows of a put after its own
-extended : (old : Table) (put : Put) → IsTable old → IsPut put → same_fields old.schema.fields put.schema.fields ≡ true → list_any (has_bad_null put.schema.fields) put.rows ≡ false
+extended : (old : Table) (put : Put) → IsTable old → IsPut put → same_fields old.schema.fields put.schema.fields ≡ true → list_any (has_bad_cell put.schema.fields) put.rows ≡ false
     → list_any (list_any is_long_text) put.rows ≡ false → length (old.rows ++ put.rows) ≤ most_rows → IsTable (record { schema = old.schema; rows = old.rows ++ put.rows })
 extended old put table is same nulls texts few = record {
   columns = table.columns;
@@ -127,7 +128,7 @@ extended old put table is same nulls texts few = record {
 }
 
 table_is : (if_exists : IfExists) (there : Option Table) (put : Put) → ((table : Table) → there ≡ Some table → IsTable table) → IsPut put
-    → (repeats same_name put.schema.fields || differs if_exists (columns_of there) put.schema) ≡ false → list_any (has_bad_null put.schema.fields) put.rows ≡ false
+    → (repeats same_name put.schema.fields || differs if_exists (columns_of there) put.schema) ≡ false → list_any (has_bad_cell put.schema.fields) put.rows ≡ false
     → list_any (list_any is_long_text) put.rows ≡ false → length (table_after if_exists there put).rows ≤ most_rows → IsTable (table_after if_exists there put)
 table_is Append (Some old) put there is columns nulls texts few =
     let alike = second_false (repeats same_name put.schema.fields) (not (same_fields old.schema.fields put.schema.fields)) columns in

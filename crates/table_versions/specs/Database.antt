@@ -17,7 +17,7 @@ use Rattle.scan_base.specs.declared.put_options.IfExists.TheVariants.{Append}
 use Rattle.scan_base.specs.declared.put_options.IfNotExist.{IfNotExist}
 use Rattle.scan_base.specs.Limits.{most_name_bytes, most_rows, most_tables, most_commits}
 use Rattle.scan_base.specs.PutOptions.{refuses_present, refuses_absent}
-use Rattle.table_versions.specs.Table.{Name, Row, Table, same_name, same_fields, has_bad_null}
+use Rattle.table_versions.specs.Table.{Name, Row, Table, same_name, same_fields, has_bad_cell}
 use Rattle.table_versions.specs.Table.{is_long_text}
 
 -- tables by name, in byte order of the names
@@ -71,7 +71,7 @@ faults_at there tables n put =
       repeats same_name put.schema.fields || differs put.if_exists (columns_of there) put.schema,
       SchemaMismatch,
     ) ∷
-    (list_any (has_bad_null put.schema.fields) put.rows, BadBatch) ∷
+    (list_any (has_bad_cell put.schema.fields) put.rows, BadBatch) ∷
     (list_any (list_any is_long_text) put.rows, LimitReached) ∷
     (nat_lt most_rows (length (table_after put.if_exists there put).rows), LimitReached) ∷
     (not (is_some there) && nat_le most_tables tables, LimitReached) ∷

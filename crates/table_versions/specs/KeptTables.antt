@@ -9,7 +9,7 @@ use Rattle.arrays.specs.Batch.{AreLong, BatchAt}
 use Rattle.arrays.specs.Column.{IsColumn}
 use Rattle.arrays.specs.TypedLayouts.{AreOfTypes}
 use Rattle.scan_base.specs.Limits.{most_rows, most_tables}
-use Rattle.table_versions.specs.Table.{Name, Row, has_bad_null, is_long_text}
+use Rattle.table_versions.specs.Table.{Name, Row, has_bad_cell, is_long_text}
 use Rattle.table_versions.specs.Order.{IsInOrder}
 use Rattle.table_versions.specs.StoredTables.{TableAt, CatalogAt, table_of, has_rows}
 use Rattle.table_versions.specs.Valid.{IsName}
@@ -24,9 +24,10 @@ pub record Stands (batch : BatchAt) : Type 0 where
   pub long : AreLong batch.rows batch.columns
   pub columns : All IsColumn batch.columns
 
--- no cell is null in a column that takes no null, and no text is too long
+-- no cell is null in a column that takes no null, or has more digits than its type, and no text is
+-- too long
 pub record AreSound (fields : List Field) (rows : List Row) : Type 0 where
-  pub nulls : list_any (has_bad_null fields) rows ≡ false
+  pub nulls : list_any (has_bad_cell fields) rows ≡ false
   pub texts : list_any (list_any is_long_text) rows ≡ false
 
 -- a stored table also has rows in each batch, each batch stands, all rows are sound, and this is

@@ -1,15 +1,16 @@
 -- Tables as plain lists: columns, and rows.
-use Rattle.std.specs.Prelude.{ℕ, Bool, true, false, not, ◌&&◌, List, [], ◌∷◌, length, nat_lt}
+use Rattle.std.specs.Prelude.{ℕ, Bool, true, false, not, ◌&&◌, ◌||◌, List, [], ◌∷◌, length, nat_lt}
 use Rattle.std.specs.List.{list_any, zip}
 use Rattle.std.specs.Str.{bytes_eq}
 use Rattle.scan_base.specs.declared.value.Value.{Value}
-use Rattle.scan_base.specs.declared.value.Value.TheVariants.{Text}
+use Rattle.scan_base.specs.declared.value.Value.TheVariants.{Int, Text}
 use Rattle.arrow_types.specs.declared.data_type.DataType.{DataType}
 use Rattle.arrow_types.specs.declared.data_type.DataType.TheVariants.{Number, Utf8, Bool as Flag}
 use Rattle.arrow_types.specs.declared.data_type.DataType.TheVariants.{Dictionary}
 use Rattle.arrow_types.specs.declared.schema.Field.{Field}
 use Rattle.arrow_types.specs.declared.schema.Schema.{Schema}
 use Rattle.arrow_types.specs.DataType.{same_number}
+use Rattle.arrow_types.specs.Scales.{has_digits}
 use Rattle.scan_base.specs.Value.{is_null, same_flag}
 use Rattle.scan_base.specs.Limits.{most_text_bytes}
 
@@ -50,10 +51,20 @@ same_fields [] [] = true
 same_fields (old ∷ olds) (new ∷ news) = same_field old new && same_fields olds news
 same_fields _ _ = false
 
--- whether a row has a cell that is null in a column that takes no null
-abbrev pub has_bad_null : List Field → Row → Bool
-has_bad_null fields row =
-    list_any (λ (cell : Field × Value). not cell.0.nullable && is_null cell.1) (zip fields row)
+-- whether a value is a number of more digits than the type has, if that is one of decimals
+abbrev pub is_too_wide : DataType → Value → Bool
+is_too_wide (Number kind) (Int number) = not (has_digits kind number)
+is_too_wide data_type value = false
+
+-- whether a column can't have a value: it is null and the column takes no null, or it has too many
+-- digits
+abbrev pub is_bad_cell : Field × Value → Bool
+is_bad_cell cell =
+    (not cell.0.nullable && is_null cell.1) || is_too_wide cell.0.data_type cell.1
+
+-- whether a row has such a cell
+abbrev pub has_bad_cell : List Field → Row → Bool
+has_bad_cell fields row = list_any is_bad_cell (zip fields row)
 
 -- whether a value is a text that is too long
 abbrev pub is_long_text : Value → Bool

@@ -7,15 +7,16 @@ use Rattle.arrow_types.specs.Schema.{IsSchema}
 use Rattle.arrays.specs.TypedLayouts.{IsValueOf}
 use Rattle.scan_base.specs.Value.{is_null}
 use Rattle.scan_base.specs.Limits.{most_name_bytes, most_rows}
-use Rattle.table_versions.specs.Table.{Name, Row, Table, same_name, is_long_text}
+use Rattle.table_versions.specs.Table.{Name, Row, Table, same_name, is_long_text, is_too_wide}
 use Rattle.table_versions.specs.Database.{Database, Put, version_after}
 use Rattle.table_versions.specs.Order.{IsInOrder}
 
--- a value of a column: of its type, null only where the column takes nulls, and no text above the
--- limit
+-- a value of a column: of its type, null only where the column takes nulls, no number of more digits
+-- than the type has, and no text above the limit
 pub record IsCell (field : Field) (value : Value) : Type 0 where
   pub typed : IsValueOf field.data_type value
   pub null : is_null value ≡ true → field.nullable ≡ true
+  pub narrow : is_too_wide field.data_type value ≡ false
   pub short : is_long_text value ≡ false
 
 -- a row has exactly one value for each column

@@ -5,13 +5,13 @@ ghost use Rattle.std.specs.List.{list_any, flat_map};
 ghost use Rattle.scan_base.specs.Value.{value_of, is_null};
 ghost use Rattle.arrays.specs.Batch.{rows_of};
 ghost use Rattle.arrays.specs.Column.{IsColumn, values_of};
-ghost use Rattle.table_versions.specs.Table.{is_long_text, has_bad_null};
-ghost use Rattle.table_versions.specs.Columns.{has_bad_column, is_long_column};
+ghost use Rattle.table_versions.specs.Table.{is_long_text, is_too_wide, has_bad_cell};
+ghost use Rattle.table_versions.specs.Columns.{has_bad_column, is_long_column, is_wide_column};
 ghost use Rattle.table_versions.specs.KeptTables.{Stands};
 
 use crate::limits::MAX_TEXT_BYTES;
 use arrays::{Batch, Cells, Column};
-use arrow_types::Field;
+use arrow_types::{DataType, Field, NumberType};
 use batch_stats::MeasuredBatch;
 use scan_base::ValueRef;
 
@@ -53,7 +53,41 @@ fn has_long_slot(column: &Column) -> bool
     false
 }
 
-// Whether a column that takes no null has one. A column that takes nulls is not looked at.
+// Whether a value is a number of more digits than the type has.
+fn is_too_wide(data_type: DataType, value: ValueRef<'_>) -> bool
+    ensures { result ≡ is_too_wide data_type (value_of value.entry) }
+{
+    match (data_type, value) {
+        (DataType::Number(kind), ValueRef::Int(number)) => !kind.has_digits(number),
+        (_, _) => false,
+    }
+}
+
+// Whether a slot has such a number.
+fn has_wide_slot(data_type: DataType, column: &Column) -> bool
+    ensures { result ≡ list_any (is_too_wide data_type) (values_of column.now) }
+{
+    for j in 0..column.len() {
+        if is_too_wide(data_type, column.value_at(j)) {
+            return true;
+        }
+    }
+    false
+}
+
+// Whether a column has a number of more digits than its type. Only decimals are walked.
+#[tactic(auto, using(crate::proofs::Transposed::never_wide))]
+fn is_wide_column(field: &Field, column: &Column) -> bool
+    ensures { result ≡ is_wide_column (field.now, column.now) }
+{
+    match field.data_type {
+        DataType::Number(NumberType::Decimal(_, _)) => has_wide_slot(field.data_type, column),
+        _ => false,
+    }
+}
+
+// Whether a column has a value that its field can't have: a null in one that takes none, or too many
+// digits.
 fn has_bad_column(fields: &[Field], columns: &[Column]) -> bool
     ensures { result ≡ has_bad_column fields.now columns.now }
 {
@@ -62,13 +96,14 @@ fn has_bad_column(fields: &[Field], columns: &[Column]) -> bool
         [field, fields @ ..] => match columns {
             [] => false,
             [column, columns @ ..] => !field.nullable && has_null(column)
+                || is_wide_column(field, column)
                 || has_bad_column(fields, columns),
         },
     }
 }
 
 fn is_bad_batch(fields: &[Field], batch: &Batch) -> bool
-    ensures { result ≡ list_any (has_bad_null fields.now) (rows_of batch.now) }
+    ensures { result ≡ list_any (has_bad_cell fields.now) (rows_of batch.now) }
 {
     has_bad_column(fields, batch.columns())
 }
@@ -92,9 +127,9 @@ fn is_long_batch(batch: &Batch) -> bool
     has_long_column(batch.columns())
 }
 
-// Whether a row has a null in a column that takes none.
-pub(crate) fn has_bad_null(fields: &[Field], batches: &[MeasuredBatch]) -> bool
-    ensures { result ≡ list_any (has_bad_null fields.now) (flat_map rows_of batches.now) }
+// Whether a row has a null in a column that takes none, or a number of more digits than its column.
+pub(crate) fn has_bad_cell(fields: &[Field], batches: &[MeasuredBatch]) -> bool
+    ensures { result ≡ list_any (has_bad_cell fields.now) (flat_map rows_of batches.now) }
 {
     for batch in batches {
         if is_bad_batch(fields, batch.batch()) {

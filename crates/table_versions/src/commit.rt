@@ -17,7 +17,7 @@ ghost use Rattle.table_versions.specs.KeptTables.{IsStorable, AreSound};
 ghost use Rattle.table_versions.specs.Valid.{IsPut};
 
 use crate::catalog::CatalogVersion;
-use crate::cells::{has_bad_null, has_long_row};
+use crate::cells::{has_bad_cell, has_long_row};
 use crate::fields::{has_repeat, same_fields};
 use crate::growing_table::GrowingTable;
 use crate::limits::{MAX_COMMITS, MAX_ROWS, MAX_TABLES};
@@ -95,7 +95,7 @@ fn refusal_at(old: Option<&TableVersion>, tables: usize, above: u64, put: &Put) 
     if has_repeat(put.schema.fields.as_slice()) || differs(old, put) {
         return Some(Fault::SchemaMismatch);
     }
-    if has_bad_null(put.schema.fields.as_slice(), put.batches.as_slice()) {
+    if has_bad_cell(put.schema.fields.as_slice(), put.batches.as_slice()) {
         return Some(Fault::BadBatch);
     }
     if has_long_row(put.batches.as_slice()) || overflows(old, put) {
@@ -212,7 +212,8 @@ fn next_catalog(
 /// - F11 (`Fault::SchemaMismatch`) where two columns of the put have one name, or an append has
 ///   other columns than the table: other names, types or nullable flags, or another order. A
 ///   dictionary's id and index type are not compared.
-/// - F8 (`Fault::BadBatch`) where a cell is null in a column that takes no null.
+/// - F8 (`Fault::BadBatch`) where a cell is null in a column that takes no null, or a number has
+///   more digits than its column's type.
 /// - F12 (`Fault::LimitReached`) where a text of a row has more than 65,536 bytes, where the table
 ///   would have more than 16,777,216 rows, for a 257th table, and where 65,536 versions stand above
 ///   the floor.

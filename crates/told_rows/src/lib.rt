@@ -37,10 +37,10 @@ pub fn push_rows(told: &mut String, batch: &Batch) -> Result<(), AllocError> {
     Ok(())
 }
 
-/// Adds a type, as `Integer(Int64)`, `Decimal128`, `Date` or `Utf8`.
+/// Adds a type, as `Integer(Int64)`, `Decimal128`, `Decimal(12, 2)`, `Date` or `Utf8`.
 pub fn push_type(told: &mut String, data_type: DataType) -> Result<(), AllocError> {
     match data_type {
-        DataType::Number(NumberType::Decimal) => told.push_str("Decimal128"),
+        DataType::Number(NumberType::Decimal(38, 0)) => told.push_str("Decimal128"),
         DataType::Number(number) => write!(told, "{number:?}"),
         other => write!(told, "{other:?}"),
     }

@@ -1,5 +1,5 @@
 -- A predicate without a fault has none where other operands stand for what it names, if these have the classes that are kept.
-use Rattle.std.proofs.Common.{◌≡◌, Bool, true, false, List, [], ◌∷◌, map, None, Result, Ok, Err, refl, sym, ap, subst, ◌∙◌}
+use Rattle.std.proofs.Common.{◌≡◌, zero, suc, Bool, true, false, List, [], ◌∷◌, map, None, Result, Ok, Err, refl, sym, ap, subst, ◌∙◌}
 use Rattle.arrow_types.specs.declared.data_type.NumberType.{NumberType}
 use Rattle.arrow_types.specs.declared.data_type.NumberType.TheVariants as number
 use Rattle.scan_base.specs.declared.fault.Fault.{Fault}
@@ -10,7 +10,7 @@ use Rattle.scan_base.specs.declared.value.Value.{Value}
 use Rattle.scan_base.specs.Predicate.{Pred, conjunction, disjunction, negation, truth_test, comparing, between}
 use Rattle.scan_base.specs.Predicate.{membership, null_test, constant}
 use Rattle.typed_plan.specs.declared.class.Class.{Class}
-use Rattle.typed_plan.specs.declared.class.Class.TheVariants.{Number}
+use Rattle.typed_plan.specs.declared.class.Class.TheVariants as class
 use Rattle.typed_plan.specs.Class.{same_class, number_class, bound_class, value_class}
 use Rattle.typed_plan.specs.Faults.{◌then◌, must, fault_in, operand_class, compare_fault, items_fault, predicate_fault}
 use Rattle.typed_plan.specs.NumberedPredicates.{operand_bind, predicate_bind, predicate_map}
@@ -22,9 +22,10 @@ abbrev pub Follows : (Class → Class) → Result Class Fault → Result Class F
 Follows kept one other = (class : Class) → one ≡ Ok class → other ≡ Ok (kept class)
 
 -- a number of any type is a number where it is bound
-pub number_bound : (kind : NumberType) → bound_class (number_class kind) ≡ Number
+pub number_bound : (kind : NumberType) → bound_class (number_class kind) ≡ class.Number
 number_bound (number.Integer integer) = refl
-number_bound number.Decimal = refl
+number_bound (number.Decimal digits zero) = refl
+number_bound (number.Decimal digits (suc scale)) = refl
 number_bound _ = refl
 
 fault_follows : (kept : Class → Class) (a b : Result Class Fault) → Follows kept a b → fault_in a ≡ None → fault_in b ≡ None
@@ -35,21 +36,37 @@ must_hold : (test : Bool) (fault : Fault) → must test fault ≡ None → test 
 must_hold true fault e = refl
 must_hold false fault e = cc
 
--- of classes that are one, what is kept is one
-kept_same : (kept : Class → Class) (x y : Class) → must (same_class x y) TypeClash ≡ None →
-    must (same_class (kept x) (kept y)) TypeClash ≡ None
-kept_same kept x y e =
-    let one : x ≡ y = same_class_is x y (must_hold (same_class x y) TypeClash e) in
-    subst (λ (z : Class). must (same_class (kept x) (kept z)) TypeClash ≡ None) one (ap (λ same. must same TypeClash) (same_class_self (kept x)))
+-- what is kept of a class that is one with itself is so too
+abbrev pub Keeps : (Class → Class) → Type 0
+Keeps kept = (x : Class) → same_class x x ≡ true → same_class (kept x) (kept x) ≡ true
 
-pub compare_follows : (kept : Class → Class) (a b c d : Result Class Fault) → Follows kept a c → Follows kept b d →
+-- so it is of a bound operand
+pub bound_keeps : Keeps bound_class
+bound_keeps (class.Own kind) h = refl
+bound_keeps (class.Scaled scale) h = refl
+bound_keeps class.Fraction h = refl
+bound_keeps class.Moment h = refl
+bound_keeps class.Clock h = refl
+bound_keeps class.Number h = refl
+bound_keeps class.Text h = refl
+bound_keeps class.Truth h = refl
+
+-- of classes that are one, what is kept is one
+kept_same : (kept : Class → Class) → Keeps kept → (x y : Class) → must (same_class x y) TypeClash ≡ None →
+    must (same_class (kept x) (kept y)) TypeClash ≡ None
+kept_same kept keeps x y e =
+    let alike = must_hold (same_class x y) TypeClash e in
+    subst (λ (z : Class). must (same_class (kept x) (kept z)) TypeClash ≡ None) (same_class_is x y alike)
+    (ap (λ same. must same TypeClash) (keeps x (same_class_self x y alike)))
+
+pub compare_follows : (kept : Class → Class) → Keeps kept → (a b c d : Result Class Fault) → Follows kept a c → Follows kept b d →
     compare_fault a b ≡ None → compare_fault c d ≡ None
-compare_follows kept (Ok x) (Ok y) c d left right e = rw (left x refl, right y refl) (kept_same kept x y e)
-compare_follows kept (Ok x) (Err fault) c d left right e = cc
-compare_follows kept (Err fault) b c d left right e = cc
+compare_follows kept keeps (Ok x) (Ok y) c d left right e = rw (left x refl, right y refl) (kept_same kept keeps x y e)
+compare_follows kept keeps (Ok x) (Err fault) c d left right e = cc
+compare_follows kept keeps (Err fault) b c d left right e = cc
 
 module _ {C D : Type 0} (f : C → Result Class Fault) (g : D → Result Class Fault) (h : C → Operand D) (kept : Class → Class)
-    (plain : (value : Value) → kept (value_class value) ≡ value_class value)
+    (keeps : Keeps kept) (plain : (value : Value) → kept (value_class value) ≡ value_class value)
     (same : (c : C) → Follows kept (f c) (operand_class g (h c))) where
   operand_follows : (o : Operand C) → Follows kept (operand_class f o) (operand_class g (operand_bind h o))
   operand_follows (operand.Column column) class e = same column class e
@@ -63,7 +80,7 @@ module _ {C D : Type 0} (f : C → Result Class Fault) (g : D → Result Class F
   items_follow a b first [] e = refl
   items_follow a b first (item ∷ items) e =
       let parts = then_none (compare_fault a (operand_class f item)) (items_fault f a items) e in
-      let here = compare_follows kept a (operand_class f item) b (operand_class g (operand_bind h item)) first
+      let here = compare_follows kept keeps a (operand_class f item) b (operand_class g (operand_bind h item)) first
       (operand_follows item) parts.0 in
       ap (λ fault. fault then items_fault g b (map (operand_bind h) items)) here ∙ items_follow a b first items parts.1
 
@@ -77,7 +94,7 @@ module _ {C D : Type 0} (f : C → Result Class Fault) (g : D → Result Class F
   bound_follows (negation p) e = bound_follows p e
   bound_follows (truth_test negated tested p) e = bound_follows p e
   bound_follows (comparing comparison left right) e =
-      compare_follows kept (operand_class f left) (operand_class f right) (operand_class g (operand_bind h left))
+      compare_follows kept keeps (operand_class f left) (operand_class f right) (operand_class g (operand_bind h left))
       (operand_class g (operand_bind h right)) (operand_follows left) (operand_follows right) e
   bound_follows (between negated o low high) e =
       let a = operand_class f o in
@@ -102,4 +119,4 @@ module _ {C D : Type 0} (f : C → Result Class Fault) (g : D → Result Class F
 pub predicate_follows : {C D : Type 0} (f : C → Result Class Fault) (g : D → Result Class Fault) (h : C → D) →
     ((c : C) → Follows (λ class. class) (f c) (g (h c))) →
     (p : Pred C) → predicate_fault f p ≡ None → predicate_fault g (predicate_map h p) ≡ None
-predicate_follows f g h same = bound_follows f g (λ c. operand.Column (h c)) (λ class. class) (λ value. refl) same
+predicate_follows f g h same = bound_follows f g (λ c. operand.Column (h c)) (λ class. class) (λ x e. e) (λ value. refl) same

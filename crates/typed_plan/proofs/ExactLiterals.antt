@@ -16,16 +16,16 @@ use Rattle.scan_base.specs.declared.comparison.Comparison.TheVariants.{Equal, No
 use Rattle.scan_base.specs.Comparison.{satisfies}
 use Rattle.typed_plan.specs.SettledLiterals.{no_number, number_between, number_beside, ComparesExactly}
 
-less : (a b : ℤ) → a <ℤ b → int_cmp a b ≡ ordering.Less
+pub less : (a b : ℤ) → a <ℤ b → int_cmp a b ≡ ordering.Less
 less a b h = grind (arith, ints)
 
-same : (a b : ℤ) → a ≡ b → int_cmp a b ≡ ordering.Equal
+pub same : (a b : ℤ) → a ≡ b → int_cmp a b ≡ ordering.Equal
 same a b h = grind (arith, ints)
 
-more : (a b : ℤ) → b <ℤ a → int_cmp a b ≡ ordering.Greater
+pub more : (a b : ℤ) → b <ℤ a → int_cmp a b ≡ ordering.Greater
 more a b h = grind (arith, ints)
 
-cases_of : (a b : ℤ) → (a <ℤ b) ⊎ ((a ≡ b) ⊎ (b <ℤ a))
+pub cases_of : (a b : ℤ) → (a <ℤ b) ⊎ ((a ≡ b) ⊎ (b <ℤ a))
 cases_of a b = grind (arith, ints)
 
 -- how the zeptoseconds of a number stand to others, by those in whole units
@@ -80,6 +80,38 @@ exact c unit n t none =
     ]
 
 -- a number up to the one below a place stands before it, and any other after it
+pub before : (c : Comparison) (n q x t : ℤ) → n <ℤ no_number → n ≤ℤ q → x <ℤ t → satisfies c (int_cmp n (number_between c q)) ≡ satisfies c (int_cmp x t)
+before Equal n q x t small le lt = rw (less n no_number small, less x t lt) refl
+before NotEqual n q x t small le lt = rw (less n no_number small, less x t lt) refl
+before Less n q x t small le lt = rw (less n (q +ℤ pos 1) (omega (arith, signed_arith, le)), less x t lt) refl
+before GreaterOrEqual n q x t small le lt = rw (less n (q +ℤ pos 1) (omega (arith, signed_arith, le)), less x t lt) refl
+before LessOrEqual n q x t small le lt = elim (cases_of n q) [
+  | inl down ↦ rw (less n q down, less x t lt) refl
+  | inr (inl is) ↦ rw (same n q is, less x t lt) refl
+  | inr (inr up) ↦ absurd (omega (arith, signed_arith, le, up))
+]
+before Greater n q x t small le lt = elim (cases_of n q) [
+  | inl down ↦ rw (less n q down, less x t lt) refl
+  | inr (inl is) ↦ rw (same n q is, less x t lt) refl
+  | inr (inr up) ↦ absurd (omega (arith, signed_arith, le, up))
+]
+
+pub after : (c : Comparison) (n q x t : ℤ) → n <ℤ no_number → q <ℤ n → t <ℤ x → satisfies c (int_cmp n (number_between c q)) ≡ satisfies c (int_cmp x t)
+after Equal n q x t small lt gt = rw (less n no_number small, more x t gt) refl
+after NotEqual n q x t small lt gt = rw (less n no_number small, more x t gt) refl
+after LessOrEqual n q x t small lt gt = rw (more n q lt, more x t gt) refl
+after Greater n q x t small lt gt = rw (more n q lt, more x t gt) refl
+after Less n q x t small lt gt = elim (cases_of n (q +ℤ pos 1)) [
+  | inl down ↦ absurd (omega (arith, signed_arith, lt, down))
+  | inr (inl is) ↦ rw (same n (q +ℤ pos 1) is, more x t gt) refl
+  | inr (inr up) ↦ rw (more n (q +ℤ pos 1) up, more x t gt) refl
+]
+after GreaterOrEqual n q x t small lt gt = elim (cases_of n (q +ℤ pos 1)) [
+  | inl down ↦ absurd (omega (arith, signed_arith, lt, down))
+  | inr (inl is) ↦ rw (same n (q +ℤ pos 1) is, more x t gt) refl
+  | inr (inr up) ↦ rw (more n (q +ℤ pos 1) up, more x t gt) refl
+]
+
 between : (c : Comparison) (unit : TimeUnit) (n t : ℤ) → n <ℤ no_number → unsigned_abs (int_rem_euclid t (pos (zeptos_in unit))) ≢ 0 →
     satisfies c (int_cmp n (number_between c (int_div_euclid t (pos (zeptos_in unit))))) ≡ satisfies c (int_cmp (n *ℤ pos (zeptos_in unit)) t)
 between c unit n t small some =
@@ -90,38 +122,6 @@ between c unit n t small some =
       | inl lt ↦ before c n q x t small (omega (arith, signed_arith, lt)) (s.below lt)
       | inr (inl is) ↦ before c n q x t small (omega (arith, signed_arith, is)) (s.part is some)
       | inr (inr gt) ↦ after c n q x t small gt (s.above gt)
-    ]
-  where
-    before : (c : Comparison) (n q x t : ℤ) → n <ℤ no_number → n ≤ℤ q → x <ℤ t → satisfies c (int_cmp n (number_between c q)) ≡ satisfies c (int_cmp x t)
-    before Equal n q x t small le lt = rw (less n no_number small, less x t lt) refl
-    before NotEqual n q x t small le lt = rw (less n no_number small, less x t lt) refl
-    before Less n q x t small le lt = rw (less n (q +ℤ pos 1) (omega (arith, signed_arith, le)), less x t lt) refl
-    before GreaterOrEqual n q x t small le lt = rw (less n (q +ℤ pos 1) (omega (arith, signed_arith, le)), less x t lt) refl
-    before LessOrEqual n q x t small le lt = elim (cases_of n q) [
-      | inl down ↦ rw (less n q down, less x t lt) refl
-      | inr (inl is) ↦ rw (same n q is, less x t lt) refl
-      | inr (inr up) ↦ absurd (omega (arith, signed_arith, le, up))
-    ]
-    before Greater n q x t small le lt = elim (cases_of n q) [
-      | inl down ↦ rw (less n q down, less x t lt) refl
-      | inr (inl is) ↦ rw (same n q is, less x t lt) refl
-      | inr (inr up) ↦ absurd (omega (arith, signed_arith, le, up))
-    ]
-
-    after : (c : Comparison) (n q x t : ℤ) → n <ℤ no_number → q <ℤ n → t <ℤ x → satisfies c (int_cmp n (number_between c q)) ≡ satisfies c (int_cmp x t)
-    after Equal n q x t small lt gt = rw (less n no_number small, more x t gt) refl
-    after NotEqual n q x t small lt gt = rw (less n no_number small, more x t gt) refl
-    after LessOrEqual n q x t small lt gt = rw (more n q lt, more x t gt) refl
-    after Greater n q x t small lt gt = rw (more n q lt, more x t gt) refl
-    after Less n q x t small lt gt = elim (cases_of n (q +ℤ pos 1)) [
-      | inl down ↦ absurd (omega (arith, signed_arith, lt, down))
-      | inr (inl is) ↦ rw (same n (q +ℤ pos 1) is, more x t gt) refl
-      | inr (inr up) ↦ rw (more n (q +ℤ pos 1) up, more x t gt) refl
-    ]
-    after GreaterOrEqual n q x t small lt gt = elim (cases_of n (q +ℤ pos 1)) [
-      | inl down ↦ absurd (omega (arith, signed_arith, lt, down))
-      | inr (inl is) ↦ rw (same n (q +ℤ pos 1) is, more x t gt) refl
-      | inr (inr up) ↦ rw (more n (q +ℤ pos 1) up, more x t gt) refl
     ]
 
 pub compares_exactly : (comparison : Comparison) (unit : TimeUnit) (number zeptos : ℤ) → ComparesExactly comparison unit number zeptos

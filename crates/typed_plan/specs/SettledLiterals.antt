@@ -1,8 +1,8 @@
--- A literal of a timestamp or a time next to a column of such: it gets the column's type, and the
--- number that compares with those of the column as the literal does.
-use Rattle.std.specs.Prelude.{◌≡◌, ℕ, ◌^◌, ◌==◌, map, slice_get, Option, Some, None, Result}
+-- A literal of a timestamp, a time or a number next to a column of such: it gets the column's type,
+-- and the number that compares with those of the column as the literal does.
+use Rattle.std.specs.Prelude.{◌≡◌, ℕ, zero, ◌==◌, map, slice_get, Option, Some, None, Result}
 use Rattle.std.specs.Prelude.{Ok, Err, if◌then◌else◌, ℤ, pos, ◌+ℤ◌, ◌*ℤ◌, ◌<ℤ◌, unsigned_abs}
-use Rattle.std.specs.Prelude.{option_map}
+use Rattle.std.specs.Prelude.{option_map, neg_ℤ}
 use Rattle.std.specs.Int.{int_div_euclid, int_rem_euclid}
 use Rattle.std.specs.Ordering.{int_cmp}
 use Rattle.arrow_types.specs.declared.data_type.DataType.{DataType}
@@ -11,6 +11,7 @@ use Rattle.arrow_types.specs.declared.data_type.NumberType.{NumberType}
 use Rattle.arrow_types.specs.declared.data_type.NumberType.TheVariants as number
 use Rattle.arrow_types.specs.declared.data_type.TimeUnit.{TimeUnit}
 use Rattle.arrow_types.specs.DataType.{zeptos_in}
+use Rattle.arrow_types.specs.Scales.{is_scaled, no_decimal, parts_of, scaled, step_of}
 use Rattle.scan_base.specs.declared.comparison.Comparison.{Comparison}
 use Rattle.scan_base.specs.declared.comparison.Comparison.TheVariants.{Equal, NotEqual, Less}
 use Rattle.scan_base.specs.declared.comparison.Comparison.TheVariants.{LessOrEqual, Greater}
@@ -29,9 +30,9 @@ use Rattle.typed_plan.specs.Scope.{Scope, column_of}
 
 -- ---- numbers
 
--- a number that no column of 64 bits has
+-- a number that no column has
 abbrev pub no_number : ℤ
-no_number = pos (2 ^ 64)
+no_number = no_decimal
 
 -- the number that stands, on the right of a comparison, for a value between a whole number and the
 -- next
@@ -50,6 +51,11 @@ number_beside comparison unit zeptos =
     then int_div_euclid zeptos (pos (zeptos_in unit))
     else number_between comparison (int_div_euclid zeptos (pos (zeptos_in unit)))
 
+-- the decimal of a scale that stands there for wholes and parts of one more
+abbrev pub decimal_beside : Comparison → ℕ → ℤ → ℕ → ℤ
+decimal_beside comparison scale whole part = if is_scaled scale part then scaled scale whole part
+    else number_between comparison (scaled scale whole part)
+
 -- ---- literals
 
 -- a literal on the right of a comparison with numbers of a type
@@ -58,6 +64,12 @@ typed (number.Timestamp unit zoned) comparison (literal.Timestamp zeptos) = lite
     (number.Timestamp unit zoned) (number_beside comparison unit zeptos)
 typed (number.Time unit) comparison (literal.Time zeptos) =
     literal.Number (number.Time unit) (number_beside comparison unit zeptos)
+typed (number.Decimal digits scale) comparison (literal.Fraction whole part) = literal.Number
+    (number.Decimal digits scale) (decimal_beside comparison scale whole part)
+typed (number.Decimal digits scale) comparison (literal.Number (number.Decimal others zero) whole) =
+    literal.Number (number.Decimal digits scale) (decimal_beside comparison scale whole 0)
+typed (number.Integer integer) comparison (literal.Fraction whole part) =
+    literal.Number (number.Integer integer) (decimal_beside comparison 0 whole part)
 typed kind comparison written = written
 
 -- the same next to a column of a type
@@ -106,11 +118,18 @@ settled scope (membership negated operand items) =
 settled scope (null_test negated operand) = null_test negated operand
 settled scope (constant truth) = constant truth
 
--- ---- the law
+-- ---- the laws
 
--- a number of 64 bits compares with the literal's number as its own zeptoseconds do with the
+-- a number that a column has compares with the literal's number as its own zeptoseconds do with the
 -- literal's
 abbrev pub ComparesExactly : Comparison → TimeUnit → ℤ → ℤ → Type 0
 ComparesExactly comparison unit number zeptos = number <ℤ no_number →
     satisfies comparison (int_cmp number (number_beside comparison unit zeptos))
     ≡ satisfies comparison (int_cmp (number *ℤ pos (zeptos_in unit)) zeptos)
+
+-- a decimal compares with the literal's number as its own parts do with the literal's
+abbrev pub DecimalsCompareExactly : Comparison → ℕ → ℤ → ℕ → Type 0
+DecimalsCompareExactly comparison scale whole part =
+    (number : ℤ) → neg_ℤ no_number <ℤ number → number <ℤ no_number →
+    satisfies comparison (int_cmp number (decimal_beside comparison scale whole part))
+    ≡ satisfies comparison (int_cmp (number *ℤ pos (step_of scale)) (parts_of whole part))

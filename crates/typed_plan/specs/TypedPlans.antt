@@ -105,7 +105,7 @@ abbrev pub item_type : List ℕ → List DataType → Aggregate → DataType
 item_type keys types (Key place) = type_at types (get_or keys place 0)
 item_type keys types CountRows = Number (Integer Int64)
 item_type keys types (Count column) = Number (Integer Int64)
-item_type keys types (Sum column) = Number Decimal
+item_type keys types (Sum column) = Number (Decimal 38 0)
 
 -- the types that an output gives of columns of these types
 abbrev pub output_types : Output → List DataType → List DataType

@@ -2,7 +2,7 @@
 
 ghost use Rattle.std.specs.Prelude.{◌≡◌};
 ghost use Rattle.typed_plan.specs.Class.{number_class, type_class, literal_class, same_class};
-ghost use Rattle.typed_plan.specs.Class.{value_class};
+ghost use Rattle.typed_plan.specs.Class.{scaled_class, value_class};
 
 use arrow_types::{DataType, NumberType};
 use scan_base::Value;
@@ -11,8 +11,10 @@ use sql_query::Literal;
 /// What a value is a value of. Only values of one class are compared.
 #[derive(Clone, Copy)]
 pub enum Class {
-    /// Integers of every width, and decimals.
+    /// Integers of every width, and decimals without digits after the point.
     Number,
+    /// Decimals with so many digits after the point.
+    Scaled(u8),
     /// Texts, and dictionaries of texts.
     Text,
     /// Truth values.
@@ -20,6 +22,9 @@ pub enum Class {
     /// What is no integer and no decimal, each type for itself: dates, timestamps, times,
     /// durations.
     Own(NumberType),
+    /// Numbers with a fraction of literals that stand next to no column of numbers. They agree with
+    /// none.
+    Fraction,
     /// Timestamps of literals that stand next to no column of timestamps.
     Moment,
     /// Times of literals that stand next to no column of times.
@@ -43,11 +48,23 @@ impl Class {
         ensures { result ≡ number_class kind }
     {
         match kind {
-            NumberType::Integer(_) | NumberType::Decimal => Class::Number,
+            NumberType::Integer(_) => Class::Number,
+            NumberType::Decimal(_, scale) => Class::of_scale(scale),
             NumberType::Date
             | NumberType::Timestamp(_, _)
             | NumberType::Time(_)
             | NumberType::Duration(_) => Class::Own(kind),
+        }
+    }
+
+    // The class of decimals of a scale.
+    fn of_scale(scale: u8) -> Class
+        ensures { result ≡ scaled_class scale }
+    {
+        if scale == 0 {
+            Class::Number
+        } else {
+            Class::Scaled(scale)
         }
     }
 
@@ -60,6 +77,7 @@ impl Class {
             (Class::Text, Class::Text) => true,
             (Class::Truth, Class::Truth) => true,
             (Class::Own(one), Class::Own(other)) => one.is_same(other),
+            (Class::Scaled(one), Class::Scaled(other)) => one == other,
             (Class::Moment, Class::Moment) => true,
             (Class::Clock, Class::Clock) => true,
             (_, _) => false,
@@ -74,6 +92,7 @@ impl Class {
             Literal::Text(_) => Class::Text,
             Literal::Truth(_) => Class::Truth,
             Literal::Number(kind, _) => Class::of_number(*kind),
+            Literal::Fraction(_, _) => Class::Fraction,
             Literal::Timestamp(_) => Class::Moment,
             Literal::Time(_) => Class::Clock,
         }

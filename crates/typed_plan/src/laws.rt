@@ -1,10 +1,10 @@
 //! What holds of every query and plan. Each law is a function whose contract says it.
 
-ghost use Rattle.std.specs.Prelude.{ℤ};
+ghost use Rattle.std.specs.Prelude.{ℕ, ℤ};
 ghost use Rattle.arrow_types.specs.declared.data_type.TimeUnit.{TimeUnit};
 ghost use Rattle.scan_base.specs.declared.comparison.Comparison.{Comparison};
 ghost use Rattle.typed_plan.specs.Meaning.{RangesJoin};
-ghost use Rattle.typed_plan.specs.SettledLiterals.{ComparesExactly};
+ghost use Rattle.typed_plan.specs.SettledLiterals.{ComparesExactly, DecimalsCompareExactly};
 ghost use Rattle.typed_plan.specs.TypedPlans.{TypedPredicatesNameColumns};
 
 /// Two neighboring ranges of a query that is not grouped give the rows of the range that they make
@@ -24,4 +24,11 @@ pub fn typed_predicates_name_columns()
 pub fn literals_compare_exactly()
     ensures { (comparison : Comparison) (unit : TimeUnit) (number zeptos : ℤ) →
         ComparesExactly comparison unit number zeptos }
+{}
+
+/// A literal of a number compares with the numbers of a column of decimals or integers exactly as it
+/// is written, whatever the column's scale.
+pub fn decimals_compare_exactly()
+    ensures { (comparison : Comparison) (scale : ℕ) (whole : ℤ) (part : ℕ) →
+        DecimalsCompareExactly comparison scale whole part }
 {}

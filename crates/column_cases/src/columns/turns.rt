@@ -59,7 +59,7 @@ fn type_of(column: &Column) -> DataType
 {
     match column.layout() {
         Layout::Integers(cells) => DataType::Number(NumberType::Integer(cells.integer_type())),
-        Layout::Decimals(_) => DataType::Number(NumberType::Decimal),
+        Layout::Decimals(_) => DataType::Number(NumberType::Decimal(38, 0)),
         Layout::Bools(_) => DataType::Bool,
         Layout::Texts(_) => DataType::Utf8,
         Layout::Indices(cells) => DataType::Dictionary(DictionaryEncoding {

@@ -35,4 +35,4 @@ returns-in_err-name-clause-refused c =
     let colon = c.in-Some.ensures in
     let cut : IsCut text front nullable c.in-Some.at =
     record { text_is = c.unmarked-nullable.ensures.text; unmarked = c.unmarked-nullable.ensures.marked; low = colon.0; colon = colon.1; last = colon.2 } in
-    rw (p.1, p.2) (without_name text front nullable c.in-Some.at c.in-Some-type_named.data_type _ cut c.in-Some-type_named.ensures.word c.in_err-name.ensures.refused)
+    rw (p.1, p.2) (without_name text front nullable c.in-Some.at c.in-Some-type_named.data_type _ cut c.in-Some-type_named.ensures.word c.in-Some-type_named.ensures.typed c.in_err-name.ensures.refused)
