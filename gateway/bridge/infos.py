@@ -70,8 +70,8 @@ def type_row(name: str, type: int, size: int, **more: object) -> tuple:
     return tuple(given.get(column.name) for column in TYPE_COLUMNS)
 
 
-def numeric(name: str, type: int, digits: int, unsigned: bool) -> tuple:
-    return type_row(name, type, digits, unsigned_attribute=unsigned, minimum_scale=0, maximum_scale=0, num_prec_radix=10)
+def numeric(name: str, type: int, digits: int, unsigned: bool, most: int = 0) -> tuple:
+    return type_row(name, type, digits, unsigned_attribute=unsigned, minimum_scale=0, maximum_scale=most, num_prec_radix=10)
 
 
 def timed(name: str, type: int, size: int, digits: int) -> tuple:
@@ -85,7 +85,7 @@ ALL_TYPES = sorted([
     type_row("bool", BIT, 1),
     *(numeric(f"int{bits}", INTEGERS[bits], DIGITS[bits], False) for bits in DIGITS),
     *(numeric(f"uint{bits}", INTEGERS[bits], DIGITS[bits] + (bits == 64), True) for bits in DIGITS),
-    numeric("decimal", DECIMAL, 38, False),
+    numeric("decimal", DECIMAL, 38, False, 38),
     type_row("utf8", VARCHAR, 65_536, literal_prefix="'", literal_suffix="'", case_sensitive=True),
     type_row("date", DATE, 10, literal_prefix="DATE '", literal_suffix="'", sql_data_type=DATETIME, datetime_subcode=DAY_CODE),
     *(timed(f"timestamp{zone}{end}", TIMESTAMP, 19 + len(zone) // 2, digits) for zone in ("", "tz") for end, digits in UNITS.items()),

@@ -2,8 +2,8 @@
 import json
 from dataclasses import dataclass
 
-from trees import (BOOL, DATE, DECIMAL, TIMESTAMP, UNITS, UTF8, batch, dictionary, duration, encoding, field, headed, hexed, integer, offsets,
-                   placed, schema, time, timestamp)
+from trees import (BOOL, DATE, DECIMAL, TIMESTAMP, UNITS, UTF8, batch, decimal, dictionary, duration, encoding, field, headed, hexed, integer,
+                   offsets, placed, schema, time, timestamp)
 
 MESSAGES, INDEX = {}, []
 
@@ -123,6 +123,12 @@ add("schema_Date", schema(field("a", DATE)), says(("a", "Date", True)))
 add("schema_Date_full", schema(field("a", DATE, False)), says(("a", "Date", False)), layout="packed", compared=True)
 add("schema_Date_and_more", schema(field("a", integer(32, True)), field("d", DATE, False), field("s", UTF8)),
     says(("a", "Int32", True), ("d", "Date", False), ("s", "Utf8", True)), layout="spread", compared=True)
+# Decimals with digits after the point. A scale of 0 and 128 bits are defaults.
+for digits, scale in [(38, 2), (37, 0), (12, 2), (1, 0), (1, 1), (38, 38)]:
+    add(f"schema_Decimal_{digits}_{scale}", schema(field("a", decimal(digits, scale))), says(("a", f"Decimal({digits}, {scale})", True)),
+        layout="packed", compared=True)
+add("schema_Decimal_spread", schema(field("a", decimal(9, 4, bitWidth=128), False), field("b", DECIMAL)),
+    says(("a", "Decimal(9, 4)", False), ("b", "Decimal128", True)), layout="spread", compared=True)
 # Times of each unit. A default unit is left out: seconds of a Timestamp, milliseconds of the others.
 for unit in UNITS:
     add(f"schema_Timestamp_{unit}", schema(field("a", timestamp(unit))), says(("a", f"Timestamp({unit}, false)", True)))
@@ -226,12 +232,11 @@ add("bad_type_absent_float", schema({"name": "a", "type_type": "FloatingPoint"})
 for width in (0, 1, 7, 24, 128, -8, 264):
     add(f"bad_width_{width}", schema(field("a", integer(width, True))), "F7")
 add("bad_width_absent", schema(field("a", ("Int", {}))), "F7")
-for name, table in [("scale_2", {"scale": 2}), ("scale_less_1", {"scale": -1}), ("precision_37", {"precision": 37}),
-                    ("256", {"bitWidth": 256}), ("64", {"bitWidth": 64})]:
-    add(f"bad_decimal_{name}", schema(field("a", ("Decimal", {"precision": 38, "scale": 0, **table}))), "F7")
+for name, table in [("scale_less_1", {"scale": -1}), ("scale_39", {"scale": 39}), ("precision_39", {"precision": 39}), ("256", {"bitWidth": 256}),
+                    ("64", {"bitWidth": 64}), ("precision_less_1", {"precision": -1}), ("precision_0", {"precision": 0}),
+                    ("scale_13", {"precision": 12, "scale": 13}), ("scale_258", {"scale": 258}), ("precision_268", {"precision": 268})]:
+    add(f"bad_decimal_{name}", schema(field("a", ("Decimal", {"precision": 38, "scale": 0, **table}))), "F7", layout="packed")
 add("bad_decimal_empty", schema(field("a", ("Decimal", {}))), "F7", note="precision 0")
-add("bad_decimal_scale_2_packed", schema(field("a", ("Decimal", {"precision": 38, "scale": 2}))), "F7", layout="packed",
-    compared=True)
 for name, of in [("Int64", I64), ("Utf8", UTF8), ("Bool", BOOL)]:
     add(f"bad_children_{name}", schema(field("a", of, children=[field("b", I64)])), "F7")
 add("bad_dictionary_Int64", schema(field("a", I64, dictionary=encoding(1))), "F7")
@@ -295,6 +300,9 @@ add("batch_Decimal128",
     rows([-170141183460469231731687303715884105728], [170141183460469231731687303715884105727], [-1], [None],
          [36893488147419103230], [21345817372864405881847059188222722561]), "schema_Decimal128",
     note="every value of 128 bits is taken, also of 39 digits")
+add("batch_Decimal_12_2", batch(4, (1, "0D", "E2 04" + "00" * 14 + "A5" * 16 + "FB" + "FF" * 15 + "FF" * 15 + "7F")),
+    rows([1250], [None], [-5], [170141183460469231731687303715884105727]), "schema_Decimal_12_2", layout="packed", compared=True,
+    note="12.50 and -0.05; a batch is read with any digits")
 add("batch_Decimal128_full", batch(1, (0, "", "FF" * 16)), rows([-1]), "schema_Decimal128_full")
 add("batch_Date", batch(5, (1, "FD", "3E 22 00 00 A5 A5 A5 A5 C5 06 F5 FF 00 00 00 80 FF FF FF 7F")),
     rows([8766], [None], [-719163], [-2147483648], [2147483647]), "schema_Date", layout="packed", compared=True,

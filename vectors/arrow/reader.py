@@ -8,7 +8,8 @@ UNITS = ["Second", "Millisecond", "Microsecond", "Nanosecond"]
 TIMES = {f"Time({unit})": 4 if number < 2 else 8 for number, unit in enumerate(UNITS)}
 TIMES |= {f"Duration({unit})": 8 for unit in UNITS}
 TIMES |= {f"Timestamp({unit}, {zoned})": 8 for unit in UNITS for zoned in ("true", "false")}
-BYTES = {"Decimal128": 16, "Date": 4, **TIMES, **{name: bits // 8 for (bits, _), name in INTEGERS.items()}}
+DECIMALS = {f"Decimal({digits}, {scale})": 16 for digits in range(1, 39) for scale in range(digits + 1)}
+BYTES = {"Decimal128": 16, **DECIMALS, "Date": 4, **TIMES, **{name: bits // 8 for (bits, _), name in INTEGERS.items()}}
 
 
 class Fault(Exception):
@@ -101,8 +102,9 @@ def read_type(field):
         demand(table.scalar(0, 2, 1) == 0, "F7")
         return "Date"
     if kind == 7:
-        demand((table.scalar(0, 4), table.scalar(1, 4), table.scalar(2, 4, 128)) == (38, 0, 128), "F7")
-        return "Decimal128"
+        name = f"Decimal({table.scalar(0, 4)}, {table.scalar(1, 4)})"
+        demand(name in DECIMALS and table.scalar(2, 4, 128) == 128, "F7")
+        return "Decimal128" if name == "Decimal(38, 0)" else name
     return integer(table) if kind == 2 else {5: "Utf8", 6: "Bool"}[kind]
 
 

@@ -28,6 +28,10 @@ DATE, TIMESTAMP = ("Date", {"unit": "DAY"}), ("Timestamp", {"unit": "MICROSECOND
 UNITS = {"Second": "SECOND", "Millisecond": "MILLISECOND", "Microsecond": "MICROSECOND", "Nanosecond": "NANOSECOND"}
 
 
+def decimal(digits, scale, **more):
+    return "Decimal", {"precision": digits, "scale": scale, **more}
+
+
 def timestamp(unit, zone=None):
     return "Timestamp", {"unit": UNITS[unit], **({} if zone is None else {"timezone": zone})}
 

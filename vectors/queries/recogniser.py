@@ -2,6 +2,7 @@
 
 The grammar below is the printed one, but that a string which is a date is called `date`, one which is a timestamp `moment`,
 and one which is a time of a day `clock`: each stands where any string may, and behind its word DATE, TIMESTAMP or TIME.
+Digits of more than 38 bytes are called `long`: none stand behind a point.
 TIMESTAMP and TIME are words right before a string, and names elsewhere. The grammar is read as it stands and run by Earley's recogniser over the tokens of the
 lexer beside this file, so that the offending token is the first one with which no sentence of the grammar goes on. The
 limits are read off the recogniser's items. Nothing is shared with the crates.
@@ -24,7 +25,8 @@ conj    = factor {AND factor}
 factor  = NOT factor | test
 test    = primary [IS [NOT] (TRUE | FALSE | UNKNOWN)]
 primary = "(" pred ")" | operand compare operand | operand [NOT] BETWEEN operand AND operand | operand [NOT] IN "(" operand {"," operand} ")" | operand IS [NOT] NULL
-operand = column | ["+" | "-"] digits | string | date | moment | clock | TRUE | FALSE | DATE date | TIMESTAMP moment | TIME clock
+operand = column | ["+" | "-"] number | string | date | moment | clock | TRUE | FALSE | DATE date | TIMESTAMP moment | TIME clock
+number  = (digits | long) ["." digits]
 column  = name ["." name]
 compare = "=" | "<>" | "!=" | "<" | "<=" | ">" | ">="
 """
@@ -75,7 +77,7 @@ class Grammar:
                     symbols.append(name)
             elif word.startswith('"'):
                 symbols.append(("t", word.strip('"')))
-            elif word.isupper() or word in ("name", "digits", "string", "date", "moment", "clock"):
+            elif word.isupper() or word in ("name", "digits", "long", "string", "date", "moment", "clock"):
                 symbols.append(("t", word))
             else:
                 symbols.append(word)
@@ -136,6 +138,8 @@ def tokens_of(query):
             called = {"Name": "name", "DelimitedName": "name", "String": "string", "Digits": "digits"}.get(kind, piece)
         if kind == "LeftOut":
             called = None
+        elif kind == "Digits" and len(piece) > 38:
+            called = "long"
         elif kind == "String" and is_date(piece):
             called = "date"
         elif kind == "String" and is_moment(piece):
@@ -410,6 +414,14 @@ TIMES = [
     AT + "'2024-05-01 12:00:00.000000000000000000001'", AT + "'2024-05-01 12:00:00.0000000000000000000001'", AT + "'2024-05-01 12:00:00.000000000000000000000Z'",
 ]
 
+OF_NUMBERS = "SELECT a FROM t WHERE a = "
+NUMBERS = [
+    *(OF_NUMBERS + text for text in ("1.5", "-1.5", "+12.50", "0.0", "1 . 5", "1.5.2", "1.", ".5", "-.5", "1..5", "1.a", "1.'5'", "1.-5", "1,5", "00.500", "1.5 a")),
+    OF_NUMBERS + "1." + "0" * 38, OF_NUMBERS + "1." + "0" * 39, OF_NUMBERS + "0" * 60 + ".5", OF_NUMBERS + "9" * 38 + "." + "9" * 38, OF_NUMBERS + "9" * 39 + ".5",
+    OF_NUMBERS + "1." + "9" * 39, "SELECT a FROM t WHERE 1.5 < a AND a IN (1.5, 2, -0.25) OR a BETWEEN 1.5 AND 2.5", "SELECT 1.5 FROM t", "SELECT a FROM t WHERE 1.5 IS NULL",
+    "SELECT a FROM t WHERE a = 1.5 -- 2.5", "SELECT a FROM t WHERE t.a = 1.5", "SELECT a FROM t GROUP BY 1.5", "SELECT a FROM t WHERE a = 1./**/5",
+]
+
 TIMESTAMPS = [
     # sentences
     AT + "'2024-05-01 12:00:00'", AT + "'2024-05-01 12:00:00.25'", AT + "'1969-12-31 23:59:59.999999'", AT + "'0001-01-01 00:00:00'", AT + "'9999-12-31 23:59:59.999999'", AT + "'2024-02-29 00:00:00.0'",
@@ -520,4 +532,4 @@ def changed(count):
 
 
 def queries():
-    return list(dict.fromkeys(SENTENCES + OTHERS + DATES + TIMESTAMPS + TIMES + list(limits()) + list(changed(400))))
+    return list(dict.fromkeys(SENTENCES + OTHERS + DATES + TIMESTAMPS + TIMES + NUMBERS + list(limits()) + list(changed(400))))

@@ -26,6 +26,7 @@ history a column d of dates and a number i, in two batches of two rows
 moments a nullable column t of timestamps, a column d of dates, and a number k
 clocks  a column t of timestamps and a number i, in two batches of two rows
 ticks   columns of timestamps s, m and n, of a time c and of a duration e, each of another unit, and a number k
+fares   columns of decimals of several scales, a column n of Int8, as decimals.py has them, and a number k
 """
 import datetime
 import json
@@ -39,7 +40,8 @@ import layout
 from cases import INTS
 from reader import Reader
 from trees import BOOL, DATE, DECIMAL, TIMESTAMP, UTF8, batch, bits, dictionary, duration, encoding, field, integer, schema, texts
-from trees import time, timestamp, validity
+from trees import decimal, time, timestamp, validity
+import decimals
 
 MOST = 10**38 - 1  # of a decimal of 38 digits
 WHOLE = [(("i" if signed else "u") + str(bits), integer(bits, signed)) for _, bits, signed, *_ in INTS]
@@ -214,6 +216,12 @@ def for_timestamps():
                    ("c", time("Millisecond"), [1000 * (tick % 86400) for tick in TICKS]), ("e", duration("Second"), TICKS), ("k", i64, [1, 2, 3]))
 
 
+def for_decimals():
+    """Decimals of several scales, and a column of integers."""
+    columns = [(name, decimal(*form) if form else integer(8, True), values) for name, form, values in decimals.FARES]
+    yield few_rows("fares", *columns, ("k", integer(64, True), [1, 2, 3, 4, 5, 6]))
+
+
 def for_skipping():
     """Tables whose batches are apart in their least and greatest values, or in their nulls."""
     i64 = integer(64, True)
@@ -266,4 +274,4 @@ def put(name, columns, messages, periods=()):
 
 
 def puts():
-    return [put(*one) for one in [*two_columns(), six_rows(), many_rows(), *for_joins_and_groups(), *for_skipping(), *for_dates(), *for_timestamps()]]
+    return [put(*one) for one in [*two_columns(), six_rows(), many_rows(), *for_joins_and_groups(), *for_skipping(), *for_dates(), *for_timestamps(), *for_decimals()]]

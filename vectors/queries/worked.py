@@ -14,6 +14,7 @@ k  i8 to i64, d  u8 to u64  s        f      g      c
 The column c is a dictionary: its 'a' stands there twice, and in row 6 an index leads to a null.
 """
 
+import decimals
 from table import MOMENTS, ODD, ROWS, micros
 
 MISSING, LIMIT, NAME, CLASH, LEFT_OUT = "F9 TableMissing", "F12 LimitReached", "F14 UnknownName", "F15 TypeClash", "F16 NotInSubset"
@@ -758,6 +759,7 @@ COLUMNS = [
     ("SELECT d, COUNT(d) FROM days GROUP BY d", "d Date true;col2 Integer(Int64) false;"),
     ("SELECT t, COUNT(t) FROM moments GROUP BY t", "t Timestamp(Microsecond, false) true;col2 Integer(Int64) false;"),
     ("SELECT t AS timestamp, i timestamp FROM clocks Timestamp", "timestamp Timestamp(Microsecond, false) false;timestamp Integer(Int64) false;"),
+    ("SELECT x, COUNT(x) FROM fares GROUP BY x", "x Decimal(12, 2) true;col2 Integer(Int64) false;"),
     (
         "SELECT c, k, c AS d FROM types",
         "c Dictionary(DictionaryEncoding { id: 0, index: Int32 }) true;k Integer(Int8) false;"
@@ -811,6 +813,8 @@ def refused():
     yield from ((f"rows SELECT k FROM days WHERE {predicate}", CLASH) for predicate in CLASHES_OF_DATES)
     yield from ((f"rows SELECT k FROM moments WHERE {predicate}", CLASH) for predicate in CLASHES_OF_TIMESTAMPS)
     yield from ((f"rows SELECT k FROM ticks WHERE {predicate}", CLASH) for predicate in CLASHES_OF_TICKS)
+    yield from ((f"rows SELECT k FROM fares WHERE {predicate}", CLASH) for predicate in decimals.CLASHES)
+    yield "rows SELECT SUM(x) FROM fares", CLASH
 
 
 def large():
@@ -850,6 +854,8 @@ def cases():
         yield rows(f"SELECT k FROM moments WHERE {predicate}", wanted)
     for predicate, wanted in TICKS_ASKED:
         yield rows(f"SELECT k FROM ticks WHERE {predicate}", wanted)
+    for predicate, wanted in decimals.asked():
+        yield rows(f"SELECT k FROM fares WHERE {predicate}", wanted)
     yield from (rows(query, wanted) for query, wanted in JOINED_OR_GROUPED)
     yield from ((f"merged {first}/{second}", "".join(map(shown, wanted))) for first, second, wanted in MERGED)
     yield from ((f"whole {first}/{second}", "".join(map(shown, wanted))) for first, second, wanted in MERGED_WHOLE)

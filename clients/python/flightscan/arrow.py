@@ -10,7 +10,7 @@ import pyarrow
 from .columns import Categories, Column
 from .errors import InterfaceError
 from .rows import ROWS_OF_A_BATCH, Values
-from .schema import CLOCKS, DAY, DIGITS, INTEGERS, MOMENT, MOMENTS, NUMBER, TEXT, TRUTH, ZONED, DataType, Field, Schema, dictionary_of
+from .schema import CLOCKS, DAY, INTEGERS, MOMENT, MOMENTS, NUMBER, TEXT, TRUTH, ZONED, DataType, Field, Schema, dictionary_of
 from .stream import Batch
 from .tables import Table
 from .values import of_array, refused, values_of, with_codes
@@ -23,7 +23,9 @@ def type_for(of: DataType) -> pyarrow.DataType:
         return pyarrow.from_numpy_dtype(of.dtype)
     if of.unit is not None:
         return type_of_times(of, of.unit)
-    return {TEXT: pyarrow.string(), TRUTH: pyarrow.bool_(), DAY: pyarrow.date32(), NUMBER: pyarrow.decimal128(DIGITS, 0)}[of]
+    if of.form is not None:
+        return pyarrow.decimal128(*of.form)
+    return {TEXT: pyarrow.string(), TRUTH: pyarrow.bool_(), DAY: pyarrow.date32()}[of]
 
 
 def type_of_times(of: DataType, unit: str) -> pyarrow.DataType:

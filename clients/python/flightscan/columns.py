@@ -10,7 +10,7 @@ from typing import Any
 import numpy as np
 
 from .errors import DataError, fault
-from .schema import CLOCKS, DAY, MOMENTS, NUMBER, SPANS, TEXT, TRUTH, ZONED, Field
+from .schema import CLOCKS, DAY, DECIMALS, MOMENTS, SPANS, TEXT, TRUTH, ZONED, Field
 
 Array = np.ndarray[Any, np.dtype[Any]]
 EPOCH = datetime.date(1970, 1, 1).toordinal()
@@ -123,16 +123,22 @@ def with_nulls(found: list[Any], mask: Array | None) -> list[Any]:
 
 
 class Decimals(Slots):
-    """A column of decimals of scale 0: `slots` has the fields `low` and `high`, and `values` are Decimal objects."""
+    """A column of decimals: `slots` has the fields `low` and `high`, and `values` are Decimal objects."""
+
+    @property
+    def scale(self) -> int:
+        """How many digits stand after the point."""
+        return self.field.type.form[1] if self.field.type.form else 0
 
     def integers(self) -> list[int]:
-        """The values as whole numbers, also where a slot is null."""
+        """The values without their points, also where a slot is null."""
         return [(high << 64) + low for low, high in zip(self.slots["low"].tolist(), self.slots["high"].tolist())]
 
     @cached_property
     def values(self) -> Array:
         nulls = [False] * self.length if self.mask is None else self.mask.tolist()
-        return as_objects([None if null else Decimal(one) for one, null in zip(self.integers(), nulls)])
+        end = f"e-{self.scale}" if self.scale else ""
+        return as_objects([None if null else Decimal(f"{one}{end}") for one, null in zip(self.integers(), nulls)])
 
     def objects(self) -> list[Any]:
         found: list[Any] = self.values.tolist()
@@ -140,6 +146,8 @@ class Decimals(Slots):
 
     def int64(self) -> Array:
         """The values as integers of 64 bits, where all that are not null fit."""
+        if self.scale:
+            raise DataError(f"column {self.field.name}: a decimal with digits after the point is no integer")
         low = self.slots["low"].view("<i8")
         fits = self.slots["high"] == low >> 63
         if not (fits if self.mask is None else fits | self.mask).all():
@@ -258,6 +266,7 @@ def as_objects(found: list[Any]) -> Array:
 
 
 KINDS: dict[str, type[Column]] = {
-    TEXT.name: Texts, TRUTH.name: Truths, DAY.name: Days, NUMBER.name: Decimals,
+    TEXT.name: Texts, TRUTH.name: Truths, DAY.name: Days,
+    **{one.name: Decimals for one in DECIMALS.values()},
     **{one.name: Timestamps for one in (*MOMENTS.values(), *ZONED.values())},
     **{one.name: Spans for one in (*CLOCKS.values(), *SPANS.values())}}

@@ -9,7 +9,7 @@ from typing import TYPE_CHECKING, Any
 from .errors import InterfaceError, NotSupportedError, ProgrammingError
 from .literals import bound
 from .messages import Info
-from .schema import CLOCKS, DAY, INTEGERS, MOMENTS, NUMBER, SPANS, TEXT, TRUTH, ZONED, Field
+from .schema import CLOCKS, DAY, DECIMALS, INTEGERS, MOMENTS, SPANS, TEXT, TRUTH, ZONED, Field
 from .schema import look_at_columns
 from .tables import Table
 
@@ -34,7 +34,7 @@ class TypeGroup(frozenset[str]):
 
 
 STRING = TypeGroup({TEXT.name, "dictionary"})
-NUMBER_GROUP = TypeGroup({*INTEGERS, NUMBER.name, TRUTH.name})
+NUMBER_GROUP = TypeGroup({*INTEGERS, *(one.name for one in DECIMALS.values()), TRUTH.name})
 DATETIME = TypeGroup({DAY.name, *(one.name for kind in (MOMENTS, ZONED, CLOCKS, SPANS) for one in kind.values())})
 BINARY, ROWID = TypeGroup(), TypeGroup()
 Date, Time, Timestamp, Binary = datetime.date, datetime.time, datetime.datetime, bytes
@@ -47,7 +47,7 @@ def TimeFromTicks(ticks: float) -> datetime.time:  # noqa: N802 (DB-API has this
 
 
 def described(field: Field) -> Description:
-    precision, scale = (38, 0) if field.type == NUMBER else (None, None)
+    precision, scale = field.type.form or (None, None)
     return field.name, field.type.name, None, None, precision, scale, field.nullable
 
 

@@ -10,7 +10,7 @@ import pandas
 from .columns import Array
 from .errors import DataError, InterfaceError
 from .rows import Values
-from .schema import DAY, INTEGERS, NUMBER, TEXT, TRUTH, DataType, Field, Schema, dictionary_of
+from .schema import DAY, INTEGERS, TEXT, TRUTH, DataType, Field, Schema, dictionary_of
 from .tables import JoinedColumn, Table
 from .values import look_at_name, of_array, refused, values_of, with_codes
 
@@ -49,9 +49,9 @@ def series_of(column: JoinedColumn, decimals: str, dates: str) -> Any:
         return values
     if of == DAY or of.unit is not None:
         return column_of_objects(column) if dates == "objects" else times_of(column)
-    if of == NUMBER and decimals == "objects":
+    if of.form is not None and decimals == "objects":
         return column.values
-    if of == NUMBER:
+    if of.form is not None:
         values = column.int64()
     assert values is not None
     if not values.flags.aligned or not values.flags.writeable:
@@ -70,7 +70,7 @@ def column_of_objects(column: JoinedColumn) -> Array:
 
 def of_slots(of: DataType) -> bool:
     """Whether the values of a frame's column are those of its slots."""
-    return of not in (NUMBER, DAY) and of.unit is None
+    return of != DAY and of.form is None and of.unit is None
 
 
 def times_of(column: JoinedColumn) -> Array:

@@ -54,9 +54,10 @@ def literal(value: object) -> str:
     if isinstance(value, np.integer):
         return str(int(value))
     if isinstance(value, int) or isinstance(value, Decimal) and value.is_finite():
-        if -ABOVE_DIGITS < value < ABOVE_DIGITS and value == int(value):
-            return str(int(value))
-        raise NotSupportedError("a number with a fraction or with more than 38 digits has no literal")
+        text = format(value, "f") if isinstance(value, Decimal) else str(int(value))
+        if -ABOVE_DIGITS < value < ABOVE_DIGITS and len(text.partition(".")[2]) <= 38:
+            return text
+        raise NotSupportedError("a number with more than 38 digits before or after its point has no literal")
     if isinstance(value, datetime.datetime):
         return f"TIMESTAMP '{time_text(value)}'"
     if isinstance(value, datetime.date):

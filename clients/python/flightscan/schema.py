@@ -32,6 +32,7 @@ class DataType:
     name: str
     dtype: np.dtype[Any] | None = None
     unit: str | None = None  # of a timestamp, a time or a duration, as numpy calls it
+    form: tuple[int, int] | None = None  # of a decimal, its digits and how many of them stand after the point
 
     @property
     def is_dictionary(self) -> bool:
@@ -56,7 +57,17 @@ class DataType:
 INTEGER_DTYPES = [np.dtype(f"<{kind}{size}") for kind in "iu" for size in (1, 2, 4, 8)]
 INTEGERS = {dtype.name: DataType(dtype.name, dtype) for dtype in INTEGER_DTYPES}
 TEXT, TRUTH = DataType("utf8"), DataType("bool")
-DAY, NUMBER = DataType("date", np.dtype("<i4")), DataType("decimal", SLOT_OF_A_DECIMAL)
+DAY = DataType("date", np.dtype("<i4"))
+
+
+def decimal_of(digits: int, scale: int) -> DataType:
+    """Decimals of so many digits, of which so many stand after the point."""
+    word = "decimal" if (digits, scale) == (DIGITS, 0) else f"decimal_{digits}_{scale}"
+    return DataType(word, SLOT_OF_A_DECIMAL, form=(digits, scale))
+
+
+DECIMALS = {(digits, scale): decimal_of(digits, scale) for digits in range(1, DIGITS + 1) for scale in range(digits + 1)}
+NUMBER = DECIMALS[DIGITS, 0]
 
 
 def times_named(word: str, *sizes: int) -> dict[str, DataType]:
@@ -180,9 +191,17 @@ def type_of(field: Table, name: str) -> DataType:
         raise fault(7, f"column {name}: a date that is not in days")
     if kind in (TIME, TIMESTAMP, DURATION):
         return time_type(kind, table, name)
-    if kind == DECIMAL and (table.scalar(0, 4), table.scalar(1, 4), table.scalar(2, 4, 128)) != (DIGITS, 0, 128):
-        raise fault(7, f"column {name}: a decimal other than decimal128(38, 0)")
-    return {UTF8: TEXT, BOOL: TRUTH, DECIMAL: NUMBER, DATE: DAY}[kind]
+    if kind == DECIMAL:
+        return decimal_type(table, name)
+    return {UTF8: TEXT, BOOL: TRUTH, DATE: DAY}[kind]
+
+
+def decimal_type(table: Table, name: str) -> DataType:
+    """The type of decimals of 128 bits."""
+    form = table.scalar(0, 4), table.scalar(1, 4)
+    if form not in DECIMALS or table.scalar(2, 4, 128) != 128:
+        raise fault(7, f"column {name}: a decimal other than decimal128, or of a scale that it has not")
+    return DECIMALS[form]
 
 
 def time_type(kind: int, table: Table, name: str) -> DataType:
@@ -261,9 +280,10 @@ def integer_table(dtype: np.dtype[Any]) -> Block:
 def type_table(of: DataType) -> tuple[int, Block]:
     if of.is_integer and of.dtype is not None:
         return INT, integer_table(of.dtype)
+    if of.form is not None:
+        return DECIMAL, flatbuffers.table((4, of.form[0]), (4, of.form[1]), (4, 128))
     return {
         TRUTH: (BOOL, flatbuffers.table()),
-        NUMBER: (DECIMAL, flatbuffers.table((4, DIGITS), (4, 0), (4, 128))),
         DAY: (DATE, flatbuffers.table((2, DAYS))),
         MOMENT: (TIMESTAMP, flatbuffers.table((2, UNITS.index("us")))),
     }.get(of, (UTF8, flatbuffers.table()))
