@@ -493,7 +493,7 @@ def answered_faults(run: Run) -> None:
 @case("columns of CSV that are spelled wrong: F8, how they are spelled, and nothing is read")
 def misspelled_columns(run: Run) -> None:
     words = ("put", "--port", free_port(), "--table", "t", "--mode", "create", "--format", "csv", "--columns")
-    spelled = "'a:int8, b:utf8?': int8..int64, uint8..uint64, decimal, date, timestamp[tz][_s|_ms|_ns], time[..], duration[..], bool or utf8"
+    spelled = "'a:int8, b:utf8?': int8..int64, uint8..uint64, decimal[_12_2], date, timestamp[tz][_s|_ms|_ns], time[..], duration[..], bool or utf8"
     for columns in ("a:float64", "a int8", "", "a:int8\nb:int8"):
         same(columns, found("F8 BadBatch", spelled), typed(run, *words, columns, data=b"1\n"))
     many = ",".join(f"c{number}:int8" for number in range(65))

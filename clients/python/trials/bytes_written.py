@@ -230,7 +230,7 @@ def bound_parameters(run: Run) -> None:
     same("great numbers", f"{10**38 - 1}, {-(10**38) + 1}, 1200", literals.bound("?, ?, ?", (
         10**38 - 1, Decimal(-(10**38) + 1), Decimal("1.2E+3"))))
     for value, text in ((Decimal("NaN"), "NaN has no literal"), (Decimal("sNaN"), "sNaN has no literal"),
-                        (Decimal("-Infinity"), "-Infinity has no literal"), (Decimal("0.5"), "a number with a fraction"),
+                        (Decimal("-Infinity"), "-Infinity has no literal"), (Decimal("1e-39"), "a number with more than 38 digits"),
                         (10**38, "a number with"), (10**5_000, "a number with"), (Decimal("1E+999999999"), "a number with"),
                         (np.float64(0.5), "float64 has no literal")):
         refused("a number", flightscan.NotSupportedError, text, lambda value=value: literals.bound("?", (value,)))
