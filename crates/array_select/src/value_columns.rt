@@ -46,7 +46,11 @@ pub fn column_of_decimals(alloc: Global, values: &[Option<i128>]) -> Result<Colu
     ensures typed { IfOk result (λ column. IsOfType (type.Number (number.Decimal 38 0)) column.layout) }
     ensures long { IfOk result (λ column. column.len ≡ length values.now) }
 {
-    fill_column(alloc, DataType::Number(NumberType::Decimal(MOST_DIGITS, 0)), values)
+    fill_column(
+        alloc,
+        DataType::Number(NumberType::Decimal(MOST_DIGITS, 0)),
+        values,
+    )
 }
 
 /// A column of truth values, null where there is none.

@@ -219,11 +219,7 @@ pub(crate) fn type_block(builder: &Builder, data_type: DataType) -> Result<(u64,
         DataType::Bool => Ok((6, builder.table(&[])?)),
         DataType::Number(NumberType::Decimal(digits, scale)) => {
             let (digits, scale) = (u64::from(digits), u64::from(scale));
-            let slots = [
-                Slot::Number(digits),
-                Slot::Number(scale),
-                Slot::Number(128),
-            ];
+            let slots = [Slot::Number(digits), Slot::Number(scale), Slot::Number(128)];
             Ok((7, builder.table(&slots)?))
         }
         DataType::Number(NumberType::Date) => Ok((8, builder.table(&[Slot::Number(0)])?)),

@@ -1,5 +1,5 @@
 pub mod Answered
 pub mod Plain
 pub mod Floors
-pub mod Scales
+pub mod ScaledSteps
 pub mod SameNumber

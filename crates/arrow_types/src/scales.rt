@@ -15,7 +15,7 @@ const NO_DECIMAL: i128 = 100_000_000_000_000_000_000_000_000_000_000_000_000;
 const WHOLE: u128 = 100_000_000_000_000_000_000_000_000_000_000_000_000;
 
 /// 10^exponent.
-#[tactic(auto, using(crate::proofs::Scales::small_power))]
+#[tactic(auto, using(crate::proofs::ScaledSteps::small_power))]
 pub fn power_of_ten(exponent: u8) -> u128
     requires { exponent ≤ 38 }
     ensures { result ≡ 10 ^ exponent }
@@ -38,7 +38,7 @@ impl NumberType {
 }
 
 // How many parts, of which a whole has 10^38, the last digit of a scale has.
-#[tactic(auto, using(crate::proofs::Scales::tens, crate::proofs::Scales::small_power))]
+#[tactic(auto, using(crate::proofs::ScaledSteps::tens, crate::proofs::ScaledSteps::small_power))]
 fn step_of(scale: u8) -> u128
     ensures step { result ≡ step_of scale }
     ensures some { 1 ≤ result }
@@ -49,7 +49,7 @@ fn step_of(scale: u8) -> u128
 
 /// The decimal of a scale that so many wholes and so many parts of one, of which it has 10^38, are:
 /// rounded down, and 10^38 or -10^38 where it lies beyond all decimals.
-#[tactic(auto, using(crate::proofs::Scales::beyond, crate::proofs::Scales::before, crate::proofs::Scales::among))]
+#[tactic(auto, using(crate::proofs::ScaledSteps::beyond, crate::proofs::ScaledSteps::before, crate::proofs::ScaledSteps::among))]
 pub fn scaled(scale: u8, whole: i128, part: u128) -> i128
     ensures number { result ≡ scaled scale whole part }
     ensures least { neg_ℤ no_decimal ≤ℤ result }

@@ -7,7 +7,7 @@ use Rattle.arrow_types.specs.declared.data_type.NumberType.{NumberType}
 use Rattle.arrow_types.specs.declared.data_type.NumberType.TheVariants.{Integer, Decimal, Date, Timestamp, Time, Duration}
 use Rattle.arrow_types.specs.DataType.{cell_of}
 use Rattle.arrow_types.specs.Scales.{has_digits}
-use Rattle.arrow_types.proofs.Scales.{small_power}
+use Rattle.arrow_types.proofs.ScaledSteps.{small_power}
 use Rattle.number_words.specs.DateText.{DayReadsBack}
 use Rattle.number_words.specs.WholeNumbers.{holds, kept_in, decimal_in}
 use Rattle.number_words.specs.NumberTexts.{ReadsBack, day_number, decimal_said, is_sayable, shown, with_digits}

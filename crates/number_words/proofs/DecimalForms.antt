@@ -13,7 +13,7 @@ use Rattle.std.proofs.lemmas.Fmt.{decimal_is_IsNumeral_wide}
 use Rattle.std.proofs.lemmas.List.{length-append}
 use lib.Pow.{pow-add}
 use Rattle.arrow_types.specs.Scales.{bounded, is_scaled, scaled, step_of}
-use Rattle.arrow_types.proofs.Scales.{floor_is, no_bound, tens, small_power, steps}
+use Rattle.arrow_types.proofs.ScaledSteps.{floor_is, no_bound, tens, small_power, steps}
 use Rattle.sql_text.specs.Values.{are_digits, is_small, number_of}
 use Rattle.number_words.specs.DecimalTexts.{places, scaled_text, parts_in, is_point, unsigned_in, scaled_in}
 use Rattle.number_words.proofs.DecimalDigits.{digits_back, no_sign, own}
@@ -133,7 +133,7 @@ unsigned_back scale size some few low =
     let c = cut whole rest (digits_of_decimal (size / 10 ^ scale) (omega (arith, small))) in
     let other : (length whole == length (whole ++ (byte "." ∷ rest))) ≡ false = ne_eqb _ _ (λ e. omega (arith, e, length-append whole (byte "." ∷ rest))) in
     rw (c.place, other, c.before, c.after, digits_back (size / 10 ^ scale) (lt-ltb _ _ small), parts_of_places scale (size % 10 ^ scale) some few part) (
-      rw (rest_is_whole scale (size % 10 ^ scale) few part) (ap Some (size_back scale size few low))
+    rw (rest_is_whole scale (size % 10 ^ scale) few part) (ap Some (size_back scale size few low))
     )
 
 pub scaled_back : (scale : ℕ) (number : ℤ) → 1 ≤ scale → scale ≤ 38 → unsigned_abs number < 10 ^ 38 → scaled_in scale (scaled_text scale number) ≡ Some number

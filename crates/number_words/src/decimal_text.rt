@@ -56,9 +56,7 @@ fn push_places(text: &mut ArrayString<FORM_BYTES>, scale: u8, number: u128)
     let mut left = scale;
     while left > 0 {
         left -= 1;
-        text.push(char::from(
-            b'0' + (number / power_of_ten(left) % 10) as u8,
-        ));
+        text.push(char::from(b'0' + (number / power_of_ten(left) % 10) as u8));
     }
 }
 

@@ -72,7 +72,7 @@ pub fn type_named(text: &[u8]) -> Option<NumberType>
 fn decimal_named(text: &[u8]) -> Option<NumberType>
     ensures { MatchOption result
         ((digits scale : ℕ) → IsNumber (type.Decimal digits scale)
-            → text.now ≢ word (type.Decimal digits scale))
+        → text.now ≢ word (type.Decimal digits scale))
         (λ kind. IsNumber kind × (text.now ≡ word kind)) }
 {
     for digits in 1..39u8 {

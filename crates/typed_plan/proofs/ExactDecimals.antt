@@ -10,7 +10,7 @@ use Rattle.std.proofs.lemmas.Int.{ints}
 use Rattle.jiff_core.proofs.SignedLemmas.{signed_arith}
 use Rattle.arrow_types.specs.Scales.{bounded, is_scaled, no_decimal, parts_of, scaled, step_of}
 use Rattle.arrow_types.proofs.Floors.{floor_at, floor_after}
-use Rattle.arrow_types.proofs.Scales.{rest_is, tens}
+use Rattle.arrow_types.proofs.ScaledSteps.{rest_is, tens}
 use Rattle.scan_base.specs.declared.comparison.Comparison.{Comparison}
 use Rattle.scan_base.specs.declared.comparison.Comparison.TheVariants.{Equal, NotEqual, Less, LessOrEqual, Greater, GreaterOrEqual}
 use Rattle.scan_base.specs.Comparison.{satisfies}
@@ -38,13 +38,13 @@ decimals_compare c scale whole part n low high =
     elim (eqb_tells (part % 10 ^ 38 % step) 0) [
       | inl h ↦ rw h.0 (ap (satisfies c) (bounded_cmp n q low high ∙ floor_at step some units n (rest_is scale whole part ∙ ap pos h.1)))
       | inr h ↦ rw h.0 (
-        let side : cond (int_le n q) ordering.Less ordering.Greater ≡ int_cmp x units = floor_after step some units n (λ e. h.1 (let r = rest_is scale whole part in omega (arith, signed_arith, r, e))) in
-        elim (cases_of n q) [
-          | inl lt ↦ before_side c n q x units low high (omega (arith, signed_arith, lt)) side
-          | inr (inl is) ↦ before_side c n q x units low high (omega (arith, signed_arith, is)) side
-          | inr (inr gt) ↦ after_side c n q x units low high gt side
-        ]
-      )
+          let side : cond (int_le n q) ordering.Less ordering.Greater ≡ int_cmp x units = floor_after step some units n (λ e. h.1 (let r = rest_is scale whole part in omega (arith, signed_arith, r, e))) in
+          elim (cases_of n q) [
+            | inl lt ↦ before_side c n q x units low high (omega (arith, signed_arith, lt)) side
+            | inr (inl is) ↦ before_side c n q x units low high (omega (arith, signed_arith, is)) side
+            | inr (inr gt) ↦ after_side c n q x units low high gt side
+          ]
+          )
     ]
   where
     before_side : (c : Comparison) (n q x t : ℤ) → neg_ℤ no_number <ℤ n → n <ℤ no_number → n ≤ℤ q → cond (int_le n q) ordering.Less ordering.Greater ≡ int_cmp x t →

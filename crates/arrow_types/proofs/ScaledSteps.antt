@@ -114,8 +114,8 @@ floor_is scale whole part =
     let cap = capped scale in
     let same = steps cap.s cap.few in
     rw (cap.step, cap.min) (
-      ap (λ (n : ℕ). int_div_euclid (whole *ℤ pos n +ℤ pos (part % 10 ^ 38)) (pos (step_of cap.s))) (sym same)
-      ∙ quotient (step_of cap.s) (10 ^ cap.s) whole (part % 10 ^ 38) (tens (38 - cap.s)) (omega (arith, same, mod-lt part (tens 38)))
+    ap (λ (n : ℕ). int_div_euclid (whole *ℤ pos n +ℤ pos (part % 10 ^ 38)) (pos (step_of cap.s))) (sym same)
+    ∙ quotient (step_of cap.s) (10 ^ cap.s) whole (part % 10 ^ 38) (tens (38 - cap.s)) (omega (arith, same, mod-lt part (tens 38)))
     )
 
 -- what is left of a number is what is left of its parts
@@ -124,8 +124,8 @@ rest_is scale whole part =
     let cap = capped scale in
     let same = steps cap.s cap.few in
     rw cap.step (
-      ap (λ (n : ℕ). int_rem_euclid (whole *ℤ pos n +ℤ pos (part % 10 ^ 38)) (pos (step_of cap.s))) (sym same)
-      ∙ remainder (step_of cap.s) (10 ^ cap.s) whole (part % 10 ^ 38) (tens (38 - cap.s)) (omega (arith, same, mod-lt part (tens 38)))
+    ap (λ (n : ℕ). int_rem_euclid (whole *ℤ pos n +ℤ pos (part % 10 ^ 38)) (pos (step_of cap.s))) (sym same)
+    ∙ remainder (step_of cap.s) (10 ^ cap.s) whole (part % 10 ^ 38) (tens (38 - cap.s)) (omega (arith, same, mod-lt part (tens 38)))
     )
 
 -- ---- bounds
