@@ -16,7 +16,10 @@ use Rattle.arrow_types.specs.declared.data_type.DataType.TheVariants as type
 use Rattle.arrow_types.specs.DataType.{cell_of}
 use Rattle.arrays.specs.declared.layout.Layout.{Layout}
 use Rattle.arrays.specs.declared.layout.Layout.TheVariants as layout
-use Rattle.arrays.specs.Number.{byte_width, integer_at, decimal_at, number_from}
+use Rattle.arrays.specs.Number.{byte_width, integer_at, decimal_at, number_from, float_at, float_format}
+use Rattle.arrays.specs.Floats.{FloatsAt, floats_of}
+use Rattle.arrow_types.specs.DataType.{float_bytes}
+use Rattle.number_keys.specs.FloatKeys.{key_of}
 use Rattle.arrays.specs.Integers.{IntegersAt, integers_of}
 use Rattle.arrays.specs.Decimals.{DecimalsAt, decimals_of}
 use Rattle.arrays.specs.Bools.{BoolsAt, bools_of}
@@ -38,7 +41,7 @@ use Rattle.array_buffers.proofs.IndicesAgain.{of_indices, indices_read, led_valu
 -- numbers, by how they lie
 numbers_again : (kind : NumberType) (cell : Cell) → cell_of kind ≡ cell → (dictionary : List Value) (known : Layout) (first len : ℕ) → IsColumn (record { layout = known; first = first; len = len }) → LieIn cell known →
     SaySlots (type.Number kind) dictionary (validity_read (record { layout = known; first = first; len = len })) (values_written (record { layout = known; first = first; len = len })) len (values_of (record { layout = known; first = first; len = len }))
-unfolding values_written values_layout integers_of decimals_of
+unfolding values_written values_layout integers_of decimals_of floats_of
 numbers_again kind (cell.Integer integer) is dictionary (layout.Integers cells) first len stands of =
     let column : ColumnAt = record { layout = layout.Integers cells; first = first; len = len } in
     let packed = elements (byte_width cells.integer) cells.values first len in
@@ -67,6 +70,21 @@ numbers_again kind cell.Wide is dictionary (layout.Decimals cells) first len sta
           (λ some. ap (λ (n : ℕ). Int (cast_signed w128 n)) (element_again 16 cells.values first len j low)
           ∙ sym (valid_value cells.validity (λ at. Int (decimal_at cells.values at)) (first + j) some))),
       tt,
+    )
+numbers_again kind (cell.Float width) is dictionary (layout.Floats cells) first len stands of =
+    let column : ColumnAt = record { layout = layout.Floats cells; first = first; len = len } in
+    let packed = elements (float_bytes cells.width) cells.values first len in
+    let long = length-elements (float_bytes cells.width) cells.values first len cells.len stands.stands.values stands.within in
+    let room : nat_le (float_bytes cells.width * len) (length packed) ≡ true = le-leb (float_bytes cells.width * len) (length packed) (omega (arith, long)) in
+    let read : FloatsAt = record { width = cells.width; validity = validity_again column; values = packed; len = len } in
+    let same : cells.width ≡ width = of in
+    rw (is, ← same) (
+      layout.Floats read,
+      rw (read_validity column, room) refl,
+      values_again column (layout.Floats read) refl (λ j low. slot_again column (λ at. Int (float_at cells.width packed at)) j low
+          (λ some. ap (λ (n : ℕ). Int (key_of (float_format cells.width) n)) (element_again (float_bytes cells.width) cells.values first len j low)
+          ∙ sym (valid_value cells.validity (λ at. Int (float_at cells.width cells.values at)) (first + j) some))),
+      refl,
     )
 numbers_again kind cell is dictionary known first len stands of = absurd of
 

@@ -60,6 +60,7 @@ written_other column read same texts = by read column.layout same texts
     by : (read known : Layout) → read ≡ known → ((x : TextsAt) → read ≡ layout.Texts x → ⊥) → length (written_by known column) ≡ 1
     by read (layout.Integers cells) same texts = refl
     by read (layout.Decimals cells) same texts = refl
+    by read (layout.Floats cells) same texts = refl
     by read (layout.Bools cells) same texts = refl
     by read (layout.Texts cells) same texts = absurd (texts cells same)
     by read (layout.Indices cells) same texts = refl
@@ -72,6 +73,7 @@ no_third column read same texts = by read column.layout same texts
     by : (read known : Layout) → read ≡ known → ((x : TextsAt) → read ≡ layout.Texts x → ⊥) → get_or (written_by known column) 1 [] ≡ []
     by read (layout.Integers cells) same texts = refl
     by read (layout.Decimals cells) same texts = refl
+    by read (layout.Floats cells) same texts = refl
     by read (layout.Bools cells) same texts = refl
     by read (layout.Texts cells) same texts = absurd (texts cells same)
     by read (layout.Indices cells) same texts = refl
@@ -102,6 +104,7 @@ third column (suc (suc zero)) low zeroth first = (refl, by column.layout low)
     by : (known : Layout) → 2 < suc (length (written_by known column)) → get_or (written_by known column) 1 [] ≡ texts_joined (values_of column)
     by (layout.Integers cells) low = absurd (omega arith)
     by (layout.Decimals cells) low = absurd (omega arith)
+    by (layout.Floats cells) low = absurd (omega arith)
     by (layout.Bools cells) low = absurd (omega arith)
     by (layout.Texts cells) low = refl
     by (layout.Indices cells) low = absurd (omega arith)
@@ -110,6 +113,7 @@ third column (suc (suc (suc index))) low zeroth first = absurd (by column.layout
     by : (known : Layout) → suc (suc (suc index)) < suc (length (written_by known column)) → ⊥
     by (layout.Integers cells) low = omega arith
     by (layout.Decimals cells) low = omega arith
+    by (layout.Floats cells) low = omega arith
     by (layout.Bools cells) low = omega arith
     by (layout.Texts cells) low = omega arith
     by (layout.Indices cells) low = omega arith

@@ -5,6 +5,7 @@ use Rattle.std.specs.Prelude.{[], ◌∷◌, length, map, take, drop, Option, So
 use Rattle.std.specs.List.{range_with_len}
 use Rattle.std.specs.Int.{div_ceil}
 use Rattle.scan_base.specs.declared.value.Value.{Value}
+use Rattle.arrow_types.specs.DataType.{float_bytes}
 use Rattle.arrow_types.specs.declared.data_type.DataType.{DataType}
 use Rattle.arrow_types.specs.declared.data_type.DataType.TheVariants.{Utf8, Dictionary}
 use Rattle.scan_base.specs.Value.{is_null}
@@ -41,6 +42,8 @@ abbrev pub written_by : Layout → ColumnAt → List (List ℕ)
 written_by (layout.Integers cells) column =
     elements (byte_width cells.integer) cells.values column.first column.len ∷ []
 written_by (layout.Decimals cells) column = elements 16 cells.values column.first column.len ∷ []
+written_by (layout.Floats cells) column =
+    elements (float_bytes cells.width) cells.values column.first column.len ∷ []
 written_by (layout.Bools cells) column =
     packed_bits (map (λ j. get_or cells.values j false) (range_with_len column.first column.len))
     ∷ []

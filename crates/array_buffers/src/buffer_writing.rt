@@ -10,7 +10,7 @@ ghost use Rattle.array_buffers.specs.ColumnBuffers.{buffers_written};
 ghost use Rattle.array_buffers.specs.ColumnBuffers.{buffer_of, most_bytes, HasShortTexts};
 
 use crate::packing::append_bits;
-use arrays::{Cells, Column, Layout, Nulls, byte_width, is_null};
+use arrays::{Cells, Column, Layout, Nulls, byte_width, float_bytes, is_null};
 use std::alloc::AllocError;
 
 /// How many buffers are written of the column: validity bits and values, and of texts the validity
@@ -119,6 +119,7 @@ fn values_length(column: &Column) -> Option<usize>
     match column.layout() {
         Layout::Integers(cells) => byte_width(cells.integer_type()).checked_mul(len),
         Layout::Decimals(_) => len.checked_mul(16),
+        Layout::Floats(cells) => float_bytes(cells.width()).checked_mul(len),
         Layout::Bools(_) => Some(len.div_ceil(8)),
         Layout::Indices(cells) => byte_width(cells.index_type()).checked_mul(len),
         Layout::Texts(_) => len.checked_add(1)?.checked_mul(4),
@@ -141,6 +142,10 @@ fn append_values(column: &Column, out: &mut Vec<u8>) -> Result<(), AllocError>
         Layout::Decimals(cells) => out.extend_from_slice(
             &cells.values()[16 * first..16 * (first + len)],
         ),
+        Layout::Floats(cells) => {
+            let width = float_bytes(cells.width());
+            out.extend_from_slice(&cells.values()[width * first..width * (first + len)])
+        }
         Layout::Bools(cells) => append_bits(out, cells.values(), first, len),
         Layout::Indices(cells) => {
             let width = byte_width(cells.index_type());

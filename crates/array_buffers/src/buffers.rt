@@ -58,6 +58,7 @@ fn values_that_came(column: &Column) -> Result<Option<Bytes>, AllocError>
         Layout::Integers(cells) => Ok(Some(cells.packed_between(first, behind)?)),
         Layout::Decimals(cells) => Ok(Some(cells.packed_between(first, behind)?)),
         Layout::Indices(cells) => Ok(Some(cells.packed_between(first, behind)?)),
+        Layout::Floats(cells) => Ok(Some(cells.packed_between(first, behind)?)),
         Layout::Bools(_) => Ok(None),
         Layout::Texts(_) => offsets_that_came(column),
     }

@@ -13,10 +13,8 @@ ghost use Rattle.array_select.specs.inside.GatheredSlots.{AreValuesAt, AreGather
 
 use crate::gather_texts::gather_texts;
 use crate::selection::Selection;
-use arrays::{
-    Bools, Cells, Column, Decimals, Indices, Integers, Layout, Slots, Validity, Values, are_bytes,
-};
-use arrow_types::IntegerType;
+use arrays::{Bools, Cells, Column, Decimals, Floats, Indices, Integers, Layout, Slots, Validity, Values, are_bytes};
+use arrow_types::{FloatWidth, IntegerType};
 use bytes::Bytes;
 use std::alloc::{AllocError, Global};
 
@@ -69,6 +67,7 @@ fn gather_values(
     match slots {
         Layout::Integers(cells) => gather_integers(alloc, cells, first, places),
         Layout::Decimals(cells) => gather_decimals(alloc, cells, first, places),
+        Layout::Floats(cells) => gather_floats(alloc, cells, first, places),
         Layout::Bools(cells) => gather_bools(alloc, cells, first, places),
         Layout::Texts(cells) => gather_texts(alloc, cells, first, places),
         Layout::Indices(cells) => gather_indices(alloc, cells, first, places),
@@ -106,6 +105,25 @@ fn gather_decimals(
     let packed = Bytes::from_vec(gather_elements::<16>(alloc, cells.values(), first, places)?)?;
     are_bytes(packed.as_slice());
     Ok(Values::Decimals(packed))
+}
+
+fn gather_floats(
+    alloc: Global,
+    cells: &Floats<'_>,
+    first: usize,
+    places: &[u32],
+) -> Result<Values, AllocError>
+    requires { AreAmong first places.now cells.now.len }
+    ensures { IfOk result (λ values. AreValuesAt values (layout.Floats cells.now) first places.now) }
+{
+    let _count = cells.len();
+    let made = match cells.width() {
+        FloatWidth::Single => gather_elements::<4>(alloc, cells.values(), first, places)?,
+        FloatWidth::Double => gather_elements::<8>(alloc, cells.values(), first, places)?,
+    };
+    let packed = Bytes::from_vec(made)?;
+    are_bytes(packed.as_slice());
+    Ok(Values::Floats(cells.width(), packed))
 }
 
 fn gather_bools(

@@ -4,6 +4,7 @@ ghost use Rattle.std.specs.Prelude.{◌≡◌, ◌≤◌, ◌<◌, ◌+◌, ◌*
 ghost use Rattle.arrow_types.specs.declared.data_type.Cell.TheVariants as cell;
 ghost use Rattle.arrow_types.specs.declared.data_type.DataType.TheVariants as type;
 ghost use Rattle.byteorder.specs.Endian.{little_from};
+ghost use Rattle.arrow_types.specs.DataType.{float_bytes};
 ghost use Rattle.arrays.specs.Number.{byte_width, cell_width, element_at, number_from, number_in};
 ghost use Rattle.arrays.specs.Number.{signed_from};
 ghost use Rattle.arrays.specs.Column.{IsColumn};
@@ -16,8 +17,8 @@ ghost use Rattle.array_select.specs.inside.GatheredMany.{HaveRoom, HasCellsAt};
 
 use crate::many_places::SlotPlaces;
 use crate::slot_filling::{flag_of, kept_numbers};
-use arrays::{Cells, Column, Layout, Validity, Values, are_bytes, byte_width};
-use arrow_types::{Cell, IntegerType, NumberType};
+use arrays::{Cells, Column, Layout, Validity, Values, are_bytes, byte_width, float_bytes};
+use arrow_types::{Cell, FloatWidth, IntegerType, NumberType};
 use bitmap::{Bits, BitsBuilder};
 use bytes::Bytes;
 use std::alloc::{AllocError, Global};
@@ -48,6 +49,18 @@ fn packed_decimals(column: &Column) -> &[u8]
     }
 }
 
+// The packed floats of a column's slots.
+fn packed_floats(column: &Column, width: FloatWidth) -> &[u8]
+    requires { LieIn (cell.Float width) column.now.layout }
+    ensures { HasNumbers (number_in (cell.Float width)) (float_bytes width) result.now column.now }
+{
+    let _count = column.len();
+    match column.layout() {
+        Layout::Floats(cells) => &cells.values()[float_bytes(width) * column.first()..],
+        _ => &[],
+    }
+}
+
 // The packed numbers of a column's slots, which lie in such cells.
 fn packed_numbers(column: &Column, cell: Cell) -> &[u8]
     requires { LieIn cell column.now.layout }
@@ -56,6 +69,7 @@ fn packed_numbers(column: &Column, cell: Cell) -> &[u8]
     match cell {
         Cell::Integer(integer) => packed_integers(column, integer),
         Cell::Wide => packed_decimals(column),
+        Cell::Float(width) => packed_floats(column, width),
     }
 }
 
@@ -113,6 +127,8 @@ impl<'a> SlotPlaces<'a> {
         match cell {
             Cell::Integer(integer) => self.gather_integers(alloc, integer, sources, validity),
             Cell::Wide => self.gather_cells::<16>(alloc, sources, validity),
+            Cell::Float(FloatWidth::Single) => self.gather_cells::<4>(alloc, sources, validity),
+            Cell::Float(FloatWidth::Double) => self.gather_cells::<8>(alloc, sources, validity),
         }
     }
 

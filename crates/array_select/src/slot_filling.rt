@@ -1,5 +1,9 @@
 //! Columns that are filled slot by slot.
 
+ghost use Rattle.std.specs.Float.Ieee.{binary32, binary64};
+ghost use Rattle.arrays.specs.TypedLayouts.{FitsCell};
+ghost use Rattle.arrow_types.specs.declared.data_type.FloatWidth.TheVariants.{Double, Single};
+ghost use Rattle.number_keys.specs.FloatKeys.{IsKey};
 ghost use Rattle.std.specs.Prelude.{◌≡◌, ◌≤◌, ◌<◌, ◌^◌, All, IfOk, length, map};
 ghost use Rattle.scan_base.specs.Value.{value_of};
 ghost use Rattle.arrow_types.specs.Answer.{copied_type};
@@ -8,6 +12,7 @@ ghost use Rattle.arrow_types.specs.declared.data_type.DataType.TheVariants as ty
 ghost use Rattle.arrays.specs.Column.{values_of};
 ghost use Rattle.arrays.specs.TypedLayouts.{IsOfType};
 ghost use Rattle.arrays.specs.WrittenSlots.{texts_joined};
+ghost use Rattle.array_select.specs.inside.SlotFilling.{AreFloatsOf, ArePackedOf};
 ghost use Rattle.array_select.specs.inside.SlotFilling.{number_of, flag_of, AreOfType};
 ghost use Rattle.array_select.specs.inside.SlotFilling.{AreValidUnlessNull, AreNumbersOf};
 ghost use Rattle.array_select.specs.inside.SlotFilling.{kept_numbers, FillSlots};
@@ -15,7 +20,8 @@ ghost use Rattle.array_select.specs.inside.SlotFilling.{kept_numbers, FillSlots}
 use crate::source::Source;
 use crate::text_filling::fill_texts;
 use arrays::{Column, Slots, Validity, Values, are_bytes, cell_width, is_null};
-use arrow_types::{Cell, DataType, NumberType};
+use arrow_types::{Cell, DataType, FloatWidth, NumberType};
+use number_keys::{bits_of_f32, bits_of_f64};
 use bitmap::{Bits, BitsBuilder};
 use bytes::Bytes;
 use scan_base::ValueRef;
@@ -90,9 +96,56 @@ fn fill_numbers<S: Source>(
     ensures { IfOk result (λ kept. FillSlots kept (type.Number number) (map S.held slots.now)) }
 {
     let cell = number.cell();
-    let packed = Bytes::from_vec(pack_numbers(alloc, cell_width(cell), slots)?)?;
+    let packed = Bytes::from_vec(pack_cells(alloc, cell, slots)?)?;
     are_bytes(packed.as_slice());
     Ok(kept_numbers(cell, packed))
+}
+
+// The packed numbers of slots, as they lie in cells, and 0 where there is none.
+fn pack_cells<S: Source>(alloc: Global, cell: Cell, slots: &[S]) -> Result<Vec<u8>, AllocError>
+    requires there { All S.IsThere slots.now }
+    requires typed { (k : ℕ) → k < length slots.now →
+        FitsCell cell (number_of (get_or (map S.held slots.now) k Null)) }
+    ensures { IfOk result (λ packed. ArePackedOf cell packed.items (map S.held slots.now)
+        (length slots.now)) }
+{
+    match cell {
+        Cell::Float(FloatWidth::Single) => pack_singles(alloc, slots),
+        Cell::Float(FloatWidth::Double) => pack_doubles(alloc, slots),
+        other => pack_numbers(alloc, cell_width(other), slots),
+    }
+}
+
+// The packed floats of 32 bits of the keys that slots are.
+fn pack_singles<S: Source>(alloc: Global, slots: &[S]) -> Result<Vec<u8>, AllocError>
+    requires there { All S.IsThere slots.now }
+    requires keys { (k : ℕ) → k < length slots.now →
+        IsKey binary32 (number_of (get_or (map S.held slots.now) k Null)) }
+    ensures { IfOk result (λ packed. AreFloatsOf Single packed.items (map S.held slots.now)
+        (length slots.now)) }
+{
+    let mut packed = Vec::with_capacity(alloc, slots.len().saturating_mul(4))?;
+    for slot in slots {
+        let key = number_of(slot.value()) as i32;
+        packed.extend_from_slice(&bits_of_f32(key).to_le_bytes())?;
+    }
+    Ok(packed)
+}
+
+// The same of 64 bits.
+fn pack_doubles<S: Source>(alloc: Global, slots: &[S]) -> Result<Vec<u8>, AllocError>
+    requires there { All S.IsThere slots.now }
+    requires keys { (k : ℕ) → k < length slots.now →
+        IsKey binary64 (number_of (get_or (map S.held slots.now) k Null)) }
+    ensures { IfOk result (λ packed. AreFloatsOf Double packed.items (map S.held slots.now)
+        (length slots.now)) }
+{
+    let mut packed = Vec::with_capacity(alloc, slots.len().saturating_mul(8))?;
+    for slot in slots {
+        let key = number_of(slot.value()) as i64;
+        packed.extend_from_slice(&bits_of_f64(key).to_le_bytes())?;
+    }
+    Ok(packed)
 }
 
 // Packed numbers, as a column keeps those that lie in such cells.
@@ -102,6 +155,7 @@ pub(crate) fn kept_numbers(cell: Cell, packed: Bytes) -> Values
     match cell {
         Cell::Integer(integer) => Values::Integers(integer, packed),
         Cell::Wide => Values::Decimals(packed),
+        Cell::Float(width) => Values::Floats(width, packed),
     }
 }
 

@@ -15,7 +15,9 @@ use Rattle.arrow_types.specs.declared.data_type.DataType.TheVariants as type
 use Rattle.arrow_types.specs.DataType.{cell_of}
 use Rattle.arrays.specs.declared.layout.Layout.{Layout}
 use Rattle.arrays.specs.declared.layout.Layout.TheVariants as layout
-use Rattle.arrays.specs.Number.{AreBytes, element_at, integer_at, decimal_at}
+use Rattle.arrays.specs.Number.{AreBytes, element_at, integer_at, decimal_at, float_at, float_format}
+use Rattle.arrow_types.specs.DataType.{float_bytes}
+use Rattle.number_keys.proofs.Again.{key_stands}
 use Rattle.arrays.specs.Validity.{is_valid, where_valid}
 use Rattle.arrays.specs.Dictionary.{entry_at}
 use Rattle.arrays.specs.Indices.{IndicesAt}
@@ -89,17 +91,20 @@ slot_is P validity value place null is = by (is_valid validity place)
 abbrev pub AreNumbers : Layout → Type 0
 AreNumbers (layout.Integers cells) = Unit {0}
 AreNumbers (layout.Decimals cells) = Unit {0}
+AreNumbers (layout.Floats cells) = Unit {0}
 AreNumbers _ = ⊥
 
 pub numbers_lie : (cell : Cell) (known : Layout) → LieIn cell known → AreNumbers known
 numbers_lie (cell.Integer integer) (layout.Integers cells) of = tt
 numbers_lie cell.Wide (layout.Decimals cells) of = tt
+numbers_lie (cell.Float width) (layout.Floats cells) of = tt
 numbers_lie cell known of = absurd of
 
 -- what holds of null and of each number holds of a slot of cells
 pub number_slot : (P : Value → Type 0) (cell : Cell) (known : Layout) (place : ℕ) → LieIn cell known → P Null → ((number : ℤ) → P (Int number)) → P (layout_slot known place)
 number_slot P (cell.Integer integer) (layout.Integers cells) place of null is = slot_is P cells.validity (λ at. Int (integer_at cells.integer cells.values at)) place null (is (integer_at cells.integer cells.values place))
 number_slot P cell.Wide (layout.Decimals cells) place of null is = slot_is P cells.validity (λ at. Int (decimal_at cells.values at)) place null (is (decimal_at cells.values place))
+number_slot P (cell.Float width) (layout.Floats cells) place of null is = slot_is P cells.validity (λ at. Int (float_at cells.width cells.values at)) place null (is (float_at cells.width cells.values place))
 number_slot P cell known place of null is = absurd of
 
 -- the same where it holds of the numbers of the cell alone
@@ -108,6 +113,9 @@ cell_slot P (cell.Integer integer) (layout.Integers cells) place stands of null 
     slot_is P cells.validity (λ at. Int (integer_at cells.integer cells.values at)) place null (is (integer_at cells.integer cells.values place) (rw (← of) (integer_in cells.integer cells.values place stands.bytes)))
 cell_slot P cell.Wide (layout.Decimals cells) place stands of null is =
     slot_is P cells.validity (λ at. Int (decimal_at cells.values at)) place null (is (decimal_at cells.values place) (sfits_to_z (record { fits = element_small 16 place cells.values stands.bytes })))
+cell_slot P (cell.Float width) (layout.Floats cells) place stands of null is =
+    slot_is P cells.validity (λ at. Int (float_at cells.width cells.values at)) place null
+    (is (float_at cells.width cells.values place) (rw (← of) (key_stands (float_format cells.width) (element_at (float_bytes cells.width) cells.values place))))
 cell_slot P cell known place stands of null is = absurd of
 
 utf8_text : (value : Value) → IsTextOrNull value → IsValueOf type.Utf8 value

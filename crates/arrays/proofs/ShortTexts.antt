@@ -7,7 +7,7 @@ use Rattle.scan_base.specs.declared.value.Value.{Value}
 use Rattle.scan_base.specs.declared.value.Value.TheVariants.{Null, Bool, Int, Text}
 use Rattle.arrays.specs.declared.layout.Layout.{Layout}
 use Rattle.arrays.specs.declared.layout.Layout.TheVariants as layout
-use Rattle.arrays.specs.Number.{integer_at, decimal_at}
+use Rattle.arrays.specs.Number.{integer_at, decimal_at, float_at}
 use Rattle.arrays.specs.Validity.{is_valid, where_valid}
 use Rattle.arrays.specs.Texts.{TextsAt, texts_slot, text_at, texts_values}
 use Rattle.arrays.specs.Dictionary.{entry_at}
@@ -61,6 +61,7 @@ slot_indices_short cells place most each =
 pub slot_no_text : (known : Layout) (place : ℕ) → ((x : TextsAt) → known ≡ layout.Texts x → ⊥) → ((x : IndicesAt) → known ≡ layout.Indices x → ⊥) → length (text_bytes (layout_slot known place)) ≤ 0
 slot_no_text (layout.Integers cells) place texts indices = where_short cells.validity (λ at. Int (integer_at cells.integer cells.values at)) place 0 (omega arith)
 slot_no_text (layout.Decimals cells) place texts indices = where_short cells.validity (λ at. Int (decimal_at cells.values at)) place 0 (omega arith)
+slot_no_text (layout.Floats cells) place texts indices = where_short cells.validity (λ at. Int (float_at cells.width cells.values at)) place 0 (omega arith)
 slot_no_text (layout.Bools cells) place texts indices = where_short cells.validity (λ at. Bool (get_or cells.values at false)) place 0 (omega arith)
 slot_no_text (layout.Texts cells) place texts indices = absurd (texts cells refl)
 slot_no_text (layout.Indices cells) place texts indices = absurd (indices cells refl)

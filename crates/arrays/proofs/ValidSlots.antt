@@ -6,10 +6,11 @@ use Rattle.std.specs.List.{list_any}
 use Rattle.scan_base.specs.Value.{is_null}
 use Rattle.arrays.specs.declared.layout.Layout.{Layout}
 use Rattle.arrays.specs.declared.layout.Layout.TheVariants as layout
-use Rattle.arrays.specs.Number.{integer_at, decimal_at}
+use Rattle.arrays.specs.Number.{integer_at, decimal_at, float_at}
 use Rattle.arrays.specs.Validity.{is_valid, where_valid, IsLong}
 use Rattle.arrays.specs.Integers.{IntegersAt}
 use Rattle.arrays.specs.Decimals.{DecimalsAt}
+use Rattle.arrays.specs.Floats.{FloatsAt}
 use Rattle.arrays.specs.Bools.{BoolsAt}
 use Rattle.arrays.specs.Texts.{TextsAt, text_at}
 use Rattle.arrays.specs.Indices.{IndicesAt, AreIndices, entry_of}
@@ -24,6 +25,7 @@ validity_long (layout.Decimals cells) stands = stands.validity
 validity_long (layout.Bools cells) stands = stands
 validity_long (layout.Texts cells) stands = stands.validity
 validity_long (layout.Indices cells) stands = stands.validity
+validity_long (layout.Floats cells) stands = stands.validity
 
 -- a slot is its value where it is valid, and else null
 valid_is : (validity : Option (List Bool)) (value : ℕ → Value) (place : ℕ) → is_valid validity place ≡ true → where_valid validity value place ≡ value place
@@ -41,6 +43,7 @@ invalid_null (layout.Integers cells) place invalid = null_is cells.validity (λ 
 invalid_null (layout.Decimals cells) place invalid = null_is cells.validity (λ at. Int (decimal_at cells.values at)) place invalid
 invalid_null (layout.Bools cells) place invalid = null_is cells.validity (λ at. Truth (get_or cells.values at false)) place invalid
 invalid_null (layout.Texts cells) place invalid = null_is cells.validity (λ at. Text (text_at cells at)) place invalid
+invalid_null (layout.Floats cells) place invalid = null_is cells.validity (λ at. Int (float_at cells.width cells.values at)) place invalid
 invalid_null (layout.Indices cells) place invalid = null_is cells.validity (λ at. unwrap_or (entry_of cells at) Null) place invalid
 
 pub valid_integer : (slots : Layout) (cells : IntegersAt) (place : ℕ) → slots ≡ layout.Integers cells → is_valid (layout_validity slots) place ≡ true →
@@ -50,6 +53,10 @@ valid_integer slots cells place is valid = rw is (valid_is cells.validity (λ at
 pub valid_decimal : (slots : Layout) (cells : DecimalsAt) (place : ℕ) → slots ≡ layout.Decimals cells → is_valid (layout_validity slots) place ≡ true →
     layout_slot slots place ≡ Int (decimal_at cells.values place)
 valid_decimal slots cells place is valid = rw is (valid_is cells.validity (λ at. Int (decimal_at cells.values at)) place (rw is at valid))
+
+pub valid_float : (slots : Layout) (cells : FloatsAt) (place : ℕ) → slots ≡ layout.Floats cells → is_valid (layout_validity slots) place ≡ true →
+    layout_slot slots place ≡ Int (float_at cells.width cells.values place)
+valid_float slots cells place is valid = rw is (valid_is cells.validity (λ at. Int (float_at cells.width cells.values at)) place (rw is at valid))
 
 pub valid_truth : (slots : Layout) (cells : BoolsAt) (place : ℕ) → slots ≡ layout.Bools cells → is_valid (layout_validity slots) place ≡ true →
     layout_slot slots place ≡ Truth (get_or cells.values place false)

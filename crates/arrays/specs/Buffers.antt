@@ -15,6 +15,7 @@ use Rattle.arrays.specs.declared.layout.Layout.{Layout}
 use Rattle.arrays.specs.declared.layout.Layout.TheVariants as layout
 use Rattle.arrays.specs.Integers.{integers_of}
 use Rattle.arrays.specs.Decimals.{decimals_of}
+use Rattle.arrays.specs.Floats.{floats_of}
 use Rattle.arrays.specs.Bools.{bools_of}
 use Rattle.arrays.specs.Texts.{texts_of}
 use Rattle.arrays.specs.Indices.{indices_of}
@@ -34,6 +35,8 @@ numbers_layout (cell.Integer integer) validity values len =
     integers_of integer validity values len >>= λ cells. Ok (layout.Integers cells)
 numbers_layout cell.Wide validity values len =
     decimals_of validity values len >>= λ cells. Ok (layout.Decimals cells)
+numbers_layout (cell.Float width) validity values len =
+    floats_of width validity values len >>= λ cells. Ok (layout.Floats cells)
 
 -- Slots of a type whose values lie in one buffer. An index leads into these values of its
 -- dictionary.

@@ -4,10 +4,11 @@ use Rattle.scan_base.specs.declared.value.Value.{Value}
 use Rattle.scan_base.specs.declared.value.Value.TheVariants.{Null, Bool, Int}
 use Rattle.arrays.specs.declared.layout.Layout.{Layout}
 use Rattle.arrays.specs.declared.layout.Layout.TheVariants as layout
-use Rattle.arrays.specs.Number.{integer_at, decimal_at}
+use Rattle.arrays.specs.Number.{integer_at, decimal_at, float_at}
 use Rattle.arrays.specs.Validity.{where_valid}
 use Rattle.arrays.specs.Integers.{AreIntegers}
 use Rattle.arrays.specs.Decimals.{AreDecimals}
+use Rattle.arrays.specs.Floats.{AreFloats}
 use Rattle.arrays.specs.Bools.{AreBools}
 use Rattle.arrays.specs.Texts.{texts_slot, AreTexts}
 use Rattle.arrays.specs.Indices.{entry_of, AreIndices}
@@ -19,6 +20,7 @@ layout_count (layout.Decimals cells) = cells.len
 layout_count (layout.Bools cells) = length cells.values
 layout_count (layout.Texts cells) = cells.len
 layout_count (layout.Indices cells) = cells.len
+layout_count (layout.Floats cells) = cells.len
 
 -- which slots are valid
 abbrev pub layout_validity : Layout → Option (List Truth)
@@ -27,6 +29,7 @@ layout_validity (layout.Decimals cells) = cells.validity
 layout_validity (layout.Bools cells) = cells.validity
 layout_validity (layout.Texts cells) = cells.validity
 layout_validity (layout.Indices cells) = cells.validity
+layout_validity (layout.Floats cells) = cells.validity
 
 -- The value of the slot at a place: of an index what the dictionary has there, which may be null
 -- too.
@@ -40,6 +43,8 @@ layout_slot (layout.Bools cells) place =
 layout_slot (layout.Texts cells) place = texts_slot cells place
 layout_slot (layout.Indices cells) place =
     where_valid cells.validity (λ at. unwrap_or (entry_of cells at) Null) place
+layout_slot (layout.Floats cells) place =
+    where_valid cells.validity (λ at. Int (float_at cells.width cells.values at)) place
 
 -- its buffers hold so many slots
 abbrev pub IsLayout : Layout → Type 0
@@ -48,3 +53,4 @@ IsLayout (layout.Decimals cells) = AreDecimals cells
 IsLayout (layout.Bools cells) = AreBools cells
 IsLayout (layout.Texts cells) = AreTexts cells
 IsLayout (layout.Indices cells) = AreIndices cells
+IsLayout (layout.Floats cells) = AreFloats cells

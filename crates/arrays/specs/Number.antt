@@ -4,9 +4,13 @@ use Rattle.std.specs.Prelude.{ℕ, ◌-◌, ◌*◌, ◌/◌, ◌^◌, ◌<◌, 
 use Rattle.std.specs.Prelude.{nat_lt, if◌then◌else◌}
 use Rattle.byteorder.specs.Endian.{little_from}
 use Rattle.arrow_types.specs.declared.data_type.IntegerType.{IntegerType}
+use Rattle.number_keys.specs.FloatKeys.{key_of}
+use Rattle.std.specs.Float.Ieee.{Format, binary32, binary64}
+use Rattle.arrow_types.specs.declared.data_type.FloatWidth.{FloatWidth}
+use Rattle.arrow_types.specs.declared.data_type.FloatWidth.TheVariants.{Single, Double}
 use Rattle.arrow_types.specs.declared.data_type.Cell.{Cell}
 use Rattle.arrow_types.specs.declared.data_type.Cell.TheVariants as cell
-use Rattle.arrow_types.specs.DataType.{bit_width, is_signed}
+use Rattle.arrow_types.specs.DataType.{bit_width, is_signed, float_bytes}
 
 -- how many bytes a number has
 abbrev pub byte_width : IntegerType → ℕ
@@ -39,11 +43,23 @@ integer_at integer values place = number_from integer (element_at (byte_width in
 abbrev pub decimal_at : List ℕ → ℕ → ℤ
 decimal_at values place = signed_from 128 (element_at 16 values place)
 
+-- the format of a float
+abbrev pub float_format : FloatWidth → Format
+float_format Single = binary32
+float_format Double = binary64
+
+-- element `place` of packed floats, by its key
+abbrev pub float_at : FloatWidth → List ℕ → ℕ → ℤ
+float_at width values place =
+    key_of (float_format width) (element_at (float_bytes width) values place)
+
 -- how many bytes a number has in a cell, and which number its bits are
 abbrev pub cell_width : Cell → ℕ
 cell_width (cell.Integer integer) = byte_width integer
 cell_width cell.Wide = 16
+cell_width (cell.Float width) = float_bytes width
 
 abbrev pub number_in : Cell → ℕ → ℤ
 number_in (cell.Integer integer) = number_from integer
 number_in cell.Wide = signed_from 128
+number_in (cell.Float width) = key_of (float_format width)

@@ -13,6 +13,8 @@ layout_of validity len (values.Integers integer packed) =
     layout.Integers (record { integer = integer; validity = validity; values = packed; len = len })
 layout_of validity len (values.Decimals packed) =
     layout.Decimals (record { validity = validity; values = packed; len = len })
+layout_of validity len (values.Floats width packed) =
+    layout.Floats (record { width = width; validity = validity; values = packed; len = len })
 layout_of validity len (values.Bools bits) =
     layout.Bools (record { validity = validity; values = bits })
 layout_of validity len (values.Texts offsets bytes) =

@@ -15,12 +15,15 @@ use Rattle.arrow_types.specs.DataType.{cell_of}
 use Rattle.arrow_types.specs.declared.schema.Field.{Field}
 use Rattle.arrays.specs.declared.layout.Layout.{Layout}
 use Rattle.arrays.specs.declared.layout.Layout.TheVariants as layout
+use Rattle.number_keys.specs.FloatKeys.{IsKey}
+use Rattle.arrays.specs.Number.{float_format}
 use Rattle.arrays.specs.Column.{ColumnAt, IsColumn, values_of}
 
 -- numbers that lie in such cells are slots of this layout
 abbrev pub LieIn : Cell → Layout → Type 0
 LieIn (cell.Integer integer) (layout.Integers cells) = cells.integer ≡ integer
 LieIn cell.Wide (layout.Decimals cells) = Unit {0}
+LieIn (cell.Float width) (layout.Floats cells) = cells.width ≡ width
 LieIn _ _ = ⊥
 
 -- The slots are of this type: of a number's, its cells alone count. Columns of a dictionary may
@@ -61,6 +64,7 @@ IsInteger integer.UInt64 number = FitsUnsigned w64 number
 abbrev pub FitsCell : Cell → ℤ → Type 0
 FitsCell (cell.Integer integer) number = IsInteger integer number
 FitsCell cell.Wide number = FitsSigned w128 number
+FitsCell (cell.Float width) number = IsKey (float_format width) number
 
 -- a value that a column of a type may hold; a null stands in each
 abbrev pub IsValueOf : DataType → Value → Type 0

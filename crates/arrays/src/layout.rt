@@ -2,6 +2,7 @@
 
 use crate::bools::Bools;
 use crate::decimals::Decimals;
+use crate::floats::Floats;
 use crate::indices::Indices;
 use crate::integers::Integers;
 use crate::texts::TextsRef;
@@ -15,4 +16,5 @@ pub enum Layout<'a> {
     Bools(Bools<'a>),
     Texts(TextsRef<'a>),
     Indices(Indices<'a>),
+    Floats(Floats<'a>),
 }

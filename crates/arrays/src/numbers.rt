@@ -2,9 +2,12 @@
 
 ghost use Rattle.std.specs.Prelude.{◌≡◌, ◌≤◌, ◌+◌, ◌*◌, length, nat_le};
 ghost use Rattle.arrays.specs.Number.{byte_width, cell_width, integer_at, decimal_at, AreBytes};
+ghost use Rattle.arrays.specs.Number.{float_at};
+ghost use Rattle.arrow_types.specs.DataType.{float_bytes};
 
 use crate::element::{Element, Integer};
-use arrow_types::{Cell, IntegerType};
+use arrow_types::{Cell, FloatWidth, IntegerType};
+use number_keys::{key_of_f32, key_of_f64};
 
 /// How many bytes a number has.
 pub fn byte_width(integer: IntegerType) -> usize
@@ -21,6 +24,17 @@ pub fn cell_width(cell: Cell) -> usize
     match cell {
         Cell::Integer(integer) => byte_width(integer),
         Cell::Wide => 16,
+        Cell::Float(width) => float_bytes(width),
+    }
+}
+
+/// How many bytes a float has.
+pub fn float_bytes(width: FloatWidth) -> usize
+    ensures { result ≡ float_bytes width }
+{
+    match width {
+        FloatWidth::Single => 4,
+        FloatWidth::Double => 8,
     }
 }
 
@@ -43,6 +57,17 @@ pub(crate) fn has_decimals(values: &[u8], len: usize) -> bool
     ensures bytes { AreBytes values.now }
 {
     len <= values.len() / 16
+}
+
+/// Whether the bytes are enough for so many floats.
+pub(crate) fn has_floats(width: FloatWidth, values: &[u8], len: usize) -> bool
+    ensures room { result ≡ nat_le (float_bytes width * len) (length values.now) }
+    ensures bytes { AreBytes values.now }
+{
+    match width {
+        FloatWidth::Single => len <= values.len() / 4,
+        FloatWidth::Double => len <= values.len() / 8,
+    }
 }
 
 /// What the type of bytes says of them.
@@ -75,4 +100,15 @@ pub(crate) fn decimal_at(values: &[u8], place: usize) -> i128
     ensures { result ≡ decimal_at values.now place }
 {
     i128::read(values, place)
+}
+
+/// The key of element `place` of packed floats.
+pub(crate) fn float_at(width: FloatWidth, values: &[u8], place: usize) -> i128
+    requires { float_bytes width * (place + 1) ≤ length values.now }
+    ensures { result ≡ float_at width values.now place }
+{
+    match width {
+        FloatWidth::Single => i128::from(key_of_f32(u32::read(values, place))),
+        FloatWidth::Double => i128::from(key_of_f64(u64::read(values, place))),
+    }
 }

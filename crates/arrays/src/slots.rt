@@ -6,6 +6,7 @@ ghost use Rattle.scan_base.specs.Reading.{Gives};
 ghost use Rattle.arrays.specs.declared.layout.Layout.TheVariants as layout;
 ghost use Rattle.arrays.specs.Integers.{integers_of};
 ghost use Rattle.arrays.specs.Decimals.{decimals_of};
+ghost use Rattle.arrays.specs.Floats.{floats_of};
 ghost use Rattle.arrays.specs.Bools.{bools_of};
 ghost use Rattle.arrays.specs.Indices.{indices_of};
 ghost use Rattle.arrays.specs.Buffers.{read_as, numbers_layout};
@@ -17,13 +18,14 @@ use crate::bools::Bools;
 use crate::cells::Cells;
 use crate::decimals::Decimals;
 use crate::dictionary::Dictionary;
+use crate::floats::Floats;
 use crate::indices::{IndexParts, Indices};
 use crate::integers::Integers;
 use crate::layout::Layout;
-use crate::numbers::{has_decimals, has_elements};
+use crate::numbers::{has_decimals, has_elements, has_floats};
 use crate::texts::{Texts, TextsRef};
 use crate::validity::Validity;
-use arrow_types::{Cell, IntegerType};
+use arrow_types::{Cell, FloatWidth, IntegerType};
 use bitmap::Bits;
 use bytes::Bytes;
 use scan_base::{Fault, ValueRef};
@@ -32,13 +34,14 @@ use std::marker::Model;
 use std::sync::Arc;
 
 /// The values of slots: packed integers of a type, packed decimals, bits, offsets and the bytes
-/// that they cut, or packed indices of a type into a dictionary of texts.
+/// that they cut, packed indices of a type into a dictionary of texts, or packed floats.
 pub enum Values {
     Integers(IntegerType, Bytes),
     Decimals(Bytes),
     Bools(Bits),
     Texts(Bytes, Bytes),
     Indices(IntegerType, Bytes, Arc<Dictionary>),
+    Floats(FloatWidth, Bytes),
 }
 
 // Written out, so that dropping it is one call (docs/DECISIONS.md).
@@ -50,6 +53,7 @@ impl Drop for Values {
             Values::Bools(_) => {}
             Values::Texts(_, _) => {}
             Values::Indices(_, _, _) => {}
+            Values::Floats(_, _) => {}
         }
     }
 }
@@ -80,6 +84,7 @@ impl Values {
             Values::Indices(index, values, dictionary) => {
                 Values::Indices(*index, values.clone()?, Arc::try_clone(dictionary)?)
             }
+            Values::Floats(width, values) => Values::Floats(*width, values.clone()?),
         })
     }
 }
@@ -166,11 +171,39 @@ impl Slots {
         })
     }
 
+    /// `len` floats over these buffers.
+    ///
+    /// # Errors
+    ///
+    /// F8 (`Fault::BadBatch`) where a buffer is shorter than its slots need: the bytes of a float for
+    /// each value, and a bit for each slot where there are validity bits.
+    #[tactic(auto, unfolding(crate::specs::Floats::floats_of))]
+    pub fn floats(
+        width: FloatWidth,
+        validity: Option<Bytes>,
+        values: Bytes,
+        len: usize,
+    ) -> Result<Slots, Fault>
+        ensures value { Gives (λ slots. slots) result
+            (read_as layout.Floats (floats_of width validity values len)) }
+        ensures long { IfOk result (λ slots. layout_count slots ≡ len) }
+    {
+        let validity = Validity::read(validity, len)?;
+        if !has_floats(width, values.as_slice(), len) {
+            return Err(Fault::BadBatch);
+        }
+        Ok(Slots {
+            validity,
+            len,
+            values: Values::Floats(width, values),
+        })
+    }
+
     /// `len` numbers that lie in such cells, over these buffers.
     ///
     /// # Errors
     ///
-    /// Those of [`Slots::integers`] and of [`Slots::decimals`].
+    /// Those of [`Slots::integers`], of [`Slots::decimals`] and of [`Slots::floats`].
     pub fn numbers(
         cell: Cell,
         validity: Option<Bytes>,
@@ -183,6 +216,7 @@ impl Slots {
         match cell {
             Cell::Integer(integer) => Slots::integers(integer, validity, values, len),
             Cell::Wide => Slots::decimals(validity, values, len),
+            Cell::Float(width) => Slots::floats(width, validity, values, len),
         }
     }
 
@@ -305,6 +339,12 @@ impl Slots {
                 len,
             }),
             Values::Bools(values) => Layout::Bools(Bools { validity, values }),
+            Values::Floats(width, values) => Layout::Floats(Floats {
+                width: *width,
+                validity,
+                values,
+                len,
+            }),
             Values::Texts(offsets, bytes) => Layout::Texts(TextsRef {
                 validity,
                 offsets,
@@ -370,6 +410,7 @@ impl Cells for Slots {
             Layout::Bools(cells) => ValueRef::Bool(cells.values().get(place)),
             Layout::Texts(cells) => ValueRef::Text(cells.get(place)),
             Layout::Indices(cells) => cells.entry(place),
+            Layout::Floats(cells) => ValueRef::Int(cells.get(place)),
         }
     }
 

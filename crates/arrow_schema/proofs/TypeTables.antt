@@ -15,7 +15,9 @@ use Rattle.flatbuf.proofs.Lengths.{whole_table, whole_text, short_table, short_t
 use Rattle.flatbuf.proofs.Led.{led_text}
 use Rattle.arrow_types.specs.declared.data_type.IntegerType.{IntegerType}
 use Rattle.arrow_types.specs.declared.data_type.IntegerType.TheVariants.{Int8, Int16, Int32, Int64, UInt8, UInt16, UInt32, UInt64}
-use Rattle.arrow_types.specs.declared.data_type.NumberType.TheVariants.{Integer, Decimal, Date, Timestamp, Time, Duration}
+use Rattle.arrow_types.specs.declared.data_type.NumberType.TheVariants.{Integer, Decimal, Date, Timestamp, Time, Duration, Float}
+use Rattle.arrow_types.specs.declared.data_type.FloatWidth.{FloatWidth}
+use Rattle.arrow_types.specs.declared.data_type.FloatWidth.TheVariants.{Single, Double}
 use Rattle.arrow_types.specs.declared.data_type.TimeUnit.{TimeUnit}
 use Rattle.arrow_types.specs.declared.data_type.TimeUnit.TheVariants.{Second, Millisecond, Microsecond, Nanosecond}
 use Rattle.arrow_types.specs.declared.data_type.DataType.{DataType}
@@ -24,7 +26,7 @@ use Rattle.arrow_types.specs.DataType.{bit_width, is_signed}
 use Rattle.arrow_types.specs.Schema.{IsNumber, IsType}
 use Rattle.arrow_schema.specs.Meanings.{meaning_of}
 use Rattle.arrow_schema.specs.TimeTables.{SaysTimestamp, SaysTime, SaysDuration, unit_number, time_units, is_zone, timestamp_of, timestamp_slots, time_bits, time_of, duration_of}
-use Rattle.arrow_schema.specs.TypeTables.{flag, SaysInteger, SaysDecimal, SaysDate, SaysType, signed_types, unsigned_types, integer_type, integer_of, integer_slots, integer_part, is_decimal, decimal_of, decimal_slots, date_of, type_readings, type_written, type_number, type_part, type_of}
+use Rattle.arrow_schema.specs.TypeTables.{flag, SaysInteger, SaysDecimal, SaysDate, SaysType, signed_types, unsigned_types, integer_type, integer_of, integer_slots, integer_part, is_decimal, decimal_of, decimal_slots, date_of, float_of, float_precision, float_widths, SaysFloat, type_readings, type_written, type_number, type_part, type_of}
 use Rattle.arrow_schema.proofs.Readings.{bind_ok, demand_ok, HoldOf, meaning_told, says_scalar, reads_scalar, says_text, reads_text}
 
 -- ---- Int
@@ -218,6 +220,22 @@ duration_row table t is e =
     let f : Number (Duration b.0) ≡ t = cc in
     rw (← f) (refl, says_unit table 1 a.0 b.0 is a.1 b.1)
 
+-- a number is that of its width
+abbrev IsPrecision : ℕ → FloatWidth → Type 0
+IsPrecision number width = number ≡ float_precision width
+
+float_row : IsTold 3 float_of
+unfolding float_of
+float_row table t is e =
+    let a = bind_ok (scalar_of 2 table 0 0) _ t e in
+    let b = bind_ok (meaning_of float_widths a.0) _ t a.2 in
+    let last = b.2 in
+    let f : Number (Float b.0) ≡ t = cc in
+    rw (← f) (
+      refl,
+      subst (λ (n : ℕ). HasScalar 2 table 0 0 n) (meaning_told IsPrecision float_widths a.0 b.0 (refl, (refl, tt)) b.1) (says_scalar 2 table 0 0 a.0 is a.1),
+    )
+
 utf8_row : IsTold 5 (λ table. Ok Utf8)
 utf8_row table t is e = let f : Utf8 ≡ t = cc in rw (← f) (refl, tt)
 
@@ -225,7 +243,7 @@ flags_row : IsTold 6 (λ table. Ok Flags)
 flags_row table t is e = let f : Flags ≡ t = cc in rw (← f) (refl, tt)
 
 told_rows : HoldOf IsTold type_readings
-told_rows = (integer_row, (utf8_row, (flags_row, (decimal_row, (date_row, (time_row, (timestamp_row, (duration_row, tt))))))))
+told_rows = (integer_row, (float_row, (utf8_row, (flags_row, (decimal_row, (date_row, (time_row, (timestamp_row, (duration_row, tt)))))))))
 
 pub type_told : (kind : ℕ) (table : Result TableAt Fault) (t : DataType) → type_of kind table ≡ Ok t → (found : TableAt) × (table ≡ Ok found) × (IsBytes found.bytes → (kind ≡ type_number t) × SaysType t found)
 type_told kind table t e =
@@ -387,6 +405,33 @@ duration_read : (unit : TimeUnit) (table : TableAt) → IsBytes table.bytes → 
 unfolding duration_of
 duration_read unit table is says = rw (reads_scalar 2 table 0 1 (unit_number unit) is says, unit_again unit) refl
 
+-- the table of a float
+
+float_width_again : (width : FloatWidth) → meaning_of float_widths (float_precision width) ≡ Ok width
+float_width_again Single = refl
+float_width_again Double = refl
+
+low_precision : (width : FloatWidth) → float_precision width ≤ 2
+low_precision Single = omega arith
+low_precision Double = omega arith
+
+abbrev float_slots : FloatWidth → List Given
+float_slots width = Scalar (float_precision width) ∷ []
+
+float_again : (width : FloatWidth) (bytes : List ℕ) (at : ℕ) → Stands (table_part (float_slots width)).bytes bytes at →
+    float_of (table_at bytes at (table_part (float_slots width))) ≡ Ok (Number (Float width))
+unfolding float_of
+float_again width bytes at s =
+    let slots = float_slots width in
+    let t = table_at bytes at (table_part slots) in
+    let low = low_precision width in
+    let precision : scalar_of 2 t 0 0 ≡ Ok (float_precision width) = table_reads slots bytes at (fits_table slots (omega arith) (omega arith)) tt s 0 2 0 (omega arith) (omega arith) in
+    rw (precision, float_width_again width) refl
+
+float_read : (width : FloatWidth) (table : TableAt) → IsBytes table.bytes → SaysFloat table width → float_of table ≡ Ok (Number (Float width))
+unfolding float_of
+float_read width table is says = rw (reads_scalar 2 table 0 0 (float_precision width) is says, float_width_again width) refl
+
 pub row : (t : DataType) → Row t
 unfolding type_part integer_part
 row (Number (Integer integer)) = record {
@@ -416,6 +461,7 @@ row (Number (Timestamp unit zoned)) = record {
 }
 row (Number (Time unit)) = record { whole = tt; short = (let s = short_table (time_slots unit) in omega arith); reading = time_of; known = refl; again = λ taken. time_again unit; read = time_read unit }
 row (Number (Duration unit)) = record { whole = tt; short = (let s = short_table (duration_slots unit) in omega arith); reading = duration_of; known = refl; again = λ taken. duration_again unit; read = duration_read unit }
+row (Number (Float width)) = record { whole = tt; short = (let s = short_table (float_slots width) in omega arith); reading = float_of; known = refl; again = λ taken. float_again width; read = float_read width }
 row Utf8 = record { whole = tt; short = (let s = short_table [] in omega arith); reading = λ table. Ok Utf8; known = refl; again = λ taken bytes at s. refl; read = λ table is says. refl }
 row Flags = record { whole = tt; short = (let s = short_table [] in omega arith); reading = λ table. Ok Flags; known = refl; again = λ taken bytes at s. refl; read = λ table is says. refl }
 row (Dictionary encoding) = record { whole = tt; short = (let s = short_table [] in omega arith); reading = λ table. Ok Utf8; known = refl; again = λ taken bytes at s. refl; read = λ table is says. absurd says }
@@ -425,7 +471,7 @@ abbrev IsKind : ℕ → (TableAt → Result DataType Fault) → Type 0
 IsKind kind reading = (1 ≤ kind) × (kind < 256)
 
 pub is_kind : (t : DataType) → (1 ≤ type_number t) × (type_number t < 256)
-is_kind t = meaning_told IsKind type_readings (type_number t) (row t).reading ((omega arith, omega arith), ((omega arith, omega arith), ((omega arith, omega arith), ((omega arith, omega arith), ((omega arith, omega arith), ((omega arith, omega arith), ((omega arith, omega arith), ((omega arith, omega arith), tt)))))))) (row t).known
+is_kind t = meaning_told IsKind type_readings (type_number t) (row t).reading ((omega arith, omega arith), ((omega arith, omega arith), ((omega arith, omega arith), ((omega arith, omega arith), ((omega arith, omega arith), ((omega arith, omega arith), ((omega arith, omega arith), ((omega arith, omega arith), ((omega arith, omega arith), tt))))))))) (row t).known
 
 pub whole_type : (t : DataType) → IsWhole (type_part t)
 unfolding type_part

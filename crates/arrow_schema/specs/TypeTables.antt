@@ -14,6 +14,9 @@ use Rattle.arrow_types.specs.declared.data_type.IntegerType.TheVariants.{UInt8, 
 use Rattle.arrow_types.specs.declared.data_type.IntegerType.TheVariants.{UInt64}
 use Rattle.arrow_types.specs.declared.data_type.NumberType.TheVariants.{Integer, Decimal, Date}
 use Rattle.arrow_types.specs.declared.data_type.NumberType.TheVariants.{Timestamp, Time, Duration}
+use Rattle.arrow_types.specs.declared.data_type.NumberType.TheVariants.{Float}
+use Rattle.arrow_types.specs.declared.data_type.FloatWidth.{FloatWidth}
+use Rattle.arrow_types.specs.declared.data_type.FloatWidth.TheVariants.{Single, Double}
 use Rattle.arrow_types.specs.declared.data_type.DataType.{DataType}
 use Rattle.arrow_types.specs.declared.data_type.DataType.TheVariants.{Number, Utf8, Bool as Flags}
 use Rattle.arrow_types.specs.declared.data_type.DataType.TheVariants.{Dictionary}
@@ -108,6 +111,27 @@ date_of table = do
   _ ← demand (unit == 0) UnsupportedArrow
   Ok (Number Date)
 
+-- ---- FloatingPoint
+
+-- a precision: SINGLE or DOUBLE; HALF (0), the default, is none of them
+abbrev pub float_precision : FloatWidth → ℕ
+float_precision Single = 1
+float_precision Double = 2
+
+abbrev pub float_widths : List (ℕ × FloatWidth)
+float_widths = (1, Single) ∷ (2, Double) ∷ []
+
+-- a FloatingPoint table: its precision
+abbrev pub SaysFloat : TableAt → FloatWidth → Type 0
+SaysFloat table width = HasScalar 2 table 0 0 (float_precision width)
+
+-- what a FloatingPoint table says: its precision
+unfoldable pub float_of : TableAt → Result DataType Fault
+float_of table = do
+  precision ← scalar_of 2 table 0 0
+  width ← meaning_of float_widths precision
+  Ok (Number (Float width))
+
 -- ---- the rows
 
 -- what the table of a type says; no type's table says a dictionary
@@ -118,6 +142,7 @@ SaysType (Number Date) table = SaysDate table
 SaysType (Number (Timestamp unit zoned)) table = SaysTimestamp table unit zoned
 SaysType (Number (Time unit)) table = SaysTime table unit
 SaysType (Number (Duration unit)) table = SaysDuration table unit
+SaysType (Number (Float width)) table = SaysFloat table width
 SaysType Utf8 table = Unit {0}
 SaysType Flags table = Unit {0}
 SaysType (Dictionary encoding) table = ⊥
@@ -125,6 +150,7 @@ SaysType (Dictionary encoding) table = ⊥
 -- how a table is read, by the number of its kind; those of Utf8 and Bool are not read
 abbrev pub type_readings : List (ℕ × (TableAt → Result DataType Fault))
 type_readings = (2, λ table. integer_of table >>= λ integer. Ok (Number (Integer integer)))
+    ∷ (3, float_of)
     ∷ (5, λ table. Ok Utf8)
     ∷ (6, λ table. Ok Flags)
     ∷ (7, decimal_of)
@@ -143,6 +169,7 @@ type_written (Number Date) = (8, Scalar 0 ∷ [])
 type_written (Number (Timestamp unit zoned)) = (10, timestamp_slots unit zoned)
 type_written (Number (Time unit)) = (9, Scalar (unit_number unit) ∷ Scalar (time_bits unit) ∷ [])
 type_written (Number (Duration unit)) = (18, Scalar (unit_number unit) ∷ [])
+type_written (Number (Float width)) = (3, Scalar (float_precision width) ∷ [])
 type_written Utf8 = (5, [])
 type_written Flags = (6, [])
 type_written (Dictionary encoding) = (5, [])

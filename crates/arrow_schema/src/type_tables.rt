@@ -7,7 +7,7 @@ ghost use Rattle.flatbuf.specs.Block.{table_part};
 ghost use Rattle.arrow_types.specs.Schema.{IsType};
 ghost use Rattle.arrow_schema.specs.Fields.{table_wanted};
 ghost use Rattle.arrow_schema.specs.TypeTables.{integer_type, integer_of, decimal_of, date_of};
-ghost use Rattle.arrow_schema.specs.TypeTables.{is_decimal};
+ghost use Rattle.arrow_schema.specs.TypeTables.{float_of, float_precision, float_widths, is_decimal};
 ghost use Rattle.arrow_schema.specs.Meanings.{meaning_of};
 ghost use Rattle.arrow_schema.specs.TimeTables.{is_zone, time_units, timestamp_of};
 ghost use Rattle.arrow_schema.specs.TimeTables.{time_bits, time_of, timestamp_slots, unit_number};
@@ -15,7 +15,7 @@ ghost use Rattle.arrow_schema.specs.TimeTables.{duration_of};
 ghost use Rattle.arrow_schema.specs.TypeTables.{type_of, integer_part, type_number, type_part};
 
 use crate::header::table_wanted;
-use arrow_types::{DataType, IntegerType, NumberType, TimeUnit};
+use arrow_types::{DataType, FloatWidth, IntegerType, NumberType, TimeUnit};
 use flatbuf::{Block, Builder, Slot, Table, Width};
 use scan_base::Fault;
 use std::alloc::AllocError;
@@ -138,6 +138,37 @@ fn duration(table: &Table<'_>) -> Result<DataType, Fault>
     Ok(DataType::Number(NumberType::Duration(unit)))
 }
 
+// The width of a float.
+fn float_width(precision: u64) -> Result<FloatWidth, Fault>
+    ensures { Gives (λ width. width) result (meaning_of float_widths precision) }
+{
+    match precision {
+        1 => Ok(FloatWidth::Single),
+        2 => Ok(FloatWidth::Double),
+        _ => Err(Fault::UnsupportedArrow),
+    }
+}
+
+// A float of 32 or 64 bits.
+#[tactic(auto, unfolding(crate::specs::TypeTables::float_of))]
+fn float(table: &Table<'_>) -> Result<DataType, Fault>
+    ensures value { Gives (λ float. float) result (float_of table.now) }
+    ensures valid { IfOk result IsType }
+{
+    let width = float_width(table.scalar(0, Width::Two, 0)?)?;
+    Ok(DataType::Number(NumberType::Float(width)))
+}
+
+// The number of a float's width.
+fn float_precision(width: FloatWidth) -> u64
+    ensures { result ≡ float_precision width }
+{
+    match width {
+        FloatWidth::Single => 1,
+        FloatWidth::Double => 2,
+    }
+}
+
 // The bits of a time of a day.
 fn time_bits(unit: TimeUnit) -> u64
     ensures { result ≡ time_bits unit }
@@ -155,6 +186,7 @@ pub(crate) fn type_from(kind: u64, field: &Table<'_>) -> Result<DataType, Fault>
     let table = table_wanted(field, 3);
     match kind {
         2 => Ok(DataType::Number(NumberType::Integer(integer(&table?)?))),
+        3 => float(&table?),
         5 => {
             table?;
             Ok(DataType::Utf8)
@@ -232,6 +264,9 @@ pub(crate) fn type_block(builder: &Builder, data_type: DataType) -> Result<(u64,
                 Slot::Number(time_bits(unit)),
             ];
             Ok((9, builder.table(&slots)?))
+        }
+        DataType::Number(NumberType::Float(width)) => {
+            Ok((3, builder.table(&[Slot::Number(float_precision(width))])?))
         }
         DataType::Number(NumberType::Duration(unit)) => {
             Ok((18, builder.table(&[Slot::Number(unit_number(unit))])?))

@@ -7,7 +7,8 @@ use Rattle.arrow_types.specs.declared.data_type.TimeUnit.TheVariants.{Second, Mi
 use Rattle.arrow_types.specs.declared.data_type.IntegerType.{IntegerType}
 use Rattle.arrow_types.specs.declared.data_type.IntegerType.TheVariants.{Int8, Int16, Int32, Int64, UInt8, UInt16, UInt32, UInt64}
 use Rattle.arrow_types.specs.declared.data_type.NumberType.{NumberType}
-use Rattle.arrow_types.specs.declared.data_type.NumberType.TheVariants.{Integer, Decimal, Date, Timestamp, Time, Duration}
+use Rattle.arrow_types.specs.declared.data_type.NumberType.TheVariants.{Integer, Decimal, Date, Timestamp, Time, Duration, Float}
+use Rattle.arrow_types.specs.declared.data_type.FloatWidth.TheVariants.{Single, Double}
 use Rattle.arrow_types.specs.DataType.{per_second, same_number}
 
 -- integers of one width, with or without a sign, are of one type
@@ -56,6 +57,8 @@ same_number_is (Timestamp a z) (Timestamp b y) h =
     rw (same_unit a b parts.0, same_flags z y parts.1) refl
 same_number_is (Time a) (Time b) h = ap Time (same_unit a b h)
 same_number_is (Duration a) (Duration b) h = ap Duration (same_unit a b h)
+same_number_is (Float Single) (Float Single) h = refl
+same_number_is (Float Double) (Float Double) h = refl
 same_number_is _ _ h = cc
 
 pub same_number_self : (a : NumberType) → same_number a a ≡ true
@@ -72,3 +75,5 @@ same_number_self Date = refl
 same_number_self (Timestamp a z) = rw (same_unit_self a) (same_flag_self z)
 same_number_self (Time a) = same_unit_self a
 same_number_self (Duration a) = same_unit_self a
+same_number_self (Float Single) = refl
+same_number_self (Float Double) = refl

@@ -5,6 +5,8 @@ use Rattle.arrow_types.specs.declared.data_type.IntegerType.{IntegerType}
 use Rattle.arrow_types.specs.declared.data_type.IntegerType.TheVariants.{Int8, Int16, Int32, Int64}
 use Rattle.arrow_types.specs.declared.data_type.IntegerType.TheVariants.{UInt8, UInt16, UInt32}
 use Rattle.arrow_types.specs.declared.data_type.IntegerType.TheVariants.{UInt64}
+use Rattle.arrow_types.specs.declared.data_type.FloatWidth.{FloatWidth}
+use Rattle.arrow_types.specs.declared.data_type.FloatWidth.TheVariants.{Single, Double}
 use Rattle.arrow_types.specs.declared.data_type.TimeUnit.{TimeUnit}
 use Rattle.arrow_types.specs.declared.data_type.TimeUnit.TheVariants.{Second, Millisecond}
 use Rattle.arrow_types.specs.declared.data_type.TimeUnit.TheVariants.{Microsecond, Nanosecond}
@@ -56,6 +58,11 @@ time_integer Millisecond = Int32
 time_integer Microsecond = Int64
 time_integer Nanosecond = Int64
 
+-- how many bytes a float has
+abbrev pub float_bytes : FloatWidth → ℕ
+float_bytes Single = 4
+float_bytes Double = 8
+
 -- how a number lies in a slot: a date in 32 bits with a sign, a timestamp and a duration in 64, a
 -- time by its unit, a decimal in 128
 abbrev pub cell_of : NumberType → Cell
@@ -65,6 +72,7 @@ cell_of number.Date = cell.Integer Int32
 cell_of (number.Timestamp unit zoned) = cell.Integer Int64
 cell_of (number.Time unit) = cell.Integer (time_integer unit)
 cell_of (number.Duration unit) = cell.Integer Int64
+cell_of (number.Float width) = cell.Float width
 
 -- whether two are one type
 abbrev pub same_number : NumberType → NumberType → Bool
@@ -77,6 +85,8 @@ same_number (number.Timestamp one zoned) (number.Timestamp other too) =
     per_second one == per_second other && same_flag zoned too
 same_number (number.Time one) (number.Time other) = per_second one == per_second other
 same_number (number.Duration one) (number.Duration other) = per_second one == per_second other
+same_number (number.Float Single) (number.Float Single) = true
+same_number (number.Float Double) (number.Float Double) = true
 same_number _ _ = false
 
 -- the dictionary of a type, where it has one

@@ -45,8 +45,15 @@ pub enum TimeUnit {
     Nanosecond,
 }
 
+/// How many bits a float has: 32 or 64.
+#[derive(Clone, Copy, Debug, PartialEq, Eq)]
+pub enum FloatWidth {
+    Single,
+    Double,
+}
+
 /// The types whose values are whole numbers, in whose order they stand. A date is a number of whole
-/// days from 1970-01-01 on.
+/// days from 1970-01-01 on. The number of a float is its key.
 #[derive(Clone, Copy, Debug, PartialEq, Eq)]
 pub enum NumberType {
     Integer(IntegerType),
@@ -61,13 +68,16 @@ pub enum NumberType {
     Time(TimeUnit),
     /// How many of the unit have passed.
     Duration(TimeUnit),
+    Float(FloatWidth),
 }
 
-/// How a number lies in a slot: as an integer of fixed width, or in 16 bytes with a sign.
+/// How a number lies in a slot: as an integer of fixed width, in 16 bytes with a sign, or as a
+/// float.
 #[derive(Clone, Copy, Debug, PartialEq, Eq)]
 pub enum Cell {
     Integer(IntegerType),
     Wide,
+    Float(FloatWidth),
 }
 
 /// The type of a column's values. A dictionary's values are Utf8.
@@ -167,6 +177,7 @@ impl NumberType {
             NumberType::Timestamp(_, _) => Cell::Integer(IntegerType::Int64),
             NumberType::Time(unit) => Cell::Integer(unit.time_integer()),
             NumberType::Duration(_) => Cell::Integer(IntegerType::Int64),
+            NumberType::Float(width) => Cell::Float(width),
         }
     }
 
@@ -191,6 +202,8 @@ impl NumberType {
             (NumberType::Duration(one), NumberType::Duration(other)) => {
                 one.per_second() == other.per_second()
             }
+            (NumberType::Float(FloatWidth::Single), NumberType::Float(FloatWidth::Single)) => true,
+            (NumberType::Float(FloatWidth::Double), NumberType::Float(FloatWidth::Double)) => true,
             (_, _) => false,
         }
     }

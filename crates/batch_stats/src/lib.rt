@@ -6,6 +6,7 @@ pub mod beginnings;
 mod code_sets;
 mod entries;
 mod flags;
+mod floats;
 mod keys;
 pub mod measured_batch;
 mod numbers;

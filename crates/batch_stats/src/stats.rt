@@ -11,6 +11,7 @@ ghost use Rattle.batch_stats.specs.Stats.{stand, stats_of, with_value};
 
 use crate::entries::entries_stats;
 use crate::flags::flags_stats;
+use crate::floats::floats_stats;
 use crate::numbers::{decimals_stats, integers_stats};
 use crate::owned_stats::OwnedStats;
 use crate::side::{Ends, Side};
@@ -41,6 +42,7 @@ impl Stats {
         match column.layout() {
             Layout::Integers(cells) => integers_stats(&cells, first, len),
             Layout::Decimals(cells) => decimals_stats(&cells, first, len),
+            Layout::Floats(cells) => floats_stats(&cells, first, len),
             Layout::Bools(cells) => flags_stats(&cells, first, len),
             Layout::Texts(cells) => texts_stats(&cells, first, len),
             Layout::Indices(cells) => entries_stats(alloc, column, &cells),

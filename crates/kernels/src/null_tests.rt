@@ -49,6 +49,7 @@ fn telling_bits<'a>(layout: Layout<'a>) -> Option<&'a Validity>
     match layout {
         Layout::Integers(cells) => Some(cells.validity()),
         Layout::Decimals(cells) => Some(cells.validity()),
+        Layout::Floats(cells) => Some(cells.validity()),
         Layout::Bools(cells) => Some(cells.validity()),
         Layout::Texts(cells) => Some(cells.validity()),
         Layout::Indices(_) => None,

@@ -8,8 +8,11 @@ use Rattle.scan_base.specs.Value.{is_null}
 use Rattle.arrow_types.specs.declared.data_type.Cell.{Cell}
 use Rattle.arrow_types.specs.declared.data_type.Cell.TheVariants as cell
 use Rattle.arrow_types.specs.declared.data_type.DataType.{DataType}
+use Rattle.arrow_types.specs.declared.data_type.FloatWidth.{FloatWidth}
 use Rattle.arrow_types.specs.Answer.{copied_type}
-use Rattle.arrays.specs.Number.{element_at}
+use Rattle.arrow_types.specs.DataType.{float_bytes}
+use Rattle.number_keys.specs.FloatKeys.{bits_of_key}
+use Rattle.arrays.specs.Number.{cell_width, element_at, float_format}
 use Rattle.arrays.specs.Validity.{is_valid, IsLong}
 use Rattle.arrays.specs.Layout.{layout_count, layout_slot, IsLayout}
 use Rattle.arrays.specs.TypedLayouts.{IsOfType, IsValueOf}
@@ -48,10 +51,23 @@ pub record AreNumbersOf (width : ℕ) (packed : List ℕ) (values : List Value)
   pub each : (k : ℕ) → k < count →
       element_at width packed k ≡ low_bytes width (get_or values k Null)
 
+-- the floats of the keys that the first `count` values are, packed
+pub record AreFloatsOf (width : FloatWidth) (packed : List ℕ) (values : List Value)
+    (count : ℕ) : Type 0 where
+  pub long : length packed ≡ float_bytes width * count
+  pub each : (k : ℕ) → k < count → element_at (float_bytes width) packed k
+      ≡ bits_of_key (float_format width) (number_of (get_or values k Null))
+
+-- the numbers of the first `count` values, packed as they lie in cells
+abbrev pub ArePackedOf : Cell → List ℕ → List Value → ℕ → Type 0
+ArePackedOf (cell.Float width) packed values count = AreFloatsOf width packed values count
+ArePackedOf other packed values count = AreNumbersOf (cell_width other) packed values count
+
 -- packed numbers, as a column keeps those that lie in such cells
 abbrev pub kept_numbers : Cell → List ℕ → Values
 kept_numbers (cell.Integer integer) packed = kept.Integers integer packed
 kept_numbers cell.Wide packed = kept.Decimals packed
+kept_numbers (cell.Float width) packed = kept.Floats width packed
 
 -- slots of a layout have these values, and are of the type in which those of a type are copied
 pub record AreFilled (validity : Option (List Truth)) (kept : Values) (data_type : DataType)

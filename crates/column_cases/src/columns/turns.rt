@@ -59,6 +59,7 @@ fn type_of(column: &Column) -> DataType
 {
     match column.layout() {
         Layout::Integers(cells) => DataType::Number(NumberType::Integer(cells.integer_type())),
+        Layout::Floats(cells) => DataType::Number(NumberType::Float(cells.width())),
         Layout::Decimals(_) => DataType::Number(NumberType::Decimal(38, 0)),
         Layout::Bools(_) => DataType::Bool,
         Layout::Texts(_) => DataType::Utf8,

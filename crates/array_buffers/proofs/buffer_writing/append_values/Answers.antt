@@ -1,5 +1,6 @@
 use Rattle.std.proofs.Common.{◌≡◌, ◌++◌, [], ℕ, List, get_or, sym, ap, ◌∙◌, refl}
 use Rattle.arrays.specs.declared.layout.Layout.TheVariants as layout
+use Rattle.arrow_types.specs.DataType.{float_bytes}
 use Rattle.arrays.specs.Number.{byte_width}
 use Rattle.arrays.specs.WrittenSlots.{elements}
 use Rattle.array_buffers.proofs.Appended.{on_ok_items}
@@ -60,3 +61,16 @@ returns-in-Texts-clause-ok c =
 
 pub append_offsets-requires : goal.append_offsets-requires
 append_offsets-requires c = rw (third_texts c.args.column.now c.layout.result c.in-Texts.field-0 c.layout.ensures.value c.in-Texts.is) at c.requires
+
+pub returns-in-Floats-clause-ok : goal.returns-in-Floats-clause-ok
+returns-in-Floats-clause-ok c =
+    let column = c.args.column.now in
+    let cells = c.in-Floats.cells in
+    let width = c.float_bytes-width.result in
+    let first = c.first-first.result in
+    let len = c.len-len.result in
+    let written = ap (λ (all : List (List ℕ)). get_or all 0 []) (written_as column c.layout.result (layout.Floats cells) c.layout.ensures.value c.in-Floats.is) in
+    let part : elements width c.values-in-Floats.result.now first len ≡ elements (float_bytes cells.width) cells.values column.first column.len =
+    rw (c.float_bytes-width.ensures, c.width.ensures, c.first-first.ensures, c.len-len.ensures.count, c.values-in-Floats.ensures) refl in
+    on_ok_items c.extend_from_slice-in-Floats.result c.args.out.now.items c.extend_from_slice-in-Floats.new.self.items (elements width c.values-in-Floats.result.now first len) _ c.extend_from_slice-in-Floats.ensures.items
+    (ap (λ (xs : List ℕ). c.args.out.now.items ++ xs) (part ∙ sym written))

@@ -2,6 +2,7 @@ use Rattle.std.proofs.Common.{◌≡◌, ◌+◌, ◌*◌, ◌∷◌, [], ℕ, L
 use Rattle.std.specs.Int.{div_ceil}
 use Rattle.std.proofs.lemmas.List.FromFn.{length-map-range_with_len}
 use Rattle.arrays.specs.declared.layout.Layout.TheVariants as layout
+use Rattle.arrow_types.specs.DataType.{float_bytes}
 use Rattle.arrays.specs.Number.{byte_width}
 use Rattle.std.specs.List.{range_with_len}
 use Rattle.std.proofs.Common.{false, map}
@@ -70,3 +71,13 @@ pub returns-in_ok-checked_add-in-Texts : goal.returns-in_ok-checked_add-in-Texts
 returns-in_ok-checked_add-in-Texts c =
     let long = offsets_long c.args.column.now (values_written c.args.column.now) (written_texts c.args.column.now c.layout.result c.in-Texts.field-0 c.layout.ensures.value c.in-Texts.is) in
     rw long (rw (c.in_ok-checked_add-in-Texts.ensures.1, c.len-len.ensures.count) at c.checked_mul-in-Texts.ensures)
+
+pub returns-in-Floats : goal.returns-in-Floats
+returns-in-Floats c =
+    let column = c.args.column.now in
+    let cells = c.in-Floats.cells in
+    let stands = stands_as column c.layout.result (layout.Floats cells) c.layout.ensures.value c.in-Floats.is c.len-len.ensures.stands in
+    let long : length (get_or (values_written column) 0 []) ≡ float_bytes cells.width * column.len =
+    ap (λ (all : List (List ℕ)). length (get_or all 0 [])) (written_as column c.layout.result (layout.Floats cells) c.layout.ensures.value c.in-Floats.is)
+    ∙ length-elements (float_bytes cells.width) cells.values column.first column.len cells.len stands.stands.values stands.within in
+    rw long (rw (c.float_bytes.ensures, c.width.ensures, c.len-len.ensures.count) at c.checked_mul-in-Floats.ensures)

@@ -1,5 +1,6 @@
 use Rattle.std.proofs.Common.{◌≡◌, ◌∙◌, ◌+◌, ◌-◌, [], List, ℕ, get_or, sym, ap, arith}
 use Rattle.arrays.specs.declared.layout.Layout.TheVariants as layout
+use Rattle.arrow_types.specs.DataType.{float_bytes}
 use Rattle.arrays.specs.Number.{byte_width}
 use Rattle.arrays.specs.WrittenSlots.{elements}
 use Rattle.array_buffers.proofs.Lengths.{written_as}
@@ -36,4 +37,15 @@ returns-in_ok-packed_between-in-Indices c =
     c.in_ok-packed_between-in-Indices.ensures
     ∙ ap (λ (n : ℕ). elements (byte_width cells.index) cells.values c.first-first.result n) count
     ∙ ap (λ (n : ℕ). elements (byte_width cells.index) cells.values n column.len) c.first-first.ensures
+    ∙ sym written
+
+pub returns-in_ok-packed_between-in-Floats : goal.returns-in_ok-packed_between-in-Floats
+returns-in_ok-packed_between-in-Floats c =
+    let column = c.args.column.now in
+    let cells = c.in-Floats.cells in
+    let count : c.first-first.result + c.len.result - c.first-first.result ≡ column.len = omega (arith, c.len.ensures.count) in
+    let written = ap (λ (all : List (List ℕ)). get_or all 0 []) (written_as column c.layout.result (layout.Floats cells) c.layout.ensures.value c.in-Floats.is) in
+    c.in_ok-packed_between-in-Floats.ensures
+    ∙ ap (λ (n : ℕ). elements (float_bytes cells.width) cells.values c.first-first.result n) count
+    ∙ ap (λ (n : ℕ). elements (float_bytes cells.width) cells.values n column.len) c.first-first.ensures
     ∙ sym written

@@ -3,7 +3,7 @@ use Rattle.std.specs.Int.{w128}
 use Rattle.std.proofs.lemmas.Int.{to_z-of_z}
 use Rattle.scan_base.specs.declared.value.Value.TheVariants.{Int, Text, Bool as Truth}
 use Rattle.arrays.specs.Layout.{layout_count}
-use Rattle.arrays.proofs.ValidSlots.{validity_long, told, invalid_null, valid_integer, valid_decimal, valid_truth, valid_text, valid_entry}
+use Rattle.arrays.proofs.ValidSlots.{validity_long, told, invalid_null, valid_integer, valid_decimal, valid_float, valid_truth, valid_text, valid_entry}
 use Rattle.arrays.proofs.slots.SlotsCells.value_at.Goals as goal
 
 pub is_valid-requires : goal.is_valid-requires
@@ -20,6 +20,10 @@ returns-in-Integers c =
 pub returns-in-Decimals : goal.returns-in-Decimals
 returns-in-Decimals c =
     ap Int (to_z-of_z w128 c.get-in-Decimals.result (search rules) ∙ c.get-in-Decimals.ensures) ∙ sym (valid_decimal c.args.self.now c.in-Decimals.cells c.args.place (sym c.layout.ensures.value ∙ c.in-Decimals.is) (told c.args.self.now c.validity.result.now c.args.place c.is_valid.result _ c.validity.ensures c.is_valid.ensures c.if-not-is_valid.false))
+
+pub returns-in-Floats : goal.returns-in-Floats
+returns-in-Floats c =
+    ap Int (to_z-of_z w128 c.get-in-Floats.result (search rules) ∙ c.get-in-Floats.ensures) ∙ sym (valid_float c.args.self.now c.in-Floats.cells c.args.place (sym c.layout.ensures.value ∙ c.in-Floats.is) (told c.args.self.now c.validity.result.now c.args.place c.is_valid.result _ c.validity.ensures c.is_valid.ensures c.if-not-is_valid.false))
 
 pub returns-in-Bools : goal.returns-in-Bools
 returns-in-Bools c =

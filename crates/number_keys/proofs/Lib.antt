@@ -1,0 +1,4 @@
+pub mod Values
+pub mod Order
+pub mod Again
+pub mod Between

@@ -1,0 +1,2 @@
+pub mod FloatKeys
+pub mod FloatSpans
