@@ -8,7 +8,7 @@ use Rattle.std.proofs.lemmas.Nat.{div-mul-add, mod-mul-add}
 use Rattle.std.specs.Int.{int_div_euclid, int_rem_euclid}
 use Rattle.std.specs.Prelude.{min}
 use lib.Pow.{pow-add}
-use Rattle.arrow_types.specs.Scales.{no_decimal, parts_of, step_of, bounded, scaled}
+use Rattle.arrow_types.specs.Scales.{no_decimal, all_parts, step_of, bounded, scaled}
 
 -- ---- powers of ten
 
@@ -109,7 +109,7 @@ capped scale = elim (cases_lt 38 scale) [
 
 -- the decimal of a scale that a number is, before it is bounded
 pub floor_is : (scale : ℕ) (whole : ℤ) (part : ℕ) →
-    int_div_euclid (parts_of whole part) (pos (step_of scale)) ≡ whole *ℤ pos (10 ^ min scale 38) +ℤ pos (part % 10 ^ 38 / step_of scale)
+    int_div_euclid (all_parts whole part) (pos (step_of scale)) ≡ whole *ℤ pos (10 ^ min scale 38) +ℤ pos (part % 10 ^ 38 / step_of scale)
 floor_is scale whole part =
     let cap = capped scale in
     let same = steps cap.s cap.few in
@@ -119,7 +119,7 @@ floor_is scale whole part =
     )
 
 -- what is left of a number is what is left of its parts
-pub rest_is : (scale : ℕ) (whole : ℤ) (part : ℕ) → int_rem_euclid (parts_of whole part) (pos (step_of scale)) ≡ pos (part % 10 ^ 38 % step_of scale)
+pub rest_is : (scale : ℕ) (whole : ℤ) (part : ℕ) → int_rem_euclid (all_parts whole part) (pos (step_of scale)) ≡ pos (part % 10 ^ 38 % step_of scale)
 rest_is scale whole part =
     let cap = capped scale in
     let same = steps cap.s cap.few in
