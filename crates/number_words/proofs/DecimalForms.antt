@@ -72,10 +72,7 @@ unfolding number_of
 number_of_places scale number some few low =
     let small = small_power scale few in
     let long = places_long scale number in
-    rw (places_digits scale number, long, places_value scale number low, ne_eqb scale 0 (λ e. omega (arith, some, e)), lt_ltb number (omega (arith, low, small))) refl
-  where
-    lt_ltb : (n : ℕ) → n < 10 ^ 38 → nat_lt n (10 ^ 38) ≡ true
-    lt_ltb n h = le-leb (suc n) (10 ^ 38) h
+    rw (places_digits scale number, long, places_value scale number low, ne_eqb scale 0 (λ e. omega (arith, some, e)), lt-ltb number (10 ^ 38) (omega (arith, low, small))) refl
 
 -- the parts of the places that are printed
 parts_of_places : (scale number : ℕ) → 1 ≤ scale → scale ≤ 38 → number < 10 ^ scale → parts_in (places scale number) ≡ Some (number * step_of scale)
