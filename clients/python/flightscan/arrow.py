@@ -10,7 +10,7 @@ import pyarrow
 from .columns import Categories, Column
 from .errors import InterfaceError
 from .rows import ROWS_OF_A_BATCH, Values
-from .schema import CLOCKS, DAY, INTEGERS, MOMENT, MOMENTS, NUMBER, TEXT, TRUTH, ZONED, DataType, Field, Schema, dictionary_of
+from .schema import CLOCKS, DAY, DECIMALS, INTEGERS, MOMENT, MOMENTS, TEXT, TRUTH, ZONED, DataType, Field, Schema, dictionary_of
 from .stream import Batch
 from .tables import Table
 from .values import of_array, refused, values_of, with_codes
@@ -82,7 +82,7 @@ def field_for(found: pyarrow.Field) -> Field:
     if pyarrow.types.is_dictionary(of) and of.value_type == pyarrow.string():
         return Field(found.name, dictionary_of("<i4"), found.nullable)
     named = {str(pyarrow.from_numpy_dtype(one.dtype)): one for one in INTEGERS.values()}
-    named |= {str(type_for(one)): one for one in (TEXT, TRUTH, DAY, MOMENT, NUMBER)}
+    named |= {str(type_for(one)): one for one in (TEXT, TRUTH, DAY, MOMENT, *DECIMALS.values())}
     if str(of) not in named:
         raise refused(found.name, of)
     return Field(found.name, named[str(of)], found.nullable)
@@ -99,7 +99,7 @@ def values_of_batch(batch: pyarrow.RecordBatch, schema: Schema | None) -> list[V
 
 def values_of_arrow(array: pyarrow.Array, own: Field, field: Field) -> Values:
     """A column, which is of its own field there, in the type of another one."""
-    if own.type in (TEXT, NUMBER, DAY):
+    if own.type in (TEXT, DAY) or own.type.form is not None:
         return values_of(own.name, array.to_pylist(), field)
     nulls = array.is_null().to_numpy(zero_copy_only=False) if array.null_count else None
     if own.type == MOMENT:  # a null is NaT there

@@ -12,7 +12,7 @@ from . import flatbuffers
 from .columns import Array, Texts
 from .errors import DataError, OperationalError
 from .flatbuffers import Block
-from .schema import DICTIONARY_BATCH, NUMBER, RECORD_BATCH, SLOT_OF_A_DECIMAL, TEXT, TRUTH, Field, message_with
+from .schema import DICTIONARY_BATCH, RECORD_BATCH, SLOT_OF_A_DECIMAL, TEXT, TRUTH, Field, message_with
 
 ROWS_OF_A_BATCH = 65_536
 BYTES_OF_A_BATCH = 8_388_608
@@ -130,7 +130,7 @@ class Values:
                 raise DataError(f"column {self.field.name}: a string that is not UTF-8") from None
         if self.field.type == TRUTH:
             return nulls, [validity, np.packbits(data, bitorder="little")]
-        if self.field.type == NUMBER:
+        if self.field.type.form is not None:
             return nulls, [validity, bytes_of(decimal_slots(data))]
         return nulls, [validity, bytes_of(data)]
 

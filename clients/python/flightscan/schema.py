@@ -78,7 +78,7 @@ def times_named(word: str, *sizes: int) -> dict[str, DataType]:
 MOMENTS, ZONED = times_named("timestamp", 8, 8, 8, 8), times_named("timestamptz", 8, 8, 8, 8)
 CLOCKS, SPANS = times_named("time", 4, 4, 8, 8), times_named("duration", 8, 8, 8, 8)
 MOMENT = MOMENTS["us"]
-NAMED = {**INTEGERS, **{one.name: one for one in (TEXT, TRUTH, DAY, MOMENT, NUMBER)}}
+NAMED = {**INTEGERS, **{one.name: one for one in (TEXT, TRUTH, DAY, MOMENT, *DECIMALS.values())}}
 
 
 def dictionary_of(index: np.dtype[Any] | str = "<i4") -> DataType:

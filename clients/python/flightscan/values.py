@@ -4,7 +4,7 @@ from __future__ import annotations
 
 import datetime
 from collections.abc import Iterable, Mapping, Set
-from decimal import Decimal
+from decimal import Context, Decimal
 from typing import Any
 
 import numpy as np
@@ -12,10 +12,11 @@ import numpy as np
 from .columns import EPOCH, Array
 from .errors import DataError, InterfaceError, NotSupportedError
 from .rows import Values
-from .schema import DAY, INTEGERS, MOMENT, NUMBER, TEXT, TRUTH, DataType, Field
+from .schema import DAY, DECIMALS, DIGITS, INTEGERS, MOMENT, NUMBER, TEXT, TRUTH, DataType, Field
 
 TAKEN = "bool, int8 to uint64, utf8, date, timestamp, decimal and dictionaries of strings"
-DTYPES: dict[DataType, Any] = {TEXT: object, NUMBER: object, TRUTH: np.bool_}  # in which objects are held; else int64
+DTYPES: dict[DataType, Any] = {TEXT: object, TRUTH: np.bool_, **{one: object for one in DECIMALS.values()}}  # in which objects are held; else int64
+EXACTLY = Context(prec=100_000)  # in which no digit of a decimal is lost
 EXACT = 2**53  # up to here a float holds each whole number
 TIME_ZERO, MICROSECOND = datetime.datetime(1970, 1, 1), datetime.timedelta(microseconds=1)
 FINER, COARSER = ("ns", "ps", "fs", "as"), ("D", "W", "M", "Y")  # units of time below a microsecond, and from a day on
@@ -118,6 +119,8 @@ def of_objects(name: str, data: Array, mask: Array | None, field: Field | None) 
     nulls = nulls if mask is None else nulls | mask
     values = data[~nulls].tolist()
     of = guessed_type(name, values) if values or field is None else field.type
+    if field is not None and field.type.form is not None and class_of(of).startswith("number"):
+        of = field.type
     field = field or Field(name, of)
     if of == TEXT and field.type.is_dictionary:
         return coded(field, data, nulls)
@@ -125,8 +128,8 @@ def of_objects(name: str, data: Array, mask: Array | None, field: Field | None) 
         values = [value.toordinal() - EPOCH for value in values]
     elif of == MOMENT:
         values = [micros_since_1970(name, value) for value in values]
-    elif of == NUMBER:
-        values = [whole_number(name, value) for value in values]
+    elif of.form is not None:
+        values = [whole_number(name, value, of) for value in values]
     made = np.full(len(data), "" if of == TEXT else 0, DTYPES.get(of, np.int64))
     made[~nulls] = values
     return fitted(of, field, made, nulls if nulls.any() else None)
@@ -160,19 +163,31 @@ def guessed_type(name: str, values: list[Any]) -> DataType:
         return MOMENT
     if all(issubclass(kind, (int, np.integer, Decimal)) and kind is not bool for kind in kinds):
         is_small = not any(issubclass(kind, Decimal) for kind in kinds) and -(2**63) <= min(values) <= max(values) < 2**63
-        return INTEGERS["int64"] if is_small else NUMBER
+        return INTEGERS["int64"] if is_small else decimals_for(name, values)
     raise refused(name, " with ".join(sorted(kind.__name__ for kind in kinds)))
 
 
-def whole_number(name: str, value: Any) -> int:
-    """A number as an int, where 128 bits hold it."""
+def decimals_for(name: str, values: list[Any]) -> DataType:
+    """The decimals of 38 digits with as many after the point as one of these values has."""
+    scales = [-exponent for value in values if isinstance(value, Decimal)
+              if isinstance(exponent := value.normalize(EXACTLY).as_tuple().exponent, int)]
+    scale = max([0, *scales])
+    if scale > DIGITS:
+        raise refused(name, f"a decimal with {scale} digits after the point")
+    return DECIMALS[DIGITS, scale]
+
+
+def whole_number(name: str, value: Any, of: DataType = NUMBER) -> int:
+    """A number without its point, where the type has so many digits, and 128 bits hold it."""
     if isinstance(value, Decimal) and not value.is_finite():
         raise refused(name, f"the decimal {value}")
-    if not -(2**127) <= value < 2**127:
-        raise DataError(f"column {name}: {Decimal(value):.6g} does not fit into 128 bits")
-    whole = int(value)
-    if value != whole:
-        raise refused(name, "a decimal with a fraction")
+    digits, scale = of.form or (DIGITS, 0)
+    found = EXACTLY.scaleb(Decimal(int(value) if not isinstance(value, Decimal) else value), scale)
+    if not -(2**127) <= found < 2**127 or of != NUMBER and not -(10**digits) < found < 10**digits:
+        raise DataError(f"column {name}: {Decimal(value):.6g} does not fit into {'128 bits' if of == NUMBER else of}")
+    whole = int(found)
+    if found != whole:
+        raise refused(name, "a decimal with a fraction") if of == NUMBER else DataError(f"column {name}: {value} is no {of}")
     return whole
 
 
@@ -201,7 +216,9 @@ def with_codes(field: Field, codes: Array, mask: Array | None, categories: tuple
 
 def class_of(of: DataType) -> str:
     """The types of one class hold the same values, if they are large enough."""
-    return "number" if of.is_integer or of == NUMBER else of.name
+    if of.is_integer or of == NUMBER:
+        return "number"
+    return f"number of scale {of.form[1]}" if of.form is not None else of.name
 
 
 def look_at_name(name: object) -> None:

@@ -1,14 +1,12 @@
 -- Numbers with digits after the point, in steps of a scale.
-use Rattle.std.proofs.Common.{◌≡◌, ℕ, zero, suc, ◌+◌, ◌-◌, ◌*◌, ◌/◌, ◌%◌, ◌^◌, ◌<◌, ◌≤◌, ℤ, pos, negsuc, ◌+ℤ◌, ◌*ℤ◌, ◌<ℤ◌, ◌≤ℤ◌, neg_ℤ, refl, sym, ap, ◌∙◌, subst, arith, mul_assoc, mul_comm, suc-mul, mul-le-mul_right, mod-lt, div-add-mod', add-mul, mul-add-mod_right, inl, inr}
-use Rattle.std.proofs.Math.{mul-add-div_right}
-use Rattle.std.proofs.Math.Nat.{pow-le-pow_right}
+use Rattle.std.proofs.Common.{◌≡◌, ℕ, zero, suc, ◌+◌, ◌-◌, ◌*◌, ◌/◌, ◌%◌, ◌^◌, ◌<◌, ◌≤◌, ℤ, pos, negsuc, ◌+ℤ◌, ◌*ℤ◌, ◌<ℤ◌, ◌≤ℤ◌, neg_ℤ, refl, sym, ap, ◌∙◌, subst, arith, mul_assoc, mul_comm, suc-mul, mul-le-mul_right, mod-lt, div-add-mod', min, inl, inr}
+use Rattle.std.proofs.Math.Nat.{add-mul, mul-add-div_right, mul-add-mod_self_right, pow-le-pow_right}
 use Rattle.std.proofs.lemmas.Bool.{cases_lt}
 use Rattle.std.proofs.lemmas.Int.{ints}
 use Rattle.std.proofs.lemmas.Nat.{div-mul-add, mod-mul-add}
 use Rattle.std.specs.Int.{int_div_euclid, int_rem_euclid}
-use Rattle.std.specs.Prelude.{min}
 use lib.Pow.{pow-add}
-use Rattle.arrow_types.specs.Scales.{no_decimal, parts_of, step_of, bounded, scaled}
+use Rattle.arrow_types.specs.Scales.{no_decimal, all_parts, step_of, bounded, scaled}
 
 -- ---- powers of ten
 
@@ -75,7 +73,7 @@ quotient a b (negsuc n) p some low = below
 -- and what is left
 pub remainder : (a b : ℕ) (whole : ℤ) (p : ℕ) → 0 < a → p < b * a →
     int_rem_euclid (whole *ℤ pos (b * a) +ℤ pos p) (pos a) ≡ pos (p % a)
-remainder a b (pos n) p some low = ap pos (ap (λ (m : ℕ). (m + p) % a) (sym (mul_assoc n b a)) ∙ mul-add-mod_right (n * b) a p)
+remainder a b (pos n) p some low = ap pos (ap (λ (m : ℕ). (m + p) % a) (sym (mul_assoc n b a)) ∙ mul-add-mod_self_right (n * b) a p)
 remainder a b (negsuc n) p some low =
     let left : negsuc n *ℤ pos (b * a) +ℤ pos p ≡ negsuc (n * (b * a) + (b * a - 1 - p)) = omega (arith, ints, suc-mul n (b * a), low) in
     let few = low_quotient a b p low in
@@ -109,7 +107,7 @@ capped scale = elim (cases_lt 38 scale) [
 
 -- the decimal of a scale that a number is, before it is bounded
 pub floor_is : (scale : ℕ) (whole : ℤ) (part : ℕ) →
-    int_div_euclid (parts_of whole part) (pos (step_of scale)) ≡ whole *ℤ pos (10 ^ min scale 38) +ℤ pos (part % 10 ^ 38 / step_of scale)
+    int_div_euclid (all_parts whole part) (pos (step_of scale)) ≡ whole *ℤ pos (10 ^ min scale 38) +ℤ pos (part % 10 ^ 38 / step_of scale)
 floor_is scale whole part =
     let cap = capped scale in
     let same = steps cap.s cap.few in
@@ -119,7 +117,7 @@ floor_is scale whole part =
     )
 
 -- what is left of a number is what is left of its parts
-pub rest_is : (scale : ℕ) (whole : ℤ) (part : ℕ) → int_rem_euclid (parts_of whole part) (pos (step_of scale)) ≡ pos (part % 10 ^ 38 % step_of scale)
+pub rest_is : (scale : ℕ) (whole : ℤ) (part : ℕ) → int_rem_euclid (all_parts whole part) (pos (step_of scale)) ≡ pos (part % 10 ^ 38 % step_of scale)
 rest_is scale whole part =
     let cap = capped scale in
     let same = steps cap.s cap.few in

@@ -17,8 +17,8 @@ has_digits (Decimal digits scale) number =
 has_digits _ number = true
 
 -- the parts of a number
-abbrev pub parts_of : ℤ → ℕ → ℤ
-parts_of whole part = whole *ℤ no_decimal +ℤ pos (part % 10 ^ 38)
+abbrev pub all_parts : ℤ → ℕ → ℤ
+all_parts whole part = whole *ℤ no_decimal +ℤ pos (part % 10 ^ 38)
 
 -- how many parts the last digit of a scale has
 abbrev pub step_of : ℕ → ℕ
@@ -32,7 +32,7 @@ bounded number = if int_le no_decimal number then no_decimal
 -- the decimal of a scale that a number is, rounded down and bounded
 abbrev pub scaled : ℕ → ℤ → ℕ → ℤ
 scaled scale whole part =
-    bounded (int_div_euclid (parts_of whole part) (pos (step_of scale)))
+    bounded (int_div_euclid (all_parts whole part) (pos (step_of scale)))
 
 -- whether none of the parts is below the last digit of a scale
 abbrev pub is_scaled : ℕ → ℕ → Bool

@@ -1,11 +1,12 @@
 -- The texts of decimals with digits after the point read back.
-use Rattle.std.proofs.Common.{◌≡◌, ◌==◌, ◌&&◌, ◌<◌, ◌≤◌, ℕ, zero, suc, ◌+◌, ◌-◌, ◌*◌, ◌/◌, ◌%◌, ◌^◌, ℤ, pos, negsuc, neg_ℤ, unsigned_abs, Bool, true, false, if◌then◌else◌, List, [], ◌∷◌, ◌++◌, length, slice_index, Some, None, refl, sym, ap, ◌∙◌, arith, rules, min, mod-lt, mod-eq_of_lt, div-add-mod', div-le_self, mul-mod_left, mul-div_cancel, mul-lt-mul_of_pos_right, pow-suc, le-leb, lt-ltb}
+use Rattle.std.proofs.Common.{◌≡◌, ◌==◌, ◌&&◌, ◌<◌, ◌≤◌, ℕ, zero, suc, ◌+◌, ◌-◌, ◌*◌, ◌/◌, ◌%◌, ◌^◌, ℤ, pos, negsuc, neg_ℤ, unsigned_abs, Bool, true, false, if◌then◌else◌, List, [], ◌∷◌, ◌++◌, length, slice_index, Some, None, refl, sym, ap, ◌∙◌, arith, rules, min, mod-lt, mod-eq_of_lt, div-add-mod', mul-lt-mul_of_pos_right, le-leb, lt-ltb}
 use Rattle.std.specs.Prelude.{nat_lt, nat_le, not, option_map}
 use Rattle.std.specs.Char.{is_ascii_digit, digit_value}
 use Rattle.std.specs.Fmt.{decimal}
 use Rattle.std.specs.List.{list_all, after_first, before_first, position_or_len}
 use Rattle.std.specs.Str.{byte}
 use Rattle.std.specs.Str.Parse.{digits_value, digits_value_after}
+use Rattle.std.proofs.Math.Nat.{div-le_self, mul-div_cancel, mul-mod_left, pow-suc}
 use Rattle.std.proofs.lemmas.Bool.{and_parts, ltb-true, ne_eqb}
 use Rattle.std.proofs.lemmas.Int.{ints}
 use Rattle.std.proofs.lemmas.Int.Digits.{digits_value-lt}
@@ -71,10 +72,7 @@ unfolding number_of
 number_of_places scale number some few low =
     let small = small_power scale few in
     let long = places_long scale number in
-    rw (places_digits scale number, long, places_value scale number low, ne_eqb scale 0 (λ e. omega (arith, some, e)), lt_ltb number (omega (arith, low, small))) refl
-  where
-    lt_ltb : (n : ℕ) → n < 10 ^ 38 → nat_lt n (10 ^ 38) ≡ true
-    lt_ltb n h = le-leb (suc n) (10 ^ 38) h
+    rw (places_digits scale number, long, places_value scale number low, ne_eqb scale 0 (λ e. omega (arith, some, e)), lt-ltb number (10 ^ 38) (omega (arith, low, small))) refl
 
 -- the parts of the places that are printed
 parts_of_places : (scale number : ℕ) → 1 ≤ scale → scale ≤ 38 → number < 10 ^ scale → parts_in (places scale number) ≡ Some (number * step_of scale)

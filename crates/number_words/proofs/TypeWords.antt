@@ -10,7 +10,7 @@ use Rattle.arrow_types.specs.declared.data_type.NumberType.TheVariants.{Integer,
 use Rattle.arrow_types.specs.declared.data_type.TimeUnit.TheVariants.{Second, Millisecond, Microsecond, Nanosecond}
 use Rattle.number_words.specs.declared.words.TheConstants.{TYPES}
 use Rattle.arrow_types.specs.Schema.{IsNumber}
-use Rattle.std.proofs.lemmas.List.Elements.{list_all-append}
+use Rattle.std.proofs.lemmas.List.Folds.{list_all-append}
 use Rattle.number_words.specs.NumberTexts.{decimal_word, in_digits, word}
 use Rattle.number_words.proofs.Texts.{digit_stands}
 

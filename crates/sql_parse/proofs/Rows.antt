@@ -386,6 +386,16 @@ a_date : Means (codes "SELECT a FROM t WHERE a = DATE '1994-01-01'")
 unfolding answer days_from_civil day_count days_of_years days_of_months
 a_date = worked refl
 
+-- a number with a fraction is rounded down, and has parts of one more
+a_fraction : Means (codes "SELECT a FROM t WHERE a = -12.50")
+    (Ok (filtered (comparing Equal a (literally (literals.Fraction (negsuc 12) 50000000000000000000000000000000000000)))))
+unfolding answer
+a_fraction = worked refl
+
+no_fraction : Means (codes "SELECT a FROM t WHERE a = 12.0") (Ok (filtered (equals a 12)))
+unfolding answer
+no_fraction = worked refl
+
 a_timestamp : Means (codes "SELECT a FROM t WHERE a = TIMESTAMP '1994-01-01 00:00:00.5'")
     (Ok (filtered (comparing Equal a (literally (literals.Timestamp (pos 757382400500000000000000000000))))))
 unfolding answer days_from_civil day_count days_of_years days_of_months clock_in fraction_in moment_in

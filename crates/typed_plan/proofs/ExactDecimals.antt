@@ -8,7 +8,7 @@ use Rattle.std.proofs.lemmas.Bool.{eqb-true}
 use Rattle.std.proofs.lemmas.Bool.Decides.{eqb_tells}
 use Rattle.std.proofs.lemmas.Int.{ints}
 use Rattle.jiff_core.proofs.SignedLemmas.{signed_arith}
-use Rattle.arrow_types.specs.Scales.{bounded, is_scaled, no_decimal, parts_of, scaled, step_of}
+use Rattle.arrow_types.specs.Scales.{bounded, is_scaled, no_decimal, all_parts, scaled, step_of}
 use Rattle.arrow_types.proofs.Floors.{floor_at, floor_after}
 use Rattle.arrow_types.proofs.ScaledSteps.{rest_is, tens}
 use Rattle.scan_base.specs.declared.comparison.Comparison.{Comparison}
@@ -31,7 +31,7 @@ bounded_lt n q low high h = grind (arith, ints)
 pub decimals_compare : (comparison : Comparison) (scale : ℕ) (whole : ℤ) (part : ℕ) → DecimalsCompareExactly comparison scale whole part
 decimals_compare c scale whole part n low high =
     let step = step_of scale in
-    let units = parts_of whole part in
+    let units = all_parts whole part in
     let q = int_div_euclid units (pos step) in
     let x = n *ℤ pos step in
     let some : 0 < step = tens (38 - scale) in

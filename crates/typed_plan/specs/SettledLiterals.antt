@@ -11,7 +11,7 @@ use Rattle.arrow_types.specs.declared.data_type.NumberType.{NumberType}
 use Rattle.arrow_types.specs.declared.data_type.NumberType.TheVariants as number
 use Rattle.arrow_types.specs.declared.data_type.TimeUnit.{TimeUnit}
 use Rattle.arrow_types.specs.DataType.{zeptos_in}
-use Rattle.arrow_types.specs.Scales.{is_scaled, no_decimal, parts_of, scaled, step_of}
+use Rattle.arrow_types.specs.Scales.{is_scaled, no_decimal, all_parts, scaled, step_of}
 use Rattle.scan_base.specs.declared.comparison.Comparison.{Comparison}
 use Rattle.scan_base.specs.declared.comparison.Comparison.TheVariants.{Equal, NotEqual, Less}
 use Rattle.scan_base.specs.declared.comparison.Comparison.TheVariants.{LessOrEqual, Greater}
@@ -132,4 +132,4 @@ abbrev pub DecimalsCompareExactly : Comparison → ℕ → ℤ → ℕ → Type 
 DecimalsCompareExactly comparison scale whole part =
     (number : ℤ) → neg_ℤ no_number <ℤ number → number <ℤ no_number →
     satisfies comparison (int_cmp number (decimal_beside comparison scale whole part))
-    ≡ satisfies comparison (int_cmp (number *ℤ pos (step_of scale)) (parts_of whole part))
+    ≡ satisfies comparison (int_cmp (number *ℤ pos (step_of scale)) (all_parts whole part))
