@@ -13,7 +13,10 @@ ghost use Rattle.array_select.specs.inside.GatheredSlots.{AreValuesAt, AreGather
 
 use crate::gather_texts::gather_texts;
 use crate::selection::Selection;
-use arrays::{Bools, Cells, Column, Decimals, Floats, Indices, Integers, Layout, Slots, Validity, Values, are_bytes};
+use arrays::{
+    Bools, Cells, Column, Decimals, Floats, Indices, Integers, Layout, Slots, Validity, Values,
+    are_bytes,
+};
 use arrow_types::{FloatWidth, IntegerType};
 use bytes::Bytes;
 use std::alloc::{AllocError, Global};

@@ -21,9 +21,9 @@ use crate::source::Source;
 use crate::text_filling::fill_texts;
 use arrays::{Column, Slots, Validity, Values, are_bytes, cell_width, is_null};
 use arrow_types::{Cell, DataType, FloatWidth, NumberType};
-use number_keys::{bits_of_f32, bits_of_f64};
 use bitmap::{Bits, BitsBuilder};
 use bytes::Bytes;
+use number_keys::{bits_of_f32, bits_of_f64};
 use scan_base::ValueRef;
 use std::alloc::{AllocError, Global};
 

@@ -29,19 +29,19 @@ impl<'a> Model for Floats<'a> {
     ghost Value = { FloatsAt };
 
     ghost view = { λ s. record {
-        width = s.width;
-        validity = s.validity.now;
-        values = s.values.now;
-        len = s.len;
+      width = s.width;
+      validity = s.validity.now;
+      values = s.values.now;
+      len = s.len;
     } };
 
     ghost invariant = { λ s.
         AreFloats (record {
-        width = s.width;
-        validity = s.validity.now;
-        values = s.values.now;
-        len = s.len;
-    }) };
+          width = s.width;
+          validity = s.validity.now;
+          values = s.values.now;
+          len = s.len;
+        }) };
 }
 
 impl<'a> Floats<'a> {

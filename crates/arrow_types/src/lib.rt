@@ -6,7 +6,8 @@ pub mod laws;
 mod scales;
 pub mod schema;
 
-pub use crate::data_type::{Cell, DataType, DictionaryEncoding, FloatWidth, IntegerType, NumberType};
-pub use crate::data_type::TimeUnit;
+pub use crate::data_type::{
+    Cell, DataType, DictionaryEncoding, FloatWidth, IntegerType, NumberType, TimeUnit,
+};
 pub use crate::scales::{MOST_DIGITS, is_scaled, power_of_ten, scaled};
 pub use crate::schema::{Field, MAX_COLUMNS, MAX_NAME_BYTES, Schema};
