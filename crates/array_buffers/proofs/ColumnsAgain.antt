@@ -16,7 +16,8 @@ use Rattle.arrow_types.specs.declared.data_type.DataType.TheVariants as type
 use Rattle.arrow_types.specs.DataType.{cell_of}
 use Rattle.arrays.specs.declared.layout.Layout.{Layout}
 use Rattle.arrays.specs.declared.layout.Layout.TheVariants as layout
-use Rattle.arrays.specs.Number.{byte_width, integer_at, decimal_at, number_from, float_at, float_format}
+use Rattle.arrays.specs.Number.{byte_width, integer_at, decimal_at, number_from, float_at}
+use Rattle.number_keys.specs.FloatKeys.{float_format}
 use Rattle.arrays.specs.Floats.{FloatsAt, floats_of}
 use Rattle.arrow_types.specs.DataType.{float_bytes}
 use Rattle.number_keys.specs.FloatKeys.{key_of}

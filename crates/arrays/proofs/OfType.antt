@@ -15,7 +15,8 @@ use Rattle.arrow_types.specs.declared.data_type.DataType.TheVariants as type
 use Rattle.arrow_types.specs.DataType.{cell_of}
 use Rattle.arrays.specs.declared.layout.Layout.{Layout}
 use Rattle.arrays.specs.declared.layout.Layout.TheVariants as layout
-use Rattle.arrays.specs.Number.{AreBytes, element_at, integer_at, decimal_at, float_at, float_format}
+use Rattle.arrays.specs.Number.{AreBytes, element_at, integer_at, decimal_at, float_at}
+use Rattle.number_keys.specs.FloatKeys.{float_format}
 use Rattle.arrow_types.specs.DataType.{float_bytes}
 use Rattle.number_keys.proofs.Again.{key_stands}
 use Rattle.arrays.specs.Validity.{is_valid, where_valid}

@@ -4,10 +4,8 @@ use Rattle.std.specs.Prelude.{ℕ, ◌-◌, ◌*◌, ◌/◌, ◌^◌, ◌<◌, 
 use Rattle.std.specs.Prelude.{nat_lt, if◌then◌else◌}
 use Rattle.byteorder.specs.Endian.{little_from}
 use Rattle.arrow_types.specs.declared.data_type.IntegerType.{IntegerType}
-use Rattle.number_keys.specs.FloatKeys.{key_of}
-use Rattle.std.specs.Float.Ieee.{Format, binary32, binary64}
+use Rattle.number_keys.specs.FloatKeys.{float_format, key_of}
 use Rattle.arrow_types.specs.declared.data_type.FloatWidth.{FloatWidth}
-use Rattle.arrow_types.specs.declared.data_type.FloatWidth.TheVariants.{Single, Double}
 use Rattle.arrow_types.specs.declared.data_type.Cell.{Cell}
 use Rattle.arrow_types.specs.declared.data_type.Cell.TheVariants as cell
 use Rattle.arrow_types.specs.DataType.{bit_width, is_signed, float_bytes}
@@ -42,11 +40,6 @@ integer_at integer values place = number_from integer (element_at (byte_width in
 -- element `place` of packed decimals of 128 bits with none after the point
 abbrev pub decimal_at : List ℕ → ℕ → ℤ
 decimal_at values place = signed_from 128 (element_at 16 values place)
-
--- the format of a float
-abbrev pub float_format : FloatWidth → Format
-float_format Single = binary32
-float_format Double = binary64
 
 -- element `place` of packed floats, by its key
 abbrev pub float_at : FloatWidth → List ℕ → ℕ → ℤ

@@ -16,7 +16,7 @@ use Rattle.arrow_types.specs.declared.schema.Field.{Field}
 use Rattle.arrays.specs.declared.layout.Layout.{Layout}
 use Rattle.arrays.specs.declared.layout.Layout.TheVariants as layout
 use Rattle.number_keys.specs.FloatKeys.{IsKey}
-use Rattle.arrays.specs.Number.{float_format}
+use Rattle.number_keys.specs.FloatKeys.{float_format}
 use Rattle.arrays.specs.Column.{ColumnAt, IsColumn, values_of}
 
 -- numbers that lie in such cells are slots of this layout

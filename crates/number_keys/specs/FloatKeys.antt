@@ -4,8 +4,16 @@ use Rattle.std.specs.Prelude.{◌≡◌, ℕ, suc, ◌+◌, ◌*◌, ◌/◌, �
 use Rattle.std.specs.Prelude.{if◌then◌else◌, ℤ, pos, negsuc, neg_ℤ, List, Option, Some}
 use Rattle.std.specs.Option.{option_map}
 use Rattle.std.specs.Float.Ieee.{Float, Format, of_bits, to_bits, ones, hid, top, fits}
+use Rattle.std.specs.Float.Ieee.{binary32, binary64}
 use Rattle.std.specs.Float.Parse.{parse_float}
 use Rattle.std.specs.Ordering.{int_cmp, nan_last_cmp}
+use Rattle.arrow_types.specs.declared.data_type.FloatWidth.{FloatWidth}
+use Rattle.arrow_types.specs.declared.data_type.FloatWidth.TheVariants.{Single, Double}
+
+-- the format of a float of a width
+abbrev pub float_format : FloatWidth → Format
+float_format Single = binary32
+float_format Double = binary64
 
 -- the bits of infinity, without a sign
 abbrev pub infinity : Format → ℕ

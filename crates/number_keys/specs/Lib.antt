@@ -1,2 +1,3 @@
 pub mod FloatKeys
 pub mod FloatSpans
+pub mod Nearest

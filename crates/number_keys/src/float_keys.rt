@@ -1,6 +1,6 @@
 //! The keys of floats.
 
-ghost use Rattle.std.specs.Prelude.{◌≡◌};
+ghost use Rattle.std.specs.Prelude.{◌≡◌, IsTrue};
 ghost use Rattle.std.specs.Float.Ieee.{binary32, binary64};
 ghost use Rattle.number_keys.specs.FloatKeys.{IsKey, bits_of_key, key_of};
 
@@ -66,4 +66,18 @@ pub fn bits_of_f32(key: i32) -> u32
     } else {
         key as u32
     }
+}
+
+/// Whether a number is the key of a float of 64 bits.
+pub fn is_key_f64(number: i128) -> bool
+    ensures { IsTrue result → IsKey binary64 number }
+{
+    -0x7ff0_0000_0000_0000 <= number && number <= 0x7ff0_0000_0000_0001
+}
+
+/// Whether a number is the key of a float of 32 bits.
+pub fn is_key_f32(number: i128) -> bool
+    ensures { IsTrue result → IsKey binary32 number }
+{
+    -0x7f80_0000 <= number && number <= 0x7f80_0001
 }

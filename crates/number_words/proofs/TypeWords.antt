@@ -6,7 +6,8 @@ use Rattle.std.specs.List.{list_all}
 use Rattle.std.specs.Str.{byte}
 use Rattle.arrow_types.specs.declared.data_type.IntegerType.TheVariants.{Int8, Int16, Int32, Int64, UInt8, UInt16, UInt32, UInt64}
 use Rattle.arrow_types.specs.declared.data_type.NumberType.{NumberType}
-use Rattle.arrow_types.specs.declared.data_type.NumberType.TheVariants.{Integer, Decimal, Date, Timestamp, Time, Duration}
+use Rattle.arrow_types.specs.declared.data_type.NumberType.TheVariants.{Integer, Decimal, Date, Timestamp, Time, Duration, Float}
+use Rattle.arrow_types.specs.declared.data_type.FloatWidth.TheVariants.{Single, Double}
 use Rattle.arrow_types.specs.declared.data_type.TimeUnit.TheVariants.{Second, Millisecond, Microsecond, Nanosecond}
 use Rattle.number_words.specs.declared.words.TheConstants.{TYPES}
 use Rattle.arrow_types.specs.Schema.{IsNumber}
@@ -68,6 +69,8 @@ plain_word (Duration Second) = refl
 plain_word (Duration Millisecond) = refl
 plain_word (Duration Microsecond) = refl
 plain_word (Duration Nanosecond) = refl
+plain_word (Float Single) = refl
+plain_word (Float Double) = refl
 
 -- a text that is the word of none of them, and of no decimals, is that of no type
 pub none_named : (text : List ℕ) → ((k : ℕ) (d : NumberType) → k < length TYPES → text ≢ word (get_or TYPES k d)) →
@@ -98,3 +101,5 @@ none_named text other decimals (Duration Second) is = other 21 Date (omega arith
 none_named text other decimals (Duration Millisecond) is = other 22 Date (omega arith)
 none_named text other decimals (Duration Microsecond) is = other 23 Date (omega arith)
 none_named text other decimals (Duration Nanosecond) is = other 24 Date (omega arith)
+none_named text other decimals (Float Single) is = other 25 Date (omega arith)
+none_named text other decimals (Float Double) is = other 26 Date (omega arith)

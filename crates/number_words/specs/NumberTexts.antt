@@ -9,7 +9,9 @@ use Rattle.arrow_types.specs.declared.data_type.IntegerType.TheVariants.{UInt8, 
 use Rattle.arrow_types.specs.declared.data_type.IntegerType.TheVariants.{UInt64}
 use Rattle.arrow_types.specs.declared.data_type.NumberType.{NumberType}
 use Rattle.arrow_types.specs.declared.data_type.NumberType.TheVariants.{Integer, Decimal, Date}
-use Rattle.arrow_types.specs.declared.data_type.NumberType.TheVariants.{Timestamp, Time, Duration}
+use Rattle.arrow_types.specs.declared.data_type.NumberType.TheVariants.{Timestamp, Time, Duration, Float}
+use Rattle.arrow_types.specs.declared.data_type.FloatWidth.TheVariants.{Single, Double}
+use Rattle.number_keys.specs.FloatKeys.{IsKey, float_format, key_in}
 use Rattle.arrow_types.specs.declared.data_type.TimeUnit.TheVariants.{Second, Millisecond}
 use Rattle.arrow_types.specs.declared.data_type.TimeUnit.TheVariants.{Microsecond, Nanosecond}
 use Rattle.arrow_types.specs.DataType.{cell_of}
@@ -62,10 +64,12 @@ word (Duration Second) = codes "duration_s"
 word (Duration Millisecond) = codes "duration_ms"
 word (Duration Microsecond) = codes "duration"
 word (Duration Nanosecond) = codes "duration_ns"
+word (Float Single) = codes "float32"
+word (Float Double) = codes "float64"
 
 -- how a column of a text is spelled, with the words of all types, for people
 abbrev pub spelling_line : List ℕ
-spelling_line = codes "'a:int8, b:utf8?': int8..int64, uint8..uint64, decimal[_12_2], date, "
+spelling_line = codes "'a:int8, b:utf8?': int8..int64, uint8..uint64, decimal[_12_2], float32, float64, date, "
     ++ codes "timestamp[tz][_s|_ms|_ns], time[..], duration[..], bool or utf8\n"
 
 -- the word before a literal of a type; an integer, a decimal and a duration have none
@@ -97,6 +101,13 @@ form_of _ number = None
 abbrev pub shown : NumberType → ℤ → List ℕ
 shown kind number = unwrap_or (form_of kind number) (signed_decimal number)
 
+-- A text is what is printed of a number. Of a float it is one that reads as that float: the
+-- shortest, which is tested only.
+abbrev pub IsShown : NumberType → ℤ → List ℕ → Type 0
+IsShown (Float width) key text =
+    IsKey (float_format width) key → key_in (float_format width) text ≡ Some key
+IsShown kind number text = text ≡ shown kind number
+
 -- a form in quotes, or else a number in brackets, after a word
 abbrev pub worded : List ℕ → ℤ → Option (List ℕ) → List ℕ
 worded word number (Some form) = word ++ (codes " '" ++ (form ++ codes "'"))
@@ -107,6 +118,11 @@ abbrev pub literal_text : NumberType → ℤ → List ℕ
 literal_text kind number =
     unwrap_or (option_map (λ word. worded word number (form_of kind number)) (keyword kind))
     (shown kind number)
+
+-- a text is a number as a literal
+abbrev pub IsLiteral : NumberType → ℤ → List ℕ → Type 0
+IsLiteral (Float width) key text = IsShown (Float width) key text
+IsLiteral kind number text = text ≡ literal_text kind number
 
 -- ---- what is read
 
@@ -122,6 +138,7 @@ number_said Date text = day_in text
 number_said (Timestamp unit zoned) text = timestamp_in unit zoned text
 number_said (Time unit) text = time_said unit text
 number_said (Decimal digits scale) text = decimal_said scale text
+number_said (Float width) text = key_in (float_format width) text
 number_said _ text = decimal_in text
 
 -- the number, if it has no more digits than its type
@@ -141,6 +158,7 @@ abbrev pub is_sayable : NumberType → ℤ → Bool
 is_sayable Date day = has_date day
 is_sayable (Timestamp unit zoned) number = has_date (day_at unit number)
 is_sayable (Time unit) number = is_time unit number
+is_sayable (Float width) key = true
 is_sayable (Decimal digits scale) number =
     nat_le scale 38 && has_digits (Decimal digits scale) number
 is_sayable _ number = nat_lt (unsigned_abs number) (10 ^ 38)
@@ -153,4 +171,4 @@ day_number _ day = day
 -- what is printed of a number that fits its type and that a text may say reads as that number
 abbrev pub ReadsBack : NumberType → ℤ → Type 0
 ReadsBack kind number = IsTrue (holds (cell_of kind) number && is_sayable kind number) →
-    number_read kind (shown kind number) ≡ Some number
+    (text : List ℕ) → IsShown kind number text → number_read kind text ≡ Some number

@@ -7,7 +7,8 @@ use Rattle.arrow_types.specs.declared.data_type.IntegerType.TheVariants.{Int8, I
 use Rattle.arrow_types.specs.declared.data_type.IntegerType.TheVariants.{UInt8, UInt16, UInt32}
 use Rattle.arrow_types.specs.declared.data_type.IntegerType.TheVariants.{UInt64}
 use Rattle.arrow_types.specs.declared.data_type.Cell.{Cell}
-use Rattle.arrow_types.specs.declared.data_type.Cell.TheVariants.{Integer, Wide}
+use Rattle.arrow_types.specs.declared.data_type.Cell.TheVariants.{Integer, Wide, Float}
+use Rattle.arrow_types.specs.declared.data_type.FloatWidth.TheVariants.{Single, Double}
 use Rattle.sql_text.specs.Values.{number_of}
 use Rattle.number_words.specs.Dates.{is_from_to}
 
@@ -23,6 +24,8 @@ least_in (Integer Int16) = neg_ℤ (pos 32768)
 least_in (Integer Int32) = neg_ℤ (pos 2147483648)
 least_in (Integer Int64) = neg_ℤ (pos 9223372036854775808)
 least_in Wide = neg_ℤ (pos (2 ^ 127))
+least_in (Float Single) = neg_ℤ (pos 2139095040)
+least_in (Float Double) = neg_ℤ (pos 9218868437227405312)
 least_in _ = pos 0
 
 -- the greatest one
@@ -36,6 +39,8 @@ greatest_in (Integer UInt16) = pos 65535
 greatest_in (Integer UInt32) = pos 4294967295
 greatest_in (Integer UInt64) = pos 18446744073709551615
 greatest_in Wide = pos (2 ^ 127 - 1)
+greatest_in (Float Single) = pos 2139095041
+greatest_in (Float Double) = pos 9218868437227405313
 
 -- whether a cell holds a number
 abbrev pub holds : Cell → ℤ → Bool

@@ -2,15 +2,18 @@
 
 ghost use Rattle.std.specs.Prelude.{◌≡◌, ◌≤◌, ◌++◌, codes, length, option_map};
 ghost use Rattle.std.specs.Fmt.{signed_decimal};
-ghost use Rattle.number_words.specs.NumberTexts.{form_of, literal_text, shown, worded};
+ghost use Rattle.arrow_types.specs.declared.data_type.NumberType.TheVariants.{Float};
+ghost use Rattle.number_words.specs.NumberTexts.{IsLiteral, IsShown, form_of, worded};
 
 use crate::calendar::{FORM_BYTES, date_of};
 use crate::decimal_text::scaled_within;
 use crate::keyword;
 use crate::moment::{time_of, timestamp_of};
 use arrayvec::ArrayString;
-use arrow_types::NumberType;
+use arrow_types::{FloatWidth, NumberType};
 use itoa::Buffer;
+use number_keys::{is_key_f32, is_key_f64, text_of_f32, text_of_f64};
+use ryu::Buffer as FloatBuffer;
 
 /// Room for the text of a number. It takes no memory.
 #[derive(Clone, Copy)]
@@ -18,6 +21,7 @@ pub struct NumberText {
     decimal: Buffer,
     form: Option<ArrayString<FORM_BYTES>>,
     literal: Option<ArrayString<96>>,
+    float: FloatBuffer,
 }
 
 impl NumberText {
@@ -27,24 +31,39 @@ impl NumberText {
             decimal: Buffer::new(),
             form: None,
             literal: None,
+            float: FloatBuffer::new(),
         }
     }
 
     /// What is printed of a number: what its type has in the place of its digits, as the date of a
     /// day, or else its digits.
     pub fn shown(&mut self, kind: NumberType, number: i128) -> &str
-        ensures { result.now ≡ shown kind number }
+        ensures { IsShown kind number result.now }
     {
+        if let NumberType::Float(width) = kind {
+            return self.float(width, number);
+        }
         match form_of(kind, number) {
             Some(form) => self.form.insert(form).as_str(),
             None => self.decimal.format(number),
         }
     }
 
+    // A text that reads as a float, by its key.
+    fn float(&mut self, width: FloatWidth, key: i128) -> &str
+        ensures { IsShown (Float width) key result.now }
+    {
+        match width {
+            FloatWidth::Single if is_key_f32(key) => text_of_f32(key as i32, &mut self.float),
+            FloatWidth::Double if is_key_f64(key) => text_of_f64(key as i64, &mut self.float),
+            _ => self.decimal.format(key),
+        }
+    }
+
     /// A number as a literal: as it is printed, or after the word of its type `DATE 'yyyy-mm-dd'`,
     /// and `DATE(n)` where the type has nothing in the place of its decimal.
     pub fn literal(&mut self, kind: NumberType, number: i128) -> &str
-        ensures { result.now ≡ literal_text kind number }
+        ensures { IsLiteral kind number result.now }
     {
         match keyword(kind) {
             Some(word) => self.literal.insert(worded(word, kind, number)).as_str(),
@@ -62,7 +81,7 @@ fn form_of(kind: NumberType, number: i128) -> Option<ArrayString<FORM_BYTES>>
         NumberType::Timestamp(unit, zoned) => timestamp_of(unit, zoned, number),
         NumberType::Time(unit) => time_of(unit, number),
         NumberType::Decimal(_, scale) => scaled_within(scale, number),
-        NumberType::Integer(_) | NumberType::Duration(_) => None,
+        NumberType::Integer(_) | NumberType::Duration(_) | NumberType::Float(_) => None,
     }
 }
 

@@ -2,6 +2,7 @@
 
 ghost use Rattle.std.specs.Prelude.{◌≡◌, IfSome, IsTrue};
 ghost use Rattle.arrow_types.specs.DataType.{cell_of};
+ghost use Rattle.number_keys.specs.FloatKeys.{float_format, key_in};
 ghost use Rattle.number_words.specs.Dates.{day_in};
 ghost use Rattle.number_words.specs.NumberTexts.{decimal_said, number_read, number_said};
 ghost use Rattle.number_words.specs.NumberTexts.{with_digits};
@@ -11,7 +12,8 @@ use crate::day_in;
 use crate::decimal_text::scaled_in;
 use crate::moment::{time_said, timestamp_in};
 use crate::whole_number::{decimal_in, kept_in};
-use arrow_types::NumberType;
+use arrow_types::{FloatWidth, NumberType};
+use number_keys::{key_in_f32, key_in_f64};
 
 /// The number that a text says in a type, if the type has it. It takes no memory.
 pub fn read(kind: NumberType, text: &str) -> Option<i128>
@@ -43,6 +45,7 @@ fn number_said(kind: NumberType, text: &str) -> Option<i128>
         NumberType::Timestamp(unit, zoned) => timestamp_in(unit, zoned, text),
         NumberType::Time(unit) => time_said(unit, text),
         NumberType::Decimal(_, scale) => decimal_said(scale, text),
+        NumberType::Float(width) => float_said(width, text),
         NumberType::Integer(_) | NumberType::Duration(_) => decimal_in(text),
     }
 }
@@ -55,6 +58,16 @@ fn decimal_said(scale: u8, text: &str) -> Option<i128>
         decimal_in(text)
     } else {
         scaled_in(scale, text)
+    }
+}
+
+// The key of the float nearest to what a text says.
+fn float_said(width: FloatWidth, text: &str) -> Option<i128>
+    ensures { result ≡ key_in (float_format width) text.now }
+{
+    match width {
+        FloatWidth::Single => Some(i128::from(key_in_f32(text)?)),
+        FloatWidth::Double => Some(i128::from(key_in_f64(text)?)),
     }
 }
 

@@ -5,7 +5,7 @@ ghost use Rattle.number_words.specs.WholeNumbers.{decimal_in, greatest_in, holds
 ghost use Rattle.number_words.specs.WholeNumbers.{least_in};
 ghost use Rattle.sql_text.specs.Values.{number_of};
 
-use arrow_types::{Cell, IntegerType};
+use arrow_types::{Cell, FloatWidth, IntegerType};
 use sql_text::{Token, TokenKind};
 
 /// The value of digits alone, if it is below 10^38: that of a literal in a query.
@@ -56,6 +56,8 @@ fn least_in(cell: Cell) -> i128
         Cell::Integer(IntegerType::UInt32) => 0,
         Cell::Integer(IntegerType::UInt64) => 0,
         Cell::Wide => i128::MIN,
+        Cell::Float(FloatWidth::Single) => -2_139_095_040,
+        Cell::Float(FloatWidth::Double) => -9_218_868_437_227_405_312,
     }
 }
 
@@ -73,6 +75,8 @@ fn greatest_in(cell: Cell) -> i128
         Cell::Integer(IntegerType::UInt32) => 4_294_967_295,
         Cell::Integer(IntegerType::UInt64) => 18_446_744_073_709_551_615,
         Cell::Wide => i128::MAX,
+        Cell::Float(FloatWidth::Single) => 2_139_095_041,
+        Cell::Float(FloatWidth::Double) => 9_218_868_437_227_405_313,
     }
 }
 

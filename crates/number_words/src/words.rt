@@ -10,10 +10,10 @@ ghost use Rattle.number_words.specs.NumberTexts.{decimal_word, in_digits, keywor
 ghost use Rattle.number_words.specs.NumberTexts.{word};
 
 use arrayvec::ArrayString;
-use arrow_types::{IntegerType, MOST_DIGITS, NumberType, TimeUnit};
+use arrow_types::{FloatWidth, IntegerType, MOST_DIGITS, NumberType, TimeUnit};
 
 // All types of numbers but decimals.
-const TYPES: [NumberType; 25] = [
+const TYPES: [NumberType; 27] = [
     NumberType::Integer(IntegerType::Int8),
     NumberType::Integer(IntegerType::Int16),
     NumberType::Integer(IntegerType::Int32),
@@ -39,6 +39,8 @@ const TYPES: [NumberType; 25] = [
     NumberType::Duration(TimeUnit::Millisecond),
     NumberType::Duration(TimeUnit::Microsecond),
     NumberType::Duration(TimeUnit::Nanosecond),
+    NumberType::Float(FloatWidth::Single),
+    NumberType::Float(FloatWidth::Double),
 ];
 
 /// The types that a text may be of, in the order in which they are tried.
@@ -113,6 +115,8 @@ pub fn word(kind: NumberType) -> ArrayString<16>
         NumberType::Timestamp(unit, true) => held(zoned_word(unit)),
         NumberType::Time(unit) => held(time_word(unit)),
         NumberType::Duration(unit) => held(duration_word(unit)),
+        NumberType::Float(FloatWidth::Single) => held("float32"),
+        NumberType::Float(FloatWidth::Double) => held("float64"),
     }
 }
 
@@ -222,7 +226,7 @@ fn duration_word(unit: TimeUnit) -> &'static str
 pub fn spelling_line() -> &'static [u8]
     ensures { result.now ≡ spelling_line }
 {
-    b"'a:int8, b:utf8?': int8..int64, uint8..uint64, decimal[_12_2], date, \
+    b"'a:int8, b:utf8?': int8..int64, uint8..uint64, decimal[_12_2], float32, float64, date, \
     timestamp[tz][_s|_ms|_ns], time[..], duration[..], bool or utf8\n"
 }
 
@@ -235,6 +239,9 @@ pub fn keyword(kind: NumberType) -> Option<&'static str>
         NumberType::Date => Some("DATE"),
         NumberType::Timestamp(_, _) => Some("TIMESTAMP"),
         NumberType::Time(_) => Some("TIME"),
-        NumberType::Integer(_) | NumberType::Decimal(_, _) | NumberType::Duration(_) => None,
+        NumberType::Integer(_)
+        | NumberType::Decimal(_, _)
+        | NumberType::Duration(_)
+        | NumberType::Float(_) => None,
     }
 }

@@ -1,11 +1,13 @@
 //! Literals of timestamps, times and numbers next to a column.
 
 ghost use Rattle.std.specs.Prelude.{◌≡◌, ◌≤ℤ◌, unwrap_or};
-ghost use Rattle.typed_plan.specs.SettledLiterals.{decimal_beside, no_number, number_beside};
+ghost use Rattle.typed_plan.specs.SettledLiterals.{decimal_beside, float_beside, no_number};
+ghost use Rattle.typed_plan.specs.SettledLiterals.{number_beside};
 ghost use Rattle.typed_plan.specs.SettledLiterals.{number_between, settled_operand, turned, typed};
 
 use crate::scope::Scope;
-use arrow_types::{DataType, NumberType, TimeUnit, is_scaled, scaled};
+use arrow_types::{DataType, FloatWidth, NumberType, TimeUnit, is_scaled, scaled};
+use number_keys::{nearest_f32, nearest_f64};
 use scan_base::{Comparison, Operand};
 use sql_query::{Literal, Term};
 
@@ -48,6 +50,16 @@ fn decimal_beside(comparison: Comparison, scale: u8, whole: i128, part: u128) ->
     }
 }
 
+// The key of a width that stands there: of the nearest float.
+fn float_beside(width: FloatWidth, whole: i128, part: u128) -> i128
+    ensures { result ≡ float_beside width whole part }
+{
+    match width {
+        FloatWidth::Single => i128::from(nearest_f32(whole, part)),
+        FloatWidth::Double => i128::from(nearest_f64(whole, part)),
+    }
+}
+
 // A literal on the right of a comparison with numbers of a type, if it gets the type.
 fn typed(kind: NumberType, comparison: Comparison, literal: &Literal) -> Option<Literal>
     ensures { unwrap_or result literal.now ≡ typed kind comparison literal.now }
@@ -66,6 +78,12 @@ fn typed(kind: NumberType, comparison: Comparison, literal: &Literal) -> Option<
         (NumberType::Decimal(_, scale), Literal::Number(NumberType::Decimal(_, 0), whole)) => {
             let number = decimal_beside(comparison, scale, *whole, 0);
             Some(Literal::Number(kind, number))
+        }
+        (NumberType::Float(width), Literal::Fraction(whole, part)) => {
+            Some(Literal::Number(kind, float_beside(width, *whole, *part)))
+        }
+        (NumberType::Float(width), Literal::Number(NumberType::Decimal(_, 0), whole)) => {
+            Some(Literal::Number(kind, float_beside(width, *whole, 0)))
         }
         (NumberType::Integer(_), Literal::Fraction(whole, part)) => {
             let number = decimal_beside(comparison, 0, *whole, *part);

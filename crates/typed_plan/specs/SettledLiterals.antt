@@ -9,7 +9,10 @@ use Rattle.arrow_types.specs.declared.data_type.DataType.{DataType}
 use Rattle.arrow_types.specs.declared.data_type.DataType.TheVariants as type
 use Rattle.arrow_types.specs.declared.data_type.NumberType.{NumberType}
 use Rattle.arrow_types.specs.declared.data_type.NumberType.TheVariants as number
+use Rattle.arrow_types.specs.declared.data_type.FloatWidth.{FloatWidth}
 use Rattle.arrow_types.specs.declared.data_type.TimeUnit.{TimeUnit}
+use Rattle.number_keys.specs.FloatKeys.{float_format}
+use Rattle.number_keys.specs.Nearest.{nearest_key}
 use Rattle.arrow_types.specs.DataType.{zeptos_in}
 use Rattle.arrow_types.specs.Scales.{is_scaled, no_decimal, all_parts, scaled, step_of}
 use Rattle.scan_base.specs.declared.comparison.Comparison.{Comparison}
@@ -56,6 +59,11 @@ abbrev pub decimal_beside : Comparison → ℕ → ℤ → ℕ → ℤ
 decimal_beside comparison scale whole part = if is_scaled scale part then scaled scale whole part
     else number_between comparison (scaled scale whole part)
 
+-- the key of a width that stands there: of the nearest float, so no two numbers that are one float
+-- differ next to a column of floats
+abbrev pub float_beside : FloatWidth → ℤ → ℕ → ℤ
+float_beside width whole part = nearest_key (float_format width) whole part
+
 -- ---- literals
 
 -- a literal on the right of a comparison with numbers of a type
@@ -70,6 +78,10 @@ typed (number.Decimal digits scale) comparison (literal.Number (number.Decimal o
     literal.Number (number.Decimal digits scale) (decimal_beside comparison scale whole 0)
 typed (number.Integer integer) comparison (literal.Fraction whole part) =
     literal.Number (number.Integer integer) (decimal_beside comparison 0 whole part)
+typed (number.Float width) comparison (literal.Fraction whole part) =
+    literal.Number (number.Float width) (float_beside width whole part)
+typed (number.Float width) comparison (literal.Number (number.Decimal others zero) whole) =
+    literal.Number (number.Float width) (float_beside width whole 0)
 typed kind comparison written = written
 
 -- the same next to a column of a type

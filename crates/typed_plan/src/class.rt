@@ -19,8 +19,8 @@ pub enum Class {
     Text,
     /// Truth values.
     Truth,
-    /// What is no integer and no decimal, each type for itself: dates, timestamps, times,
-    /// durations.
+    /// What is no integer and no decimal, each type for itself: dates, timestamps, times, durations,
+    /// floats.
     Own(NumberType),
     /// Numbers with a fraction of literals that stand next to no column of numbers. They agree with
     /// none.
@@ -53,7 +53,8 @@ impl Class {
             NumberType::Date
             | NumberType::Timestamp(_, _)
             | NumberType::Time(_)
-            | NumberType::Duration(_) => Class::Own(kind),
+            | NumberType::Duration(_)
+            | NumberType::Float(_) => Class::Own(kind),
         }
     }
 

@@ -12,7 +12,8 @@ use Rattle.arrow_types.specs.declared.data_type.FloatWidth.{FloatWidth}
 use Rattle.arrow_types.specs.Answer.{copied_type}
 use Rattle.arrow_types.specs.DataType.{float_bytes}
 use Rattle.number_keys.specs.FloatKeys.{bits_of_key}
-use Rattle.arrays.specs.Number.{cell_width, element_at, float_format}
+use Rattle.arrays.specs.Number.{cell_width, element_at}
+use Rattle.number_keys.specs.FloatKeys.{float_format}
 use Rattle.arrays.specs.Validity.{is_valid, IsLong}
 use Rattle.arrays.specs.Layout.{layout_count, layout_slot, IsLayout}
 use Rattle.arrays.specs.TypedLayouts.{IsOfType, IsValueOf}
