@@ -1,6 +1,6 @@
 -- Numbers with digits after the point, and the whole numbers that decimals are. A number is so many
 -- wholes and so many parts of one more, of which a whole has 10^38.
-use Rattle.std.specs.Prelude.{ℕ, ◌-◌, ◌%◌, ◌^◌, ◌==◌, ◌&&◌, Bool, true, nat_le, nat_lt, ℤ, pos}
+use Rattle.std.specs.Prelude.{ℕ, ◌-◌, ◌%◌, ◌^◌, ◌==◌, ◌&&◌, Bool, true, false, nat_le, nat_lt, ℤ, pos}
 use Rattle.std.specs.Prelude.{neg_ℤ, ◌+ℤ◌, ◌*ℤ◌, int_le, unsigned_abs, if◌then◌else◌}
 use Rattle.std.specs.Int.{int_div_euclid}
 use Rattle.arrow_types.specs.declared.data_type.NumberType.{NumberType}
@@ -15,6 +15,12 @@ abbrev pub has_digits : NumberType → ℤ → Bool
 has_digits (Decimal digits scale) number =
     nat_le digits 38 && nat_lt (unsigned_abs number) (10 ^ digits)
 has_digits _ number = true
+
+-- whether a type takes each number of 128 bits, also of 39 digits: decimals of 38 digits, none of
+-- which stands after the point
+abbrev pub is_widest : NumberType → Bool
+is_widest (Decimal digits scale) = (digits == 38) && (scale == 0)
+is_widest _ = false
 
 -- the parts of a number
 abbrev pub all_parts : ℤ → ℕ → ℤ

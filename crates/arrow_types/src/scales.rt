@@ -1,7 +1,8 @@
 //! Numbers with digits after the point, and the whole numbers that decimals are.
 
 ghost use Rattle.std.specs.Prelude.{◌≡◌, ◌≤◌, ◌^◌, ◌≤ℤ◌, neg_ℤ};
-ghost use Rattle.arrow_types.specs.Scales.{has_digits, is_scaled, no_decimal, scaled, step_of};
+ghost use Rattle.arrow_types.specs.Scales.{has_digits, is_scaled, is_widest, no_decimal, scaled};
+ghost use Rattle.arrow_types.specs.Scales.{step_of};
 
 use crate::data_type::NumberType;
 
@@ -33,6 +34,16 @@ impl NumberType {
                 digits <= MOST_DIGITS && number.unsigned_abs() < power_of_ten(digits)
             }
             _ => true,
+        }
+    }
+
+    /// Whether this type takes each number of 128 bits, also of 39 digits.
+    pub fn is_widest(self) -> bool
+        ensures { result ≡ is_widest self }
+    {
+        match self {
+            NumberType::Decimal(digits, scale) => digits == MOST_DIGITS && scale == 0,
+            _ => false,
         }
     }
 }

@@ -4,7 +4,9 @@ use Rattle.std.specs.List.{list_any, zip, range_with_len, AllByRecursion}
 use Rattle.std.proofs.lemmas.List.Elements.{recursion_from_All}
 use Rattle.arrow_types.specs.declared.data_type.DataType.{DataType}
 use Rattle.arrow_types.specs.declared.data_type.DataType.TheVariants.{Number}
+use Rattle.arrow_types.specs.declared.data_type.NumberType.{NumberType}
 use Rattle.arrow_types.specs.declared.data_type.NumberType.TheVariants.{Decimal}
+use Rattle.arrow_types.specs.Scales.{is_widest}
 use Rattle.arrow_types.specs.declared.schema.Field.{Field}
 use Rattle.arrays.specs.Column.{ColumnAt, slot_of}
 use Rattle.arrays.specs.Batch.{BatchAt, AreLong, row_of, rows_of}
@@ -52,6 +54,12 @@ never_wide t other (value ∷ values) = rw (one t value other) (never_wide t oth
     one (Number (Decimal digits scale)) value other = absurd (other digits scale refl)
     one (Number kind) (Int number) other = refl
     one t value other = refl
+
+-- the widest decimals take each
+pub widest_takes : (kind : NumberType) → is_widest kind ≡ true → (values : List Value) → list_any (is_too_wide (Number kind)) values ≡ false
+widest_takes kind widest [] = refl
+widest_takes kind widest (Int number ∷ values) = rw (widest, widest_takes kind widest values) refl
+widest_takes kind widest (value ∷ values) = widest_takes kind widest values
 
 -- a column's values that its field can't have, at these rows
 column_bad : (field : Field) (column : ColumnAt) (js : List ℕ) →

@@ -10,7 +10,7 @@ use Rattle.arrow_types.specs.declared.data_type.DataType.TheVariants.{Dictionary
 use Rattle.arrow_types.specs.declared.schema.Field.{Field}
 use Rattle.arrow_types.specs.declared.schema.Schema.{Schema}
 use Rattle.arrow_types.specs.DataType.{same_number}
-use Rattle.arrow_types.specs.Scales.{has_digits}
+use Rattle.arrow_types.specs.Scales.{has_digits, is_widest}
 use Rattle.scan_base.specs.Value.{is_null, same_flag}
 use Rattle.scan_base.specs.Limits.{most_text_bytes}
 
@@ -51,9 +51,10 @@ same_fields [] [] = true
 same_fields (old ∷ olds) (new ∷ news) = same_field old new && same_fields olds news
 same_fields _ _ = false
 
--- whether a value is a number of more digits than the type has, if that is one of decimals
+-- whether a value is a number of more digits than the type has, if that is one of decimals and does
+-- not take each number
 abbrev pub is_too_wide : DataType → Value → Bool
-is_too_wide (Number kind) (Int number) = not (has_digits kind number)
+is_too_wide (Number kind) (Int number) = not (is_widest kind || has_digits kind number)
 is_too_wide data_type value = false
 
 -- whether a column can't have a value: it is null and the column takes no null, or it has too many

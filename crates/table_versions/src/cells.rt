@@ -58,7 +58,9 @@ fn is_too_wide(data_type: DataType, value: ValueRef<'_>) -> bool
     ensures { result ≡ is_too_wide data_type (value_of value.entry) }
 {
     match (data_type, value) {
-        (DataType::Number(kind), ValueRef::Int(number)) => !kind.has_digits(number),
+        (DataType::Number(kind), ValueRef::Int(number)) => {
+            !(kind.is_widest() || kind.has_digits(number))
+        }
         (_, _) => false,
     }
 }
@@ -75,12 +77,14 @@ fn has_wide_slot(data_type: DataType, column: &Column) -> bool
     false
 }
 
-// Whether a column has a number of more digits than its type. Only decimals are walked.
-#[tactic(auto, using(crate::proofs::Transposed::never_wide))]
+// Whether a column has a number of more digits than its type. Only decimals that do not take each
+// number are walked.
+#[tactic(auto, using(crate::proofs::Transposed::never_wide, crate::proofs::Transposed::widest_takes))]
 fn is_wide_column(field: &Field, column: &Column) -> bool
     ensures { result ≡ is_wide_column (field.now, column.now) }
 {
     match field.data_type {
+        DataType::Number(kind) if kind.is_widest() => false,
         DataType::Number(NumberType::Decimal(_, _)) => has_wide_slot(field.data_type, column),
         _ => false,
     }
