@@ -1,5 +1,5 @@
--- Worked rows: a literal of a timestamp or a time on the left of BETWEEN and IN.
-use Rattle.std.proofs.Common.{◌≡◌, ℕ, ◌*◌, refl, pos, true, false, List, [], ◌∷◌, codes, Some, None}
+-- Worked rows: a literal of a timestamp, a time or a number on the left of BETWEEN and IN.
+use Rattle.std.proofs.Common.{◌≡◌, ℕ, ◌*◌, ◌/◌, ◌%◌, refl, pos, true, false, List, [], ◌∷◌, codes, Some, None}
 use Rattle.arrow_types.specs.declared.data_type.DataType.{DataType}
 use Rattle.arrow_types.specs.declared.data_type.DataType.TheVariants as type
 use Rattle.arrow_types.specs.declared.data_type.NumberType.TheVariants as number
@@ -106,3 +106,45 @@ in_is_taken = refl
 
 time_in_moments : fault_of (all_where (membership false (clock 15) (a ∷ []))) two_units ≡ Some TypeClash
 time_in_moments = refl
+
+-- so many thousandths, as a number with a fraction
+abbrev thousandths : ℕ → Operand Term
+thousandths n = operand.Column
+    (term.Literal (literal.Fraction (pos (n / 1000)) (n % 1000 * 100000000000000000000000000000000000)))
+
+-- a = 12.50, NULL, 12.51
+abbrev cents : Database
+cents =
+    t_of (field (codes "a") (type.Number (number.Decimal 12 2)) ∷ [])
+    ((Int (pos 1250) ∷ []) ∷ (Null ∷ []) ∷ (Int (pos 1251) ∷ []) ∷ [])
+
+no_cent_between_itself : whole_meaning (all_where (between false (thousandths 12505) a a)) cents ≡ []
+no_cent_between_itself = refl
+
+cent_between_itself : whole_meaning (all_where (between false (thousandths 12500) a a)) cents ≡ (Int (pos 1250) ∷ []) ∷ []
+cent_between_itself = refl
+
+cent_in : whole_meaning (all_where (membership false (thousandths 12510) (a ∷ thousandths 12505 ∷ []))) cents
+    ≡ (Int (pos 1251) ∷ []) ∷ []
+cent_in = refl
+
+no_cent_in_itself : whole_meaning (all_where (membership false (thousandths 12505) (a ∷ thousandths 12505 ∷ []))) cents
+    ≡ (Int (pos 1250) ∷ []) ∷ (Null ∷ []) ∷ (Int (pos 1251) ∷ []) ∷ []
+no_cent_in_itself = refl
+
+-- b has another scale than a: BETWEEN compares each pair by itself, IN takes one type
+abbrev two_scales : Database
+two_scales =
+    t_of
+    (field (codes "a") (type.Number (number.Decimal 12 2)) ∷ field (codes "b") (type.Number (number.Decimal 12 3)) ∷ [])
+    ((Int (pos 1250) ∷ Int (pos 12505) ∷ []) ∷ (Int (pos 1251) ∷ Int (pos 12505) ∷ []) ∷ [])
+
+between_two_scales : whole_meaning (all_where (between false (thousandths 12505) a (column (codes "b")))) two_scales
+    ≡ (Int (pos 1250) ∷ Int (pos 12505) ∷ []) ∷ []
+between_two_scales = refl
+
+in_two_scales : fault_of (all_where (membership false (thousandths 12505) (a ∷ column (codes "b") ∷ []))) two_scales ≡ Some TypeClash
+in_two_scales = refl
+
+in_of_literals : fault_of (all_where (membership false (thousandths 12505) (thousandths 12505 ∷ []))) two_scales ≡ Some TypeClash
+in_of_literals = refl
