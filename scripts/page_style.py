@@ -14,7 +14,7 @@ MOST_WORDS_OF = {
     "vectors/arrow/README.md": 1_200, "vectors/flight/README.md": 350, "vectors/puts/README.md": 320,
 }
 MOST_WORDS_OF_A_CRATE = 1_000
-MOST_WORDS_OF_CRATES, MOST_WORDS_OF_OTHERS = 33_680, 54_460  # of all crates' READMEs, and of all other pages
+MOST_WORDS_OF_CRATES, MOST_WORDS_OF_OTHERS = 33_690, 54_460  # of all crates' READMEs, and of all other pages
 MOST_WORDS_OF_A_PARAGRAPH = 80
 MOST_COLUMNS = 100
 AVOIDED = re.compile(r"\b(behind|beside|anew|whoever|house)\b", re.I)
