@@ -10,8 +10,8 @@ from __future__ import annotations
 from dataclasses import dataclass
 from random import Random
 
-from random_calls.plain_model import (FIRST_DAY, LAST_DAY, LAST_MOMENT, And, Between, Column, Comparison, Database, Day, In, Is, IsNull,
-                                      Literal, Moment, Name, Not, Operand, Or, Predicate, Value, class_of)
+from random_calls.plain_model import (FIRST_DAY, LAST_DAY, LAST_MOMENT, MICROSECONDS, And, Between, Column, Comparison, Database,
+                                      Day, In, Is, IsNull, Literal, Moment, Name, Not, Operand, Or, Predicate, Value, class_of)
 from random_calls.puts import MOMENTS, RANGES, TEXTS
 from random_calls.queries import COUNTED, Asker, Speller
 
@@ -136,7 +136,7 @@ class Joiner(Asker):
 
     def literal(self, kind: str) -> Literal:
         """A literal of a class: one of the few values, or a number beside it."""
-        kinds = {"number": "Int64", "text": "Utf8", "truth": "Bool", "date": "Date", "timestamp": "Timestamp"}
+        kinds = {"number": "Int64", "text": "Utf8", "truth": "Bool", "date": "Date", "timestamp": MICROSECONDS}
         value, moved = self.values.value(kinds[kind]), self.random.choice([0, 0, 0, 1, -1])
         if kind in COUNTED:
             return Literal(value.beside(moved))

@@ -12,6 +12,7 @@ from dataclasses import dataclass
 
 FIRST_DAY, LAST_DAY = -719_162, 2_932_896  # 0001-01-01 and 9999-12-31: the dates that a query can name
 DAY_MICROS = 86_400_000_000
+MICROSECONDS = "Timestamp(Microsecond, false)"  # the type of timestamps here, as vectors/arrow names it
 
 
 # 0001-01-01 00:00:00 and 9999-12-31 23:59:59.999999: the timestamps that a query can name.
@@ -197,7 +198,7 @@ class Query:
 
 
 def class_of(type_name: str) -> str:
-    classes = {"Utf8": "text", "dictionary": "text", "Bool": "truth", "Date": "date", "Timestamp": "timestamp"}
+    classes = {"Utf8": "text", "dictionary": "text", "Bool": "truth", "Date": "date", MICROSECONDS: "timestamp"}
     return classes.get(type_name, "number")
 
 

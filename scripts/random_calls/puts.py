@@ -12,14 +12,14 @@ from random import Random
 
 import trees
 from layout import written
-from random_calls.plain_model import (FIRST_DAY, FIRST_MOMENT, LAST_DAY, LAST_MOMENT, Column, Database, Day, Moment, Put, Row, Table,
-                                      Value, class_of)
+from random_calls.plain_model import (FIRST_DAY, FIRST_MOMENT, LAST_DAY, LAST_MOMENT, MICROSECONDS, Column, Database, Day, Moment, Put,
+                                      Row, Table, Value, class_of)
 from reader import INTEGERS
 from wire import chunk, descriptor, packed, scalar
 
 TREES = {name: trees.integer(width, signed) for (width, signed), name in INTEGERS.items()}
 TREES |= {"Utf8": trees.UTF8, "Bool": trees.BOOL, "Decimal128": trees.DECIMAL, "Date": trees.DATE, "dictionary": trees.UTF8}
-TREES["Timestamp"] = trees.TIMESTAMP
+TREES[MICROSECONDS] = trees.TIMESTAMP
 RANGES = {name: (-(2 ** (width - 1)), 2 ** (width - 1)) if signed else (0, 2**width)
           for (width, signed), name in [*INTEGERS.items(), ((128, True), "Decimal128")]}
 TABLES = ["t", "u", "T", "a b", "select", "\u00e9", "t2", "x" * 64]
@@ -106,7 +106,7 @@ def cells(random: Random, kind: str, values: list[Value]) -> list[bytes]:
         return trees.texts(parts) if parts or random.random() < 0.5 else [b"", b""]
     if kind == "Bool":
         return [bits(random, [random.random() < 0.5 if value is None else value for value in values])]
-    least, above = RANGES[{"Date": "Int32", "Timestamp": "Int64"}.get(kind, kind)]
+    least, above = RANGES[{"Date": "Int32", MICROSECONDS: "Int64"}.get(kind, kind)]
     width = (above - least).bit_length() // 8
     numbers = [random.randbytes(width) if value is None else value.to_bytes(width, "little", signed=least < 0)
                for value in values]
@@ -256,8 +256,8 @@ STREAMS_AMISS = [
     ("F12", "a column without a name", of_field(name="")),
     ("F12", "a column name of 65 bytes", of_field(name="n" * 65)),
     ("F7", "a column of floats", of_field(type_type="FloatingPoint", type={"precision": 2})),
-    ("F7", "a column of timestamps in nanoseconds", of_field(type_type="Timestamp", type={"unit": 3})),
-    ("F7", "a column of timestamps with a zone", of_field(type_type="Timestamp", type={"unit": 2, "timezone": "UTC"})),
+    ("F7", "a column of timestamps in another unit", of_field(type_type="Timestamp", type={"unit": 4})),
+    ("F7", "a column of times of another width", of_field(type_type="Time", type={"unit": 3, "bitWidth": 32})),
     ("F6", "a column without a type", of_field(type=None)),
     ("F8", "no schema", of_list(lambda messages: messages.pop(0))),
     ("F8", "a second schema", of_list(lambda messages: messages.append(messages[0]))),

@@ -12,14 +12,14 @@ from random import Random
 
 import recogniser
 from lexer import GRAMMAR, LEFT_OUT
-from random_calls.plain_model import (SIGNS, And, Between, Comparison, Database, Day, In, Is, IsNull, Literal, Moment, Name, Not,
-                                      Operand, Or, Predicate, Query, class_of)
+from random_calls.plain_model import (MICROSECONDS, SIGNS, And, Between, Comparison, Database, Day, In, Is, IsNull, Literal, Moment,
+                                      Name, Not, Operand, Or, Predicate, Query, class_of)
 from random_calls.puts import COLUMNS, TABLES, value_of
 
 PLAIN_NAME = re.compile("[A-Za-z_][A-Za-z0-9_]*")
 TRUTHS = {"TRUE": True, "FALSE": False, "UNKNOWN": None}
 TYPES = {"number": ["Int8", "Int64", "UInt64", "Decimal128"], "text": ["Utf8"], "truth": ["Bool"],
-         "date": ["Date"], "timestamp": ["Timestamp"]}
+         "date": ["Date"], "timestamp": [MICROSECONDS]}
 COUNTED = {"date": Day, "timestamp": Moment}  # classes of numbers from 1970 on
 EPOCH = datetime.date(1970, 1, 1).toordinal()
 GREATEST = 10**38 - 1  # of a number in a text

@@ -11,12 +11,12 @@ from framing import END
 from layout import written
 from loopback import Server
 from random_calls.answers import same
-from random_calls.plain_model import Column
+from random_calls.plain_model import MICROSECONDS, Column
 
 from served.cases import Run, case
 from served.programs import CLASSES, answered, marked, printed, put, query, rows_in, stream, typed
 
-COLUMNS = (Column("t", "Timestamp", True), Column("n", "Int64", False))
+COLUMNS = (Column("t", MICROSECONDS, True), Column("n", "Int64", False))
 FIRST, LAST = "0001-01-01 00:00:00.000000", "9999-12-31 23:59:59.999999"
 TEXTS = ["2024-05-01 12:00:00.250000", "1969-12-31 23:59:59.999999", LAST, None, FIRST, "1970-01-01 00:00:00.000000"]
 SELECT = "SELECT n FROM t WHERE t "

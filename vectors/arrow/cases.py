@@ -141,6 +141,12 @@ add("schema_Timestamp_zone_empty", schema(field("a", timestamp("Nanosecond", "")
 add("schema_times", schema(field("a", timestamp("Second", "UTC")), field("b", time("Nanosecond"), False), field("c", duration("Second"))),
     says(("a", "Timestamp(Second, true)", True), ("b", "Time(Nanosecond)", False), ("c", "Duration(Second)", True)),
     layout="spread", compared=True)
+add("schema_times_defaults", schema(field("a", timestamp("Second")), field("b", time("Millisecond")), field("c", duration("Millisecond"))),
+    says(("a", "Timestamp(Second, false)", True), ("b", "Time(Millisecond)", True), ("c", "Duration(Millisecond)", True)),
+    layout="defaults")
+add("schema_Timestamp_zone_UTC", schema(field("a", timestamp("Microsecond", "UTC"))), says(("a", "Timestamp(Microsecond, true)", True)))
+add("schema_Timestamp_zone_Paris", schema(field("a", timestamp("Microsecond", "Europe/Paris"))),
+    says(("a", "Timestamp(Microsecond, true)", True)), layout="spread", compared=True, note="a zone has no name")
 add("schema_Timestamp", schema(field("a", TIMESTAMP)), says(("a", "Timestamp(Microsecond, false)", True)))
 add("schema_Timestamp_full", schema(field("a", TIMESTAMP, False)), says(("a", "Timestamp(Microsecond, false)", False)), layout="packed", compared=True)
 add("schema_Timestamp_and_more", schema(field("a", I64), field("d", DATE, False), field("t", TIMESTAMP), field("s", UTF8)),
@@ -221,6 +227,8 @@ for unit, bits in [("Second", 64), ("Millisecond", 64), ("Microsecond", 32), ("N
     add(f"bad_type_Time_{unit}_{bits}", schema(field("a", time(unit, bits))), "F7", layout="spread", compared=True)
 add("bad_type_Timestamp_zone_utf8", schema(field("a", timestamp("Second", "\udcff"))), "F6", layout="packed",
     note="a zone that is not UTF-8")
+add("bad_type_Timestamp_unit_first", schema(field("a", ("Timestamp", {"unit": 4, "timezone": "\udcff"}))), "F7", layout="packed",
+    note="before F6")
 add("bad_type_absent_Timestamp", schema({"name": "a", "type_type": "Timestamp"}), "F6", layout="packed")
 add("bad_dictionary_Timestamp", schema(field("a", TIMESTAMP, dictionary=encoding(1))), "F7", layout="packed", compared=True)
 add("bad_type_absent_kind", schema({"name": "a"}), "F6")

@@ -178,6 +178,15 @@ join(["schema_Timestamp batch_Timestamp" + DONE, "schema_Timestamp" + DONE],
      "-9223372036854775808,;9223372036854775807,;")
 join(["schema_Timestamp batch_Timestamp" + DONE, "schema_Int64 batch_Int64" + DONE], "F11 SchemaMismatch")
 join(["schema_Int64 batch_Int64" + DONE, "schema_Timestamp" + DONE], "F11 SchemaMismatch")
+join(["schema_Time_Millisecond batch_Time_Millisecond" + DONE], "a Time(Millisecond) or null; -2147483648,;null,;86399999,;")
+join(["schema_Duration_Second batch_Duration_Second" + DONE],
+     "a Duration(Second) or null; -9223372036854775808,;null,;1714564800250000,;9223372036854775807,;")
+join(["schema_Timestamp_zone_UTC batch_Timestamp_full" + DONE, "schema_Timestamp_zone_Paris" + DONE],
+     "a Timestamp(Microsecond, true) or null; 0,;-1,;")
+join(["schema_Timestamp_zone_UTC" + DONE, "schema_Timestamp" + DONE], "F11 SchemaMismatch")
+join(["schema_Timestamp_Second" + DONE, "schema_Timestamp_Millisecond" + DONE], "F11 SchemaMismatch")
+join(["schema_Time_Second" + DONE, "schema_Time_Millisecond" + DONE], "F11 SchemaMismatch")
+join(["schema_Duration_Second" + DONE, "schema_Timestamp_Second" + DONE], "F11 SchemaMismatch")
 
 note("a payload that is refused leaves its stream as it was")
 join(["schema_Int64 bad_data_short_Int64 batch_Int64_two" + DONE], "F8 BadBatch, " + INT64 + "1,;2,;")

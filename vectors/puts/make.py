@@ -282,6 +282,11 @@ def own_puts():
     log((0, "create+schema_Int64"), ("F11", "append+schema_Timestamp"), (0, "append+schema_Int64"))
     log((0, "create+schema_Timestamp"), ("F11", "append+schema_Int64"), ("F11", "append+schema_Date"),
         ("F11", "append+schema_Timestamp_Nanosecond"), ("F7", "replace+bad_type_Timestamp_unit"), (0, "append+schema_Timestamp"))
+    log((0, "create+schema_Timestamp"), ("F11", "append+schema_Timestamp_zone_UTC"), (0, "append+schema_Timestamp_zone_0"))
+    log((0, "create+schema_Timestamp_zone_UTC"), ("F11", "append+schema_Timestamp"), (0, "append+schema_Timestamp_zone_Paris"))
+    log((0, "create+schema_Time_Second"), ("F11", "append+schema_Time_Millisecond"), ("F11", "append+schema_Int32"), (0, "append+schema_Time_Second"))
+    log((0, "create+schema_Duration_Second"), ("F11", "append+schema_Duration_Millisecond"), ("F11", "append+schema_Timestamp_Second"),
+        ("F11", "append+schema_Int64"), (0, "append+schema_Duration_Second"))
     log(("F11", "create+schema_equal_names"), ("F11", "create+schema_a_a_full a_3_b_null"))
     body = long_bodies()
     log(two, ("F10", f"create+schema_Utf8_full null_and_text+{body['null_and_text']}"),

@@ -55,10 +55,28 @@ def within():
         yield f"{name} NOT IN ({low}, {high})", kept(one is not None and one not in ends for one in found)
 
 
+def on_the_left():
+    """A literal on the left of BETWEEN and IN. Next to a null a test is unknown, unless the other part of it decides."""
+    for (name, form, values), (text, other) in itertools.product(FARES, zip(LITERALS, LITERALS[2:])):
+        literal, found = decimal.Decimal(text), numbers(form, values)
+        same = literal == decimal.Decimal(other)
+        yield f"{text} BETWEEN {name} AND {name}", kept(one is not None and one == literal for one in found)
+        yield f"{text} NOT BETWEEN {name} AND {name}", kept(one is not None and one != literal for one in found)
+        yield f"{text} IN ({name})", kept(one is not None and one == literal for one in found)
+        yield f"{text} NOT IN ({name})", kept(one is not None and one != literal for one in found)
+        yield f"{text} IN ({name}, {other})", kept(same or one is not None and one == literal for one in found)
+        yield f"{text} NOT IN ({other}, {name})", kept(not same and one is not None and one != literal for one in found)
+    for text in LITERALS:
+        literal, pairs = decimal.Decimal(text), list(zip(numbers(*FARES[0][1:]), numbers(*FARES[2][1:])))
+        yield f"{text} BETWEEN x AND m", kept(None not in pair and pair[0] <= literal <= pair[1] for pair in pairs)
+        yield f"{text} NOT BETWEEN x AND m", kept(pair[0] is not None and literal < pair[0] or pair[1] is not None and literal > pair[1] for pair in pairs)
+
+
 def asked():
     """Predicates over `fares`, and the numbers of the rows that they keep."""
     yield from compared()
     yield from within()
+    yield from on_the_left()
     for sign, test in TESTS.items():
         pairs = zip(FARES[0][2], FARES[1][2])
         yield f"x {sign} y", kept(None not in pair and test(*pair) for pair in pairs)
@@ -66,5 +84,6 @@ def asked():
     yield "1.0 = 1", [1, 2, 3, 4, 5, 6]
 
 
-CLASHES = ["x = m", "x < w", "x = n", "z = o", "x = '12.50'", "'a' = 1.5", "1.5 < 2", "1.5 = 1.5", "2 > 1.5", "1.5 BETWEEN x AND y", "1.5 IN (x)", "x IN (1, m)",
-           "x BETWEEN 1 AND m", "TRUE = 1.5", "k = 1.5 AND x = m", "x = DATE '1994-01-01'", "NOT (m >= x)"]
+CLASHES = ["x = m", "x < w", "x = n", "z = o", "x = '12.50'", "'a' = 1.5", "1.5 < 2", "1.5 = 1.5", "2 > 1.5", "1.5 BETWEEN x AND 2", "1 BETWEEN x AND 2.5",
+           "1.5 IN (x, m)", "1 IN (x, m)", "1.5 IN (1, 2)", "2 IN (1, 2.5)", "1.5 IN (x, 'a')", "1.5 BETWEEN x AND 'a'", "x IN (1, m)", "x BETWEEN 1 AND m",
+           "TRUE = 1.5", "k = 1.5 AND x = m", "x = DATE '1994-01-01'", "NOT (m >= x)"]

@@ -386,6 +386,11 @@ DATES = [
     ("d NOT BETWEEN DATE '1992-01-01' AND DATE '1994-01-01'", [2, 5, 6]),
     ("d BETWEEN d AND DATE '1994-01-01'", [1, 2, 4]),
     ("DATE '1994-01-01' BETWEEN DATE '1992-01-01' AND d", [1, 5, 6]),
+    ("DATE '1994-01-01' NOT BETWEEN DATE '1992-01-01' AND d", [2, 4]),
+    ("DATE '1994-01-01' BETWEEN d AND d", [1]),
+    ("DATE '1994-01-01' IN (d)", [1]),
+    ("DATE '1994-01-01' NOT IN (d, DATE '1994-01-02')", [2, 4, 5, 6]),
+    ("DATE '1994-01-01' IN (d, DATE '1994-01-01')", [1, 2, 3, 4, 5, 6]),
     ("d IN (DATE '1994-01-01', DATE '9999-12-31')", [1, 6]),
     ("d NOT IN (DATE '1994-01-01')", [2, 4, 5, 6]),
     ("d IN (DATE '1994-01-02', d)", [1, 2, 4, 5, 6]),
@@ -438,9 +443,33 @@ TIMESTAMPS = [
     (f"t BETWEEN TIMESTAMP '1969-12-31 23:59:59.9' AND {NOON}", [4, 5]),
     (f"t NOT BETWEEN TIMESTAMP '1969-12-31 23:59:59.9' AND {NOON}", [1, 2, 6]),
     (f"t BETWEEN t AND {NOON}", [2, 4, 5]),
+    (f"{NOON} BETWEEN TIMESTAMP '2024-05-01 00:00:00' AND t", [1, 5, 6]),
+    (f"{NOON} NOT BETWEEN TIMESTAMP '2024-05-01 00:00:00' AND t", [2, 4]),
+    (f"{NOON} BETWEEN t AND {LATER}", [2, 4, 5]),
+    (f"{NOON} BETWEEN t AND t", [5]),
+    (f"{NOON} BETWEEN {LATER} AND t", []),
+    (f"{NOON} NOT BETWEEN {LATER} AND t", [1, 2, 3, 4, 5, 6]),
+    (f"{NOON} BETWEEN {NOON} AND {LATER}", [1, 2, 3, 4, 5, 6]),
+    ("TIMESTAMP '2024-05-01 12:00:00.2500001' BETWEEN t AND TIMESTAMP '9999-12-31 23:59:59'", [1, 2, 4, 5]),
+    ("TIMESTAMP '2024-05-01 12:00:00.2499999' BETWEEN t AND TIMESTAMP '9999-12-31 23:59:59'", [2, 4, 5]),
+    ("TIMESTAMP '2024-05-01 12:00:00.2500001' BETWEEN TIMESTAMP '2024-05-01 12:00:00.25' AND t", [6]),
+    (f"{NOON} IN (t)", [5]),
+    (f"{NOON} NOT IN (t)", [1, 2, 4, 6]),
+    (f"{NOON} IN ({LATER}, t)", [5]),
+    (f"{NOON} IN (t, {NOON})", [1, 2, 3, 4, 5, 6]),
+    (f"{NOON} NOT IN (t, {LATER})", [1, 2, 4, 6]),
+    (f"{NOON} IN ({LATER}, {NOON})", [1, 2, 3, 4, 5, 6]),
+    (f"{NOON} IN ({LATER})", []),
+    (f"TIMESTAMP '2024-05-01 12:00:00.0000001' IN (t, {NOON})", []),
+    (f"TIMESTAMP '2024-05-01 12:00:00.0000001' NOT IN (t, {NOON})", [1, 2, 4, 5, 6]),
+    ("TIMESTAMP '2024-05-01 12:00:00.0000001' IN (t, TIMESTAMP '2024-05-01 12:00:00.0000001')", [1, 2, 3, 4, 5, 6]),
+    ("TIMESTAMP '2024-05-01 12:00:00.0000001' IN (t, TIMESTAMP '2024-05-01 12:00:00.0000002')", []),
+    (f"{NOON} NOT BETWEEN t AND {LATER}", [1, 6]),
+    ("TIMESTAMP '2024-05-01 12:00:00.2500001' BETWEEN t AND TIMESTAMP '2024-05-02 00:00:00'", [1, 2, 4, 5]),
     (f"t IN ({NOON}, TIMESTAMP '9999-12-31 23:59:59.999999')", [5, 6]),
     (f"t NOT IN ({NOON})", [1, 2, 4, 6]),
     ("t IN (TIMESTAMP '2024-05-02 12:00:00', t)", [1, 2, 4, 5, 6]),
+    (f"{NOON} IN (t, {LATER}, {NOON})", [1, 2, 3, 4, 5, 6]),
     ("t IS NULL", [3]),
     (f"{NOON} IS NULL", []),
     ("t = t", [1, 2, 4, 5, 6]),
@@ -457,6 +486,7 @@ TIMESTAMPS = [
 
 # Over `ticks`, of which the row k has these: s in seconds and m in milliseconds with a zone are the moments of TICKS, n is a
 # nanosecond after, c is the time of that day in milliseconds, and e a duration in seconds.
+HALF = "TIMESTAMP '2024-05-01 12:00:00.5'"
 TICKS_ASKED = [
     ("s = TIMESTAMP '2024-05-01 12:00:00.5'", []),
     ("s <> TIMESTAMP '2024-05-01 12:00:00.5'", [1, 2, 3]),
@@ -474,9 +504,50 @@ TICKS_ASKED = [
     ("c < TIME '12:00:00.0001'", [2, 3]),
     ("c >= TIME '23:59:57.9999'", [1]),
     ("e = e", [1, 2, 3]),
+    ("n < TIMESTAMP '9999-12-31 23:59:59.999999999'", [1, 2, 3]),
+    ("n > TIMESTAMP '0001-01-01 00:00:00'", [1, 2, 3]),
+    ("n = TIMESTAMP '9999-12-31 23:59:59.999999999'", []),
+    # a literal on the left, also between columns of two units
+    (f"{HALF} BETWEEN s AND s", []),
+    (f"{HALF} BETWEEN s AND TIMESTAMP '2024-05-01 12:00:00.6'", [1, 2]),
+    (f"{HALF} BETWEEN {NOON} AND s", [3]),
+    (f"{HALF} NOT BETWEEN s AND m", [1, 2, 3]),
+    ("TIMESTAMP '2024-05-01 12:00:00.0000000005' BETWEEN s AND n", [2]),
+    (f"{HALF} IN (s)", []),
+    (f"{HALF} NOT IN (TIMESTAMP '2024-05-01 12:00:00.7', s)", [1, 2, 3]),
+    (f"{HALF} IN (TIMESTAMP '2024-05-01 12:00:00.7', s, TIMESTAMP '2024-05-01 12:00:00.50Z')", [1, 2, 3]),
+    (f"{NOON} IN ({HALF}, m)", [2]),
+    ("TIME '12:00:00' BETWEEN c AND TIME '23:00:00'", [2, 3]),
+    ("TIME '12:00:00.0001' BETWEEN c AND c", []),
+    ("TIME '12:00:00' IN (TIME '12:00:00.0001', c)", [2]),
+    ("TIMESTAMP '2024-05-01 12:00:00.5' NOT BETWEEN s AND s", [1, 2, 3]),
+    ("TIMESTAMP '2024-05-01 12:00:00.5' BETWEEN s AND TIMESTAMP '2024-05-02 00:00:00'", [1, 2]),
+    ("TIMESTAMP '1969-12-31 23:59:58.5' BETWEEN TIMESTAMP '1969-12-31 23:59:57' AND s", [2, 3]),
+    ("TIMESTAMP '1969-12-31 23:59:57.5' BETWEEN TIMESTAMP '1969-12-31 23:59:57' AND s", [1, 2, 3]),
+    ("TIMESTAMP '2024-05-01 12:00:00.5' BETWEEN s AND n", []),
+    ("TIMESTAMP '2024-05-01 12:00:00.0000000005' NOT BETWEEN s AND n", [1, 3]),
+    ("TIMESTAMP '2024-05-01 12:00:00Z' BETWEEN m AND TIMESTAMP '2024-05-01 12:00:00'", [1, 2]),
+    ("TIMESTAMP '2024-05-01 12:00:00.0000000015' BETWEEN n AND TIMESTAMP '9999-12-31 23:59:59'", [1, 2]),
+    ("TIMESTAMP '2024-05-01 12:00:00Z' IN (s, s)", [2]),
+    ("TIMESTAMP '2024-05-01 12:00:00.5' NOT IN (s, TIMESTAMP '2024-05-01 12:00:00.25')", [1, 2, 3]),
+    ("TIMESTAMP '2024-05-01 12:00:00.000000001' IN (n)", [2]),
+    ("TIME '12:00:00' BETWEEN c AND TIME '23:59:59.999'", [2, 3]),
+    ("TIME '12:00:00.0005' BETWEEN c AND c", []),
+    ("TIME '00:00:00.9999' BETWEEN TIME '00:00:00' AND c", [1, 2, 3]),
+    ("TIME '00:00:01.0001' BETWEEN TIME '00:00:00' AND c", [1, 2]),
+    ("TIME '00:00:01.0001' NOT BETWEEN TIME '00:00:00' AND c", [3]),
+    ("TIME '12:00:00' IN (c, TIME '23:59:59')", [2]),
+    ("TIME '12:00:00.0005' NOT IN (c)", [1, 2, 3]),
+    ("TIME '12:00:00' BETWEEN TIME '11:59:59.9' AND TIME '12:00:00'", [1, 2, 3]),
 ]
 CLASHES_OF_TICKS = ["s = m", "s = n", "s = c", "c = e", "e = 1", "s = TIME '12:00:00'", "c = TIMESTAMP '2024-05-01 12:00:00'", "c = '12:00:00'",
                     "TIME '12:00:00' = TIMESTAMP '2024-05-01 12:00:00'", "s = 1714564800", "s IN (TIMESTAMP '2024-05-01 12:00:00', m)"]
+CLASHES_OF_TICKS += [
+    "TIMESTAMP '2024-05-01 12:00:00' BETWEEN s AND c", "TIMESTAMP '2024-05-01 12:00:00' BETWEEN e AND s", "TIME '12:00:00' BETWEEN s AND s",
+    "TIMESTAMP '2024-05-01 12:00:00' BETWEEN s AND TIME '12:00:00'", "TIMESTAMP '2024-05-01 12:00:00' BETWEEN 1 AND s",
+    "TIMESTAMP '2024-05-01 12:00:00' IN (c)", "TIMESTAMP '2024-05-01 12:00:00' IN (s, n)", "TIMESTAMP '2024-05-01 12:00:00' IN (s, k)",
+    "TIMESTAMP '2024-05-01 12:00:00' IN (TIME '12:00:00')", "TIME '12:00:00' IN (c, s)", "TIME '12:00:00' IN (e)", "'12:00:00' IN (c)", "1 IN (e)",
+    f"{NOON} IN (s, m)", "TIME '12:00:00' IN (s)", f"TIME '12:00:00' IN (c, {NOON})"]
 
 # A timestamp is of a class of its own, too.
 CLASHES_OF_TIMESTAMPS = [
@@ -494,8 +565,18 @@ CLASHES_OF_TIMESTAMPS = [
     f"{NOON} < '2024-05-01 12:00:00'",
     f"{NOON} = TRUE",
     "t = k",
-    f"{NOON} BETWEEN TIMESTAMP '2024-05-01 00:00:00' AND t",
-    f"{NOON} IN (t)",
+    f"{NOON} BETWEEN TIMESTAMP '2024-05-01 00:00:00' AND d",
+    f"{NOON} BETWEEN d AND t",
+    f"{NOON} BETWEEN t AND k",
+    f"{NOON} BETWEEN t AND '2024-05-01 12:00:00'",
+    f"{NOON} IN (d)",
+    f"{NOON} IN (t, d)",
+    f"{NOON} IN (t, 0)",
+    "'2024-05-01 12:00:00' IN (t)",
+    "DATE '2024-05-01' BETWEEN d AND t",
+    "DATE '2024-05-01' IN (t)",
+    f"{NOON} BETWEEN t AND 0",
+    f"{NOON} IN (5, t)",
     f"t BETWEEN {NOON} AND DATE '2024-05-02'",
     f"t BETWEEN '2024-05-01 12:00:00' AND {LATER}",
     f"t BETWEEN {NOON} AND 0",
@@ -619,6 +700,14 @@ JOINED_OR_GROUPED = [
      [(MOMENTS[0], 1, 1, 1), (MOMENTS[1], 1, 1, 2), (None, 1, 0, 3)]),
     ("SELECT COUNT(t), t, d FROM moments GROUP BY d, t, d",
      [(0 if moment is None else 1, moment, day) for moment, day in zip(MOMENTS, [19844, 0, 1, 2, 3, 4])]),
+    # other units, times and durations
+    ("SELECT s, m, n, c, e FROM ticks",
+     [(-2, -2000, -1999999999, 86398000, -2), (1714564800, 1714564800000, 1714564800000000001, 43200000, 1714564800),
+      (1714608001, 1714608001000, 1714608001000000001, 1000, 1714608001)]),
+    ("SELECT x.k, y.k FROM ticks x JOIN ticks y ON x.s = y.s AND x.c = y.c AND x.e = y.e", [(1, 1), (2, 2), (3, 3)]),
+    ("SELECT x.k, y.k FROM ticks x JOIN ticks y ON x.n = y.n WHERE x.m > TIMESTAMP '1970-01-01 00:00:00' AND y.c < TIME '12:00:00'",
+     [(3, 3)]),
+    ("SELECT c, COUNT(e), SUM(k) FROM ticks GROUP BY c, m", [(86398000, 1, 1), (43200000, 1, 2), (1000, 1, 3)]),
 ]
 
 # The table comes first, then ON, WHERE, GROUP BY and the list.
@@ -638,7 +727,17 @@ OF_JOINS_AND_GROUPS = [
     (CLASH, "SELECT x.k FROM moments x JOIN moments y ON x.t = y.k"),
     (CLASH, "SELECT x.k FROM moments x JOIN moments y ON x.t = y.d"),
     (CLASH, "SELECT x.k FROM days x JOIN clocks y ON x.d = y.t"),
+    (CLASH, "SELECT x.k FROM ticks x JOIN ticks y ON x.s = y.m"),
+    (CLASH, "SELECT x.k FROM ticks x JOIN clocks y ON x.n = y.t"),
+    (CLASH, "SELECT x.k FROM ticks x JOIN ticks y ON x.s = y.e"),
+    (CLASH, "SELECT SUM(c) FROM ticks"),
+    (CLASH, "SELECT SUM(e) FROM ticks"),
     (NAME, "SELECT k FROM moments WHERE TIMESTAMP = TIMESTAMP '2024-05-01 12:00:00'"),
+    (NAME, "SELECT k FROM moments WHERE TIMESTAMP '2024-05-01 12:00:00' IN (z, t)"),
+    (NAME, "SELECT k FROM moments WHERE TIMESTAMP '2024-05-01 12:00:00' BETWEEN z AND 5"),
+    (NAME, "SELECT k FROM ticks WHERE TIME '12:00:00' IN (c, z, 5)"),
+    (CLASH, "SELECT k FROM ticks WHERE TIME '12:00:00' IN (c, 5, z)"),
+    (CLASH, "SELECT k FROM ticks WHERE TIME '12:00:00' BETWEEN 5 AND z"),
     (LEFT_OUT, "SELECT p.a FROM p JOIN q ON p.a = p.a"),
     (LEFT_OUT, "SELECT s, COUNT(*) FROM words GROUP BY a"),
     (LEFT_OUT, "SELECT COUNT(*) FROM p JOIN q ON p.a = q.a"),
@@ -734,6 +833,8 @@ OPENED_BY_DATES = [
     ("WHERE DATE '1994-01-01' > d", "2 of 0.0"),
     ("WHERE d BETWEEN DATE '1993-10-27' AND DATE '1994-01-01'", "2 of 0.0 0.1"),
     ("WHERE d BETWEEN DATE '1993-10-28' AND DATE '1993-12-31'", "0 of"),
+    ("WHERE DATE '1994-01-01' BETWEEN DATE '1992-01-01' AND d", "2 of 0.1"),
+    ("WHERE DATE '1994-01-01' IN (d, DATE '1995-01-01')", "1 of 0.1"),
 ]
 
 # The same by a column of timestamps: its batches end at half past nine of a day, and begin a quarter of a second after its noon.
@@ -744,6 +845,19 @@ OPENED_BY_TIMESTAMPS = [
     ("WHERE TIMESTAMP '2024-05-01 12:00:00.25' >= t", "3 of 0.0 0.1"),
     ("WHERE t BETWEEN TIMESTAMP '2024-05-01 09:30:00' AND TIMESTAMP '2024-05-01 12:00:00.25'", "2 of 0.0 0.1"),
     ("WHERE t BETWEEN TIMESTAMP '2024-05-01 09:30:00.000001' AND TIMESTAMP '2024-05-01 12:00:00.249999'", "0 of"),
+    ("WHERE TIMESTAMP '2024-05-01 10:00:00' BETWEEN t AND TIMESTAMP '2024-05-01 12:00:00'", "2 of 0.0"),
+    ("WHERE TIMESTAMP '2024-05-01 12:00:00' BETWEEN TIMESTAMP '2024-05-01 00:00:00' AND t", "2 of 0.1"),
+    ("WHERE TIMESTAMP '2024-05-01 12:00:00' BETWEEN t AND t", "0 of"),
+    ("WHERE TIMESTAMP '2024-05-01 12:00:00.25' IN (t, TIMESTAMP '2025-01-01 00:00:00')", "1 of 0.1"),
+    ("WHERE TIMESTAMP '2024-05-01 12:00:00.2500001' IN (t)", "0 of"),
+]
+
+# The same of two places, by a literal between a column of each.
+OF_TWO_CLOCKS = "SELECT x.i FROM clocks x JOIN clocks y ON x.i = y.i"
+OPENED_BY_A_LITERAL = [
+    ("WHERE TIMESTAMP '2024-05-01 12:00:00' BETWEEN x.t AND y.t", "0 of 1.1 0.0"),
+    ("WHERE TIMESTAMP '2024-05-01 09:00:00' BETWEEN x.t AND y.t AND x.i < 5", "0 of 1.0 1.1 0.0"),
+    ("WHERE TIMESTAMP '2024-05-01 09:00:00' NOT BETWEEN x.t AND y.t", "4 of 1.0 1.1 0.0 0.1"),
 ]
 
 # The columns of a result: names as they are written, the types of answers, and whether they may be null.
@@ -760,6 +874,11 @@ COLUMNS = [
     ("SELECT t, COUNT(t) FROM moments GROUP BY t", "t Timestamp(Microsecond, false) true;col2 Integer(Int64) false;"),
     ("SELECT t AS timestamp, i timestamp FROM clocks Timestamp", "timestamp Timestamp(Microsecond, false) false;timestamp Integer(Int64) false;"),
     ("SELECT x, COUNT(x) FROM fares GROUP BY x", "x Decimal(12, 2) true;col2 Integer(Int64) false;"),
+    (
+        "SELECT * FROM ticks",
+        "s Timestamp(Second, false) false;m Timestamp(Millisecond, true) false;n Timestamp(Nanosecond, false) false;"
+        "c Time(Millisecond) false;e Duration(Second) false;k Integer(Int64) false;",
+    ),
     (
         "SELECT c, k, c AS d FROM types",
         "c Dictionary(DictionaryEncoding { id: 0, index: Int32 }) true;k Integer(Int8) false;"
@@ -841,7 +960,8 @@ def cases():
         yield rows(f"SELECT a FROM t WHERE {predicate}", wanted)
     for first, last, query, wanted, given, opened in RANGES:
         yield f"range {first} {last} {query}", "".join(map(shown, wanted)) + f" {given} of {opened}"
-    for query, found in [(JOINED_STEPS, OPENED), (OF_HISTORY, OPENED_BY_DATES), (OF_CLOCKS, OPENED_BY_TIMESTAMPS)]:
+    for query, found in [(JOINED_STEPS, OPENED), (OF_HISTORY, OPENED_BY_DATES), (OF_CLOCKS, OPENED_BY_TIMESTAMPS),
+                         (OF_TWO_CLOCKS, OPENED_BY_A_LITERAL)]:
         yield from ((f"opened 0 4 {query} {where}", wanted) for where, wanted in found)
     for names, predicates in [(SIGNED, OF_SIGNED), (UNSIGNED, OF_UNSIGNED)]:
         for one in names:

@@ -14,7 +14,7 @@ It needs numpy. pandas, pyarrow and grpcio are used where they are asked for. `f
 """
 
 from .client import Connection, Stream, connect
-from .columns import Categories, Column, Days, Decimals, Integers, Texts, Timestamps, Truths
+from .columns import Categories, Clocks, Column, Days, Decimals, Integers, Spans, Texts, Timestamps, Truths
 from .dbapi import (BINARY, DATETIME, NUMBER_GROUP, ROWID, STRING, Binary, Cursor, Date, DateFromTicks, Time, TimeFromTicks,
                     Timestamp, TimestampFromTicks, apilevel, paramstyle, threadsafety)
 from .errors import (DatabaseError, DataError, Error, IntegrityError, InterfaceError, InternalError, NotSupportedError,
@@ -27,9 +27,9 @@ from .tables import JoinedColumn, Table
 NUMBER = NUMBER_GROUP
 
 __all__ = [
-    "BINARY", "DATETIME", "NUMBER", "ROWID", "STRING", "Batch", "Binary", "Categories", "Column", "Connection", "Cursor",
+    "BINARY", "DATETIME", "NUMBER", "ROWID", "STRING", "Batch", "Binary", "Categories", "Clocks", "Column", "Connection", "Cursor",
     "DataError", "DataType", "DatabaseError", "Date", "DateFromTicks", "Days", "Decimals", "Endpoint", "Error", "Field", "Info",
     "Integers", "IntegrityError", "InterfaceError", "InternalError", "JoinedColumn", "MessageReader", "NotSupportedError",
-    "OperationalError", "ProgrammingError", "Schema", "Stream", "Table", "Texts", "Time", "TimeFromTicks", "Timestamp",
+    "OperationalError", "ProgrammingError", "Schema", "Spans", "Stream", "Table", "Texts", "Time", "TimeFromTicks", "Timestamp",
     "TimestampFromTicks", "Timestamps", "Truths", "Warning", "apilevel", "connect", "paramstyle", "threadsafety",
 ]

@@ -10,7 +10,8 @@ import pyarrow
 from .columns import Categories, Column
 from .errors import InterfaceError
 from .rows import ROWS_OF_A_BATCH, Values
-from .schema import CLOCKS, DAY, DECIMALS, INTEGERS, MOMENT, MOMENTS, TEXT, TRUTH, ZONED, DataType, Field, Schema, dictionary_of
+from .schema import (CLOCKS, DAY, DECIMALS, INTEGERS, MOMENTS, TEXT, TIMES, TRUTH, ZONED, DataType, Field, Schema,
+                      dictionary_of)
 from .stream import Batch
 from .tables import Table
 from .values import of_array, refused, values_of, with_codes
@@ -82,7 +83,9 @@ def field_for(found: pyarrow.Field) -> Field:
     if pyarrow.types.is_dictionary(of) and of.value_type == pyarrow.string():
         return Field(found.name, dictionary_of("<i4"), found.nullable)
     named = {str(pyarrow.from_numpy_dtype(one.dtype)): one for one in INTEGERS.values()}
-    named |= {str(type_for(one)): one for one in (TEXT, TRUTH, DAY, MOMENT, *DECIMALS.values())}
+    named |= {str(type_for(one)): one for one in (TEXT, TRUTH, DAY, *DECIMALS.values(), *TIMES)}
+    if pyarrow.types.is_timestamp(of) and of.tz is not None:
+        return Field(found.name, ZONED[of.unit], found.nullable)
     if str(of) not in named:
         raise refused(found.name, of)
     return Field(found.name, named[str(of)], found.nullable)
@@ -102,8 +105,11 @@ def values_of_arrow(array: pyarrow.Array, own: Field, field: Field) -> Values:
     if own.type in (TEXT, DAY) or own.type.form is not None:
         return values_of(own.name, array.to_pylist(), field)
     nulls = array.is_null().to_numpy(zero_copy_only=False) if array.null_count else None
-    if own.type == MOMENT:  # a null is NaT there
-        return of_array(own.name, array.to_numpy(zero_copy_only=False), nulls, field)
+    if own.type.unit is not None:
+        width = pyarrow.int32() if own.type.dtype == "<i4" else pyarrow.int64()
+        data = array.cast(width).fill_null(0).to_numpy(zero_copy_only=False).astype("<i8")
+        kind = "M" if own.type in (*MOMENTS.values(), *ZONED.values()) else "m"
+        return of_array(own.name, data.view(f"<{kind}8[{own.type.unit}]"), nulls, field)
     if own.type.is_dictionary:
         codes = array.indices.fill_null(0).to_numpy(zero_copy_only=False)
         return with_codes(field, codes, nulls, tuple(array.dictionary.to_pylist()))

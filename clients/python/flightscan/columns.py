@@ -10,7 +10,7 @@ from typing import Any
 import numpy as np
 
 from .errors import DataError, fault
-from .schema import CLOCKS, DAY, DECIMALS, MOMENTS, SPANS, TEXT, TRUTH, ZONED, Field
+from .schema import CLOCKS, DAY, DECIMALS, MOMENTS, PER_SECOND, SPANS, TEXT, TRUTH, ZONED, Field
 
 Array = np.ndarray[Any, np.dtype[Any]]
 EPOCH = datetime.date(1970, 1, 1).toordinal()
@@ -93,21 +93,24 @@ class Days(Slots):
 
 
 class Timestamps(Slots):
-    """A column of timestamps: `values` is a view of the body, of dtype datetime64 in the unit of its type. `mask` alone says what is
-    null: to numpy the least number of 64 bits is NaT."""
+    """A column of timestamps: `values` is a view of the body, of dtype datetime64 in the unit of its type; with a zone they are
+    those of UTC. `mask` alone says what is null: to numpy the least number of 64 bits is NaT."""
 
     @property
     def values(self) -> Array:
         return self.slots.view(f"<M8[{self.field.type.unit}]")
 
     def objects(self) -> list[Any]:
-        """Times without a zone; outside the years 1 to 9999, and of nanoseconds, the number of units since 1970-01-01."""
-        return with_nulls([LEAST if one is None else one for one in self.values.tolist()], self.mask)
+        """Times, in UTC where the type has a zone; outside the years 1 to 9999, and of nanoseconds, the number of units since
+        1970-01-01."""
+        found = [LEAST if one is None else one for one in self.values.tolist()]
+        if self.field.type in ZONED.values():
+            found = [one if isinstance(one, int) else one.replace(tzinfo=datetime.timezone.utc) for one in found]
+        return with_nulls(found, self.mask)
 
 
 class Spans(Slots):
-    """A column of times of a day or of durations: `values` are of dtype timedelta64 in the unit of its type, and `mask` alone says
-    what is null."""
+    """A column of durations: `values` are of dtype timedelta64 in the unit of its type, and `mask` alone says what is null."""
 
     @cached_property
     def values(self) -> Array:
@@ -116,6 +119,23 @@ class Spans(Slots):
     def objects(self) -> list[Any]:
         """Spans of time; of nanoseconds, and beyond what `timedelta` holds, their number."""
         return with_nulls([LEAST if one is None else one for one in self.values.tolist()], self.mask)
+
+
+class Clocks(Spans):
+    """A column of times of a day: `values` are of dtype timedelta64 since the day began."""
+
+    def objects(self) -> list[Any]:
+        """Times; of nanoseconds, and where it is none of a day, the number of units."""
+        per_second = PER_SECOND[self.field.type.unit]
+        return with_nulls([clock_of(number, per_second) for number in self.slots.tolist()], self.mask)
+
+
+def clock_of(number: int, per_second: int) -> Any:
+    """The time of a day of a number of its unit, if it is one."""
+    if per_second > 1_000_000 or not 0 <= number < 86_400 * per_second:
+        return number
+    seconds, rest = divmod(number, per_second)
+    return datetime.time(seconds // 3_600, seconds // 60 % 60, seconds % 60, rest * (1_000_000 // per_second))
 
 
 def with_nulls(found: list[Any], mask: Array | None) -> list[Any]:
@@ -269,4 +289,4 @@ KINDS: dict[str, type[Column]] = {
     TEXT.name: Texts, TRUTH.name: Truths, DAY.name: Days,
     **{one.name: Decimals for one in DECIMALS.values()},
     **{one.name: Timestamps for one in (*MOMENTS.values(), *ZONED.values())},
-    **{one.name: Spans for one in (*CLOCKS.values(), *SPANS.values())}}
+    **{one.name: Clocks for one in CLOCKS.values()}, **{one.name: Spans for one in SPANS.values()}}

@@ -31,7 +31,8 @@ from .messages import Info
 from .schema import NUMBER, Schema
 from .sources import schema_of, wide
 from .tables import JoinedColumn, Table, joined_tables
-from .values import micros_since_1970, refused, whole_number
+from .times import kind_of, nanoseconds_of
+from .values import refused, whole_number
 
 Address = str | int
 By = str | tuple[str, Sequence[Any]]
@@ -195,7 +196,7 @@ def group_numbers(keys: Sequence[JoinedColumn], length: int) -> Array:
 
 def codes_of(column: JoinedColumn) -> Array:
     """A number from 1 on for each distinct value, and 0 for a null."""
-    values = column.values.view(np.int64) if column.values.dtype.kind == "M" else column.values
+    values = column.values.view(np.int64) if column.values.dtype.kind in "Mm" else column.values
     found: Array = pandas.factorize(values)[0].astype(np.int64) + 1
     if column.mask is not None:
         found[column.mask] = 0
@@ -387,12 +388,19 @@ def places_of(series: pandas.Series[Any], bounds: Sequence[Any]) -> Array:
     try:
         if series.dtype.kind == "M" or pandas.api.types.infer_dtype(values, skipna=False) == "date":
             moments = np.array([moment(bound) for bound in bounds], "datetime64[us]")
-            found[~nulls] = moments.searchsorted(values.to_numpy().astype("datetime64[us]"), side="right")
+            found[~nulls] = moments.searchsorted(without_zone(values).to_numpy().astype("datetime64[us]"), side="right")
         else:
             found[~nulls] = pandas.Index(bounds).searchsorted(values, side="right")
     except (TypeError, ValueError):
         raise InterfaceError(f"column {series.name} can't be compared with the bounds {list(bounds)}") from None
     return found
+
+
+def without_zone(series: pandas.Series[Any]) -> pandas.Series[Any]:
+    """The same times in UTC, where they have a zone."""
+    if isinstance(series.dtype, pandas.DatetimeTZDtype):
+        return series.dt.tz_convert("UTC").dt.tz_localize(None)
+    return series
 
 
 def moment(bound: Any) -> np.datetime64:
@@ -418,8 +426,8 @@ def hashes(series: pandas.Series[Any]) -> Array:
     kind = getattr(getattr(series.dtype, "numpy_dtype", series.dtype), "kind", "O")
     if kind in "iub":
         values = series.to_numpy(dtype=np.uint64 if kind == "u" else np.int64, **({"na_value": 0} if nulls.any() else {}))
-    elif kind == "M":
-        values = series.to_numpy().astype("datetime64[ns]").view(np.int64)
+    elif kind in "Mm":
+        values = without_zone(series).to_numpy().astype(f"<{kind}8[ns]").view(np.int64)
     elif kind == "f":  # as pandas holds integers with nulls; a put refuses what is not whole
         with np.errstate(invalid="ignore"):
             values = np.where(nulls, 0, series.to_numpy(dtype=np.float64, na_value=np.nan)).astype(np.int64)
@@ -450,8 +458,8 @@ def number_of(name: str, value: object) -> int | None:
     """The number of a number, and that of a date or a time as pandas holds it."""
     if isinstance(value, (int, np.integer, np.bool_, Decimal)):
         return whole_number(name, value)
-    if isinstance(value, datetime.datetime):
-        return micros_since_1970(name, value) * 1_000
+    if kind_of(value) is not None:
+        return nanoseconds_of(name, value)
     if isinstance(value, datetime.date):
         return (value.toordinal() - EPOCH) * NANOSECONDS_OF_A_DAY
     return None

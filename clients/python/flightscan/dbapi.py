@@ -9,8 +9,7 @@ from typing import TYPE_CHECKING, Any
 from .errors import InterfaceError, NotSupportedError, ProgrammingError
 from .literals import bound
 from .messages import Info
-from .schema import CLOCKS, DAY, DECIMALS, INTEGERS, MOMENTS, SPANS, TEXT, TRUTH, ZONED, Field
-from .schema import look_at_columns
+from .schema import DAY, DECIMALS, INTEGERS, TEXT, TIMES, TRUTH, Field, look_at_columns
 from .tables import Table
 
 if TYPE_CHECKING:
@@ -35,7 +34,7 @@ class TypeGroup(frozenset[str]):
 
 STRING = TypeGroup({TEXT.name, "dictionary"})
 NUMBER_GROUP = TypeGroup({*INTEGERS, *(one.name for one in DECIMALS.values()), TRUTH.name})
-DATETIME = TypeGroup({DAY.name, *(one.name for kind in (MOMENTS, ZONED, CLOCKS, SPANS) for one in kind.values())})
+DATETIME = TypeGroup({DAY.name, *(one.name for one in TIMES)})
 BINARY, ROWID = TypeGroup(), TypeGroup()
 Date, Time, Timestamp, Binary = datetime.date, datetime.time, datetime.datetime, bytes
 DateFromTicks, TimestampFromTicks = datetime.date.fromtimestamp, datetime.datetime.fromtimestamp

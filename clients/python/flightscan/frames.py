@@ -10,9 +10,9 @@ import pandas
 from .columns import Array
 from .errors import DataError, InterfaceError
 from .rows import Values
-from .schema import DAY, INTEGERS, TEXT, TRUTH, DataType, Field, Schema, dictionary_of
+from .schema import DAY, INTEGERS, TEXT, TRUTH, ZONED, DataType, Field, Schema, dictionary_of
 from .tables import JoinedColumn, Table
-from .values import look_at_name, of_array, refused, values_of, with_codes
+from .values import look_at_name, of_array, of_times, values_of, with_codes
 
 # What 64 bits of nanoseconds hold, as units: of days and of moments from 1970 on, 1677-09-22 to 2262-04-11.
 MOST = {None: 106_751, "s": (2**63 - 1) // 10**9, "ms": (2**63 - 1) // 10**6, "us": (2**63 - 1) // 1_000, "ns": 2**63 - 1}
@@ -26,7 +26,8 @@ def frame_of(table: Table, decimals: str = "objects", dates: str = "datetime64")
     |---|---|
     | an integer or bool without nulls; with nulls | int64 and the like; pandas' own Int64 and the like |
     | utf8 | object: str, and None at nulls |
-    | date, timestamp | datetime64[ns]; with dates="objects" object: datetime.date, datetime.datetime |
+    | date, timestamp | datetime64[ns], of UTC with a zone; with dates="objects" object: datetime.date, datetime.datetime |
+    | time, duration | timedelta64[ns]; with dates="objects" object: datetime.time, datetime.timedelta |
     | decimal | object: Decimal; with decimals="integers" int64 or Int64 |
     | dictionary | category |
     """
@@ -48,7 +49,8 @@ def series_of(column: JoinedColumn, decimals: str, dates: str) -> Any:
     if of == TEXT:
         return values
     if of == DAY or of.unit is not None:
-        return column_of_objects(column) if dates == "objects" else times_of(column)
+        found = column_of_objects(column) if dates == "objects" else times_of(column)
+        return pandas.DatetimeIndex(found, tz="UTC") if of in ZONED.values() and dates != "objects" else found
     if of.form is not None and decimals == "objects":
         return column.values
     if of.form is not None:
@@ -76,10 +78,10 @@ def of_slots(of: DataType) -> bool:
 def times_of(column: JoinedColumn) -> Array:
     """Dates, timestamps, times or durations in nanoseconds, which is what pandas has."""
     of, nulls = column.field.type, np.zeros(len(column), np.bool_) if column.mask is None else column.mask
-    kept, most = column.values[~nulls].astype(np.int64), MOST[of.unit]
+    kept, most, kind = column.values[~nulls].astype(np.int64), MOST[of.unit], column.values.dtype.kind
     if len(kept) and not -most <= kept.min() <= kept.max() <= most:
-        raise DataError(f"column {column.field.name}: a {of.name} outside 1677-09-22 to 2262-04-11; ask with dates='objects'")
-    kind = column.values.dtype.kind
+        limits = "outside 1677-09-22 to 2262-04-11" if kind == "M" else "of more nanoseconds than 64 bits hold"
+        raise DataError(f"column {column.field.name}: a {of.name} {limits}; ask with dates='objects'")
     found = column.values.astype(f"<{kind}8[ns]")
     found[nulls] = np.array("NaT", f"{kind}8[ns]")
     return found
@@ -101,7 +103,7 @@ def values_of_series(name: Any, series: pandas.Series[Any], field: Field | None)
     if isinstance(dtype, pandas.CategoricalDtype):
         return values_of_categories(name, series, field)
     if isinstance(dtype, pandas.DatetimeTZDtype):
-        raise refused(name, dtype)
+        return of_times(name, series.dt.tz_convert("UTC").dt.tz_localize(None).to_numpy(), None, field, has_zone=True)
     numpy_dtype = getattr(dtype, "numpy_dtype", None)
     if pandas.api.types.is_extension_array_dtype(dtype) and numpy_dtype is not None and numpy_dtype.kind in "iub":
         nulls = series.isna().to_numpy()

@@ -59,7 +59,9 @@ def literal(value: object) -> str:
             return text
         raise NotSupportedError("a number with more than 38 digits before or after its point has no literal")
     if isinstance(value, datetime.datetime):
-        return f"TIMESTAMP '{time_text(value)}'"
+        return f"TIMESTAMP '{moment_text(value)}'"
+    if isinstance(value, datetime.time) and value.tzinfo is None:
+        return f"TIME '{value.isoformat('microseconds')}'"
     if isinstance(value, datetime.date):
         return f"DATE '{value.isoformat()}'"
     if value is None:
@@ -67,13 +69,16 @@ def literal(value: object) -> str:
     raise NotSupportedError(f"{value if isinstance(value, Decimal) else type(value).__name__} has no literal")
 
 
-def time_text(value: datetime.datetime) -> str:
-    """A time as the query language writes it, to the microsecond."""
-    if value.tzinfo is not None:
-        raise NotSupportedError("a time with a zone has no literal")
-    if getattr(value, "nanosecond", 0) != 0:  # of pandas
-        raise NotSupportedError("a time that is no whole number of microseconds has no literal")
-    return datetime.datetime.combine(value.date(), value.time()).isoformat(" ", "microseconds")
+def moment_text(value: datetime.datetime) -> str:
+    """A time as the query language writes it, in UTC where it has a zone."""
+    offset = value.utcoffset()
+    try:
+        moment = datetime.datetime.combine(value.date(), value.time()) - (offset or datetime.timedelta())
+    except OverflowError:
+        raise NotSupportedError("a time outside the years 1 to 9999 has no literal") from None
+    nanosecond = getattr(value, "nanosecond", 0)  # of pandas
+    digits = f"{nanosecond:03}" if nanosecond else ""
+    return moment.isoformat(" ", "microseconds") + digits + ("" if offset is None else "Z")
 
 
 def bound(query: str, values: Sequence[object]) -> str:

@@ -17,6 +17,7 @@ V5, SCHEMA, DICTIONARY_BATCH, RECORD_BATCH = 4, 1, 2, 3  # the version of metada
 INT, UTF8, BOOL, DECIMAL, DATE, TIME, TIMESTAMP, DURATION = 2, 5, 6, 7, 8, 9, 10, 18  # the kinds of types
 DAYS, DIGITS = 0, 38
 UNITS = ("s", "ms", "us", "ns")  # of times, by their numbers
+PER_SECOND = {unit: 1_000**number for number, unit in enumerate(UNITS)}
 MOST_COLUMNS, LONGEST_NAME = 64, 64
 SLOT_OF_A_DECIMAL = np.dtype([("low", "<u8"), ("high", "<i8")])
 CONTINUATION = b"\xff\xff\xff\xff"
@@ -72,13 +73,14 @@ NUMBER = DECIMALS[DIGITS, 0]
 
 def times_named(word: str, *sizes: int) -> dict[str, DataType]:
     """The types of times of a word, by their units. Microseconds have the word alone."""
-    return {unit: DataType(word if unit == "us" else f"{word}_{unit}", np.dtype(f"<i{size}"), unit) for unit, size in zip(UNITS, sizes)}
+    return {unit: DataType(word if unit == "us" else f"{word}_{unit}", np.dtype(f"<i{size}"), unit)
+            for unit, size in zip(UNITS, sizes)}
 
 
 MOMENTS, ZONED = times_named("timestamp", 8, 8, 8, 8), times_named("timestamptz", 8, 8, 8, 8)
 CLOCKS, SPANS = times_named("time", 4, 4, 8, 8), times_named("duration", 8, 8, 8, 8)
-MOMENT = MOMENTS["us"]
-NAMED = {**INTEGERS, **{one.name: one for one in (TEXT, TRUTH, DAY, MOMENT, *DECIMALS.values())}}
+TIMES = [one for kind in (MOMENTS, ZONED, CLOCKS, SPANS) for one in kind.values()]
+NAMED = {**INTEGERS, **{one.name: one for one in (TEXT, TRUTH, DAY, *DECIMALS.values(), *TIMES)}}
 
 
 def dictionary_of(index: np.dtype[Any] | str = "<i4") -> DataType:
@@ -282,11 +284,21 @@ def type_table(of: DataType) -> tuple[int, Block]:
         return INT, integer_table(of.dtype)
     if of.form is not None:
         return DECIMAL, flatbuffers.table((4, of.form[0]), (4, of.form[1]), (4, 128))
+    if of.unit is not None:
+        return times_table(of, (2, UNITS.index(of.unit)))
     return {
         TRUTH: (BOOL, flatbuffers.table()),
         DAY: (DATE, flatbuffers.table((2, DAYS))),
-        MOMENT: (TIMESTAMP, flatbuffers.table((2, UNITS.index("us")))),
     }.get(of, (UTF8, flatbuffers.table()))
+
+
+def times_table(of: DataType, unit: tuple[int, int]) -> tuple[int, Block]:
+    """The table of timestamps, times or durations. A zone is UTC."""
+    if of in ZONED.values():
+        return TIMESTAMP, flatbuffers.table(unit, flatbuffers.text("UTC"))
+    if of in CLOCKS.values():
+        return TIME, flatbuffers.table(unit, (4, 32 if of.unit in ("s", "ms") else 64))
+    return (TIMESTAMP if of in MOMENTS.values() else DURATION), flatbuffers.table(unit)
 
 
 def field_table(field: Field) -> Block:

@@ -11,7 +11,7 @@ import numpy as np
 
 from .columns import Array, Categories, Column, Decimals
 from .errors import InterfaceError
-from .schema import Field, Schema
+from .schema import MOMENTS, ZONED, Field, Schema
 from .stream import Batch
 
 if TYPE_CHECKING:
@@ -54,7 +54,9 @@ class JoinedColumn:
     def empty_dtype(self) -> Any:
         """The dtype of the values where there are no batches."""
         of = self.field.type
-        return of.dtype if of.is_integer else {"bool": np.bool_, "date": "<M8[D]", "timestamp": "<M8[us]"}.get(of.name, object)
+        if of.unit is not None:
+            return f"<{'M' if of in (*MOMENTS.values(), *ZONED.values()) else 'm'}8[{of.unit}]"
+        return of.dtype if of.is_integer else {"bool": np.bool_, "date": "<M8[D]"}.get(of.name, object)
 
     @staticmethod
     def joined(found: Sequence[Array], dtype: Any) -> Array:

@@ -12,14 +12,13 @@ import numpy as np
 from .columns import EPOCH, Array
 from .errors import DataError, InterfaceError, NotSupportedError
 from .rows import Values
-from .schema import DAY, DECIMALS, DIGITS, INTEGERS, MOMENT, NUMBER, TEXT, TRUTH, DataType, Field
+from .schema import DAY, DECIMALS, DIGITS, INTEGERS, NUMBER, SPANS, TEXT, TRUTH, DataType, Field
+from .times import ALSO, days_in, moments_type, number_in, numbers_in, type_of_objects, unit_of
 
-TAKEN = "bool, int8 to uint64, utf8, date, timestamp, decimal and dictionaries of strings"
+TAKEN = "bool, int8 to uint64, utf8, date, timestamp, time, duration, decimal and dictionaries of strings"
 DTYPES: dict[DataType, Any] = {TEXT: object, TRUTH: np.bool_, **{one: object for one in DECIMALS.values()}}  # in which objects are held; else int64
 EXACTLY = Context(prec=100_000)  # in which no digit of a decimal is lost
 EXACT = 2**53  # up to here a float holds each whole number
-TIME_ZERO, MICROSECOND = datetime.datetime(1970, 1, 1), datetime.timedelta(microseconds=1)
-FINER, COARSER = ("ns", "ps", "fs", "as"), ("D", "W", "M", "Y")  # units of time below a microsecond, and from a day on
 
 
 def refused(name: str, found: object) -> NotSupportedError:
@@ -51,6 +50,8 @@ def of_array(name: str, data: Array, mask: Array | None, field: Field | None) ->
         return of_objects(name, data.astype(object, copy=False), mask, field)
     if kind == "M":
         return of_times(name, data, mask, field)
+    if kind == "m":
+        return of_spans(name, data, mask, field)
     if kind in "iu":
         of = INTEGERS[data.dtype.newbyteorder("<").name]
         return fitted(of, field or Field(name, of, mask is not None), data, mask)
@@ -61,47 +62,29 @@ def of_array(name: str, data: Array, mask: Array | None, field: Field | None) ->
     raise refused(name, data.dtype)
 
 
-def of_times(name: str, data: Array, mask: Array | None, field: Field | None) -> Values:
-    """Dates or timestamps. Without a field, microseconds are timestamps and days are dates; times of another unit, as pandas
-    has them, are dates where each is a midnight."""
+def of_times(name: str, data: Array, mask: Array | None, field: Field | None, has_zone: bool = False) -> Values:
+    """Dates or timestamps. An array has no zone of its own: `has_zone` says that its times are in UTC."""
     nulls = np.isnat(data) if mask is None else np.isnat(data) | mask
-    unit = np.datetime_data(data.dtype)[0]
-    of = field.type if field is not None and field.type in (DAY, MOMENT) else MOMENT if unit == "us" else None
-    if of != MOMENT and (unit in COARSER or (nulls | are_midnights(data)).all()):
-        of, numbers = DAY, (data if unit in COARSER else data.astype("<M8[us]")).astype("<M8[D]").view("<i8")
-    elif of != DAY:
-        of, numbers = MOMENT, micros_of(name, data, nulls)
-    else:
-        raise DataError(f"column {name}: a timestamp where a date must be")
+    of = moments_type(data, nulls, has_zone, None if field is None else field.type)
+    numbers = days_in(name, data, nulls) if of.unit is None else numbers_in(name, data, nulls, of.unit)
+    return of_numbers(name, of, field, numbers, nulls)
+
+
+def of_spans(name: str, data: Array, mask: Array | None, field: Field | None) -> Values:
+    """Durations, or times since a day began."""
+    nulls = np.isnat(data) if mask is None else np.isnat(data) | mask
+    if np.datetime_data(data.dtype)[0] in ("M", "Y"):
+        raise refused(name, data.dtype)
+    of = SPANS[unit_of(data)]
+    if field is not None and field.type in ALSO[of]:
+        of = field.type
+    assert of.unit is not None
+    return of_numbers(name, of, field, numbers_in(name, data, nulls, of.unit), nulls)
+
+
+def of_numbers(name: str, of: DataType, field: Field | None, numbers: Array, nulls: Array) -> Values:
     numbers = np.where(nulls, 0, numbers) if nulls.any() else numbers
     return fitted(of, field or Field(name, of), numbers, nulls if nulls.any() else None)
-
-
-def are_midnights(data: Array) -> Array:
-    """Of which times no more than a day is said."""
-    moments = data.astype("<M8[us]")
-    found: Array = (moments.astype("<M8[D]") == moments) & (moments.astype(data.dtype) == data)
-    return found
-
-
-def micros_of(name: str, data: Array, nulls: Array) -> Array:
-    """Times as whole numbers of microseconds, which each that is not null must be."""
-    moments = data.astype("<M8[us]", copy=False)
-    if not (nulls | (moments.astype(data.dtype) == data)).all():
-        if np.datetime_data(data.dtype)[0] in FINER:
-            raise refused(name, "a time that is no whole number of microseconds")
-        raise DataError(f"column {name}: a time whose microseconds since 1970 do not fit into 64 bits")
-    found: Array = moments.view("<i8")
-    return found
-
-
-def micros_since_1970(name: str, value: Any) -> int:
-    """The microseconds to a time of Python or of pandas."""
-    if value.tzinfo is not None:
-        raise refused(name, "a time with a zone")
-    if getattr(value, "nanosecond", 0) != 0:
-        raise refused(name, "a time that is no whole number of microseconds")
-    return (datetime.datetime.combine(value.date(), value.time()) - TIME_ZERO) // MICROSECOND
 
 
 def of_floats(field: Field, data: Array, mask: Array | None) -> Values:
@@ -126,8 +109,9 @@ def of_objects(name: str, data: Array, mask: Array | None, field: Field | None) 
         return coded(field, data, nulls)
     if of == DAY:
         values = [value.toordinal() - EPOCH for value in values]
-    elif of == MOMENT:
-        values = [micros_since_1970(name, value) for value in values]
+    elif of.unit is not None:
+        of = field.type if field.type in ALSO[of] else of
+        values = [number_in(name, value, str(of.unit)) for value in values]
     elif of.form is not None:
         values = [whole_number(name, value, of) for value in values]
     made = np.full(len(data), "" if of == TEXT else 0, DTYPES.get(of, np.int64))
@@ -159,8 +143,9 @@ def guessed_type(name: str, values: list[Any]) -> DataType:
         return TRUTH
     if all(issubclass(kind, datetime.date) and not issubclass(kind, datetime.datetime) for kind in kinds):
         return DAY
-    if all(issubclass(kind, datetime.datetime) for kind in kinds):
-        return MOMENT
+    times = type_of_objects(name, values)
+    if times is not None:
+        return times
     if all(issubclass(kind, (int, np.integer, Decimal)) and kind is not bool for kind in kinds):
         is_small = not any(issubclass(kind, Decimal) for kind in kinds) and -(2**63) <= min(values) <= max(values) < 2**63
         return INTEGERS["int64"] if is_small else decimals_for(name, values)

@@ -11,6 +11,7 @@ from typing import Any
 import numpy as np
 from reader import read_column
 
+UNITS = {"s": "Second", "ms": "Millisecond", "us": "Microsecond", "ns": "Nanosecond"}
 NAMES = {f"{'u' if sign else ''}int{bits}": f"{'U' if sign else ''}Int{bits}" for sign in (0, 1) for bits in (8, 16, 32, 64)}
 
 
@@ -33,7 +34,10 @@ def module() -> types.ModuleType:
     made = types.ModuleType("pyarrow")
     made.__dict__.update(
         py_buffer=bytes,
-        string=lambda: "Utf8", bool_=lambda: "Bool", date32=lambda: "Date", timestamp=lambda unit: "Timestamp",
+        string=lambda: "Utf8", bool_=lambda: "Bool", date32=lambda: "Date",
+        timestamp=lambda unit, zone=None: f"Timestamp({UNITS[unit]}, {str(zone is not None).lower()})",
+        time32=lambda unit: f"Time({UNITS[unit]})", time64=lambda unit: f"Time({UNITS[unit]})",
+        duration=lambda unit: f"Duration({UNITS[unit]})",
         decimal128=lambda digits, scale: "Decimal128",
         from_numpy_dtype=lambda dtype: NAMES[np.dtype(dtype).name],
         dictionary=lambda index, values: f"dictionary of {values} by {index}",

@@ -22,7 +22,10 @@ from trials.cases import Run, case
 
 ROOT = pathlib.Path(__file__).resolve().parent.parent.parent.parent
 ARROW, FLIGHT = ROOT / "vectors/arrow", ROOT / "vectors/flight"
-NAMES = {"utf8": "Utf8", "bool": "Bool", "decimal": "Decimal128", "date": "Date", "timestamp": "Timestamp"}
+NAMES = {"utf8": "Utf8", "bool": "Bool", "decimal": "Decimal128", "date": "Date"}
+for ending, unit in (("_s", "Second"), ("_ms", "Millisecond"), ("", "Microsecond"), ("_ns", "Nanosecond")):
+    NAMES |= {f"timestamp{ending}": f"Timestamp({unit}, false)", f"timestamptz{ending}": f"Timestamp({unit}, true)",
+              f"time{ending}": f"Time({unit})", f"duration{ending}": f"Duration({unit})"}
 
 
 def type_name(found: flightscan.DataType) -> str:
@@ -40,8 +43,16 @@ def plain(value: Any) -> Any:
     return int(value) if isinstance(value, Decimal) else value
 
 
+def plain_column(column: flightscan.Column) -> list[Any]:
+    """The values of a column as the vectors have them."""
+    if isinstance(column, (flightscan.Timestamps, flightscan.Spans)):
+        nulls = [False] * len(column) if column.mask is None else column.mask.tolist()
+        return [None if null else number for number, null in zip(column.slots.tolist(), nulls)]
+    return [plain(value) for value in column.objects()]
+
+
 def rows_of(batch: Batch) -> list[list[Any]]:
-    return [[plain(value) for value in row] for row in batch.rows()]
+    return [list(row) for row in zip(*map(plain_column, batch.columns))]
 
 
 def schema_said(schema: flightscan.Schema) -> list[list[Any]]:

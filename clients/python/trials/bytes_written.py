@@ -20,6 +20,7 @@ from trials.bytes_read import schema_said
 from trials.cases import Run, case, refused, trips
 
 EPOCH, NOON = datetime.date(1970, 1, 1), datetime.datetime(2024, 5, 1, 12, 0, 0, 250_000)
+UTC, MICROS = datetime.timezone.utc, "Timestamp(Microsecond, false)"
 SPELLED = "id:int64, town:utf8?, day:date?, at:timestamp?, large:decimal?, small:int8?, great:uint64, paid:bool?, km:int32?"
 
 
@@ -39,7 +40,7 @@ def plain_columns(columns: dict[str, Any]) -> list[list[Any]]:
     found = []
     for column in columns.values():
         masked = np.ma.getmaskarray(column) if isinstance(column, np.ma.MaskedArray) else np.zeros(len(column), bool)
-        if column.dtype.kind == "M":
+        if column.dtype.kind in "Mm":
             masked, column = masked | np.isnat(column), np.asarray(column).astype(np.int64)
         values = np.asarray(column).tolist()
         found.append([None if null else value for value, null in zip(values, masked.tolist())])
@@ -62,7 +63,7 @@ def written_rows(run: Run) -> str:
 @case("a schema of every type, with dictionaries of every index, is read as it was meant")
 def written_schemas(run: Run) -> None:
     reader, _, whole = told(Put("t", "create", trips(300)))
-    types = [("id", "Int64", False), ("town", "Utf8", True), ("day", "Date", True), ("at", "Timestamp", True),
+    types = [("id", "Int64", False), ("town", "Utf8", True), ("day", "Date", True), ("at", MICROS, True),
              ("large", "Decimal128", True),
              ("small", "Int8", True), ("great", "UInt64", False), ("paid", "Bool", True), ("km", "Int32", True)]
     same("the columns", types, [(name, of, nullable) for name, of, nullable, _ in reader.fields])
@@ -136,18 +137,28 @@ def refused_values(run: Run) -> None:
         ("a noon for a date", flightscan.DataError, "column a: a timestamp where a date", {"a": np.array([NOON], "M8[us]")},
          "a:date"),
         ("dates with timestamps", flightscan.NotSupportedError, "column a: date with datetime", {"a": [EPOCH, NOON]}, None),
-        ("nanoseconds", flightscan.NotSupportedError, "column a: a time that is no whole number of microseconds is not taken",
-         {"a": np.array(["2024-05-01T12:00:00.000000001"], "M8[ns]")}, None),
-        ("nanoseconds, by a schema", flightscan.NotSupportedError, "column a: a time that is no whole number of microseconds",
+        ("nanoseconds, by a schema", flightscan.DataError, "column a: a time that is no whole number of microseconds",
          {"a": np.array(["NaT", "1969-12-31T23:59:59.999999999"], "M8[ns]")}, "a:timestamp?"),
-        ("attoseconds", flightscan.NotSupportedError, "column a: a time that is no whole number of microseconds",
-         {"a": np.array([10**12 - 1], "M8[as]")}, None),
-        ("far seconds", flightscan.DataError, "column a: a time whose microseconds since 1970 do not fit into 64 bits",
+        ("attoseconds", flightscan.DataError, "column a: a time that is no whole number of nanoseconds",
+         {"a": np.array([10**9 - 1], "M8[as]")}, None),
+        ("far seconds", flightscan.DataError, "column a: a time whose microseconds do not fit into 64 bits",
          {"a": np.array([2**63 // 10**6 + 1], "M8[s]")}, "a:timestamp"),
-        ("far days", flightscan.DataError, "column a: a time whose microseconds since 1970 do not fit into 64 bits",
+        ("far days", flightscan.DataError, "column a: a time whose microseconds do not fit into 64 bits",
          {"a": np.array([-(2**40)], "M8[D]")}, "a:timestamp"),
-        ("a zone", flightscan.NotSupportedError, "column a: a time with a zone is not taken",
-         {"a": [NOON.replace(tzinfo=datetime.timezone.utc)]}, None),
+        ("far nanoseconds", flightscan.DataError, "column a: a time whose nanoseconds do not fit into 64 bits",
+         {"a": [datetime.datetime.max]}, "a:timestamp_ns"),
+        ("part of a second", flightscan.DataError, "column a: a time that is no whole number of seconds", {"a": [NOON]},
+         "a:timestamp_s"),
+        ("a zone", flightscan.DataError, "column a: timestamptz where timestamp must be", {"a": [NOON.replace(tzinfo=UTC)]},
+         "a:timestamp"),
+        ("a zone and none", flightscan.DataError, "column a: times with a zone next to some without",
+         {"a": [NOON, NOON.replace(tzinfo=UTC)]}, None),
+        ("a zone of a clock", flightscan.DataError, "column a: a time of a day with a zone",
+         {"a": [datetime.time(12, tzinfo=UTC)]}, None),
+        ("a time for a duration", flightscan.DataError, "column a: time where duration", {"a": [datetime.time(12)]}, "a:duration"),
+        ("months", flightscan.NotSupportedError, "column a: timedelta64[M]", {"a": np.array([1], "m8[M]")}, None),
+        ("a long span for seconds of a day", flightscan.DataError, "column a: a number that time_s does not hold",
+         {"a": np.array([2**31], "m8[s]")}, "a:time_s"),
         ("a null time", flightscan.DataError, "column a: a null in a column", {"a": np.array(["NaT"], "M8[us]")}, "a:timestamp"),
         ("columns of two lengths", flightscan.DataError, "columns of [1, 2] rows", {"a": [1], "b": [1, 2]}, None),
         ("half of a pair", flightscan.DataError, "column a: a string that is not UTF-8", {"a": ["x", "\ud800"]}, None),
@@ -180,21 +191,36 @@ def found_types(run: Run) -> None:
         ({"a": [Decimal(7), None]}, "Decimal128", [[7], [None]], None),
         ({"a": [True, None]}, "Bool", [[True], [None]], None),
         ({"a": [datetime.date(2026, 1, 1)]}, "Date", [[(datetime.date(2026, 1, 1) - EPOCH).days]], None),
-        ({"a": [NOON, None, datetime.datetime.min, datetime.datetime.max]}, "Timestamp", [
+        ({"a": [NOON, None, datetime.datetime.min, datetime.datetime.max]}, MICROS, [
             [1_714_564_800_250_000], [None], [-62_135_596_800_000_000], [253_402_300_799_999_999]], None),
-        ({"a": np.array(["2024-05-01T12:00:00.25", "NaT", "1969-12-31T23:59:59.999999"], "M8[us]")}, "Timestamp",
+        ({"a": np.array(["2024-05-01T12:00:00.25", "NaT", "1969-12-31T23:59:59.999999"], "M8[us]")}, MICROS,
          [[1_714_564_800_250_000], [None], [-1]], None),
-        ({"a": np.array(["2024-05-01T00:00", "NaT"], "M8[us]")}, "Timestamp", [[1_714_521_600_000_000], [None]], None),
+        ({"a": np.array(["2024-05-01T00:00", "NaT"], "M8[us]")}, MICROS, [[1_714_521_600_000_000], [None]], None),
         ({"a": np.array(["2024-05-01T00:00", "NaT"], "M8[ns]")}, "Date", [[19_844], [None]], None),
-        ({"a": np.array(["2024-05-01T00:00", "NaT"], "M8[ns]")}, "Timestamp", [[1_714_521_600_000_000], [None]], "a:timestamp?"),
-        ({"a": np.array(["2024-05-01T12:00:00.25", "NaT"], "M8[ns]")}, "Timestamp", [[1_714_564_800_250_000], [None]], None),
-        ({"a": np.array(["2024-05-01T12:00:01"], "M8[s]")}, "Timestamp", [[1_714_564_801_000_000]], None),
-        ({"a": np.array(["1969-12-31T23:59:59.999"], ">M8[ms]")}, "Timestamp", [[-1_000]], None),
-        ({"a": np.array(["2024-05-01"], "M8[D]")}, "Timestamp", [[1_714_521_600_000_000]], "a:timestamp"),
+        ({"a": np.array(["2024-05-01T00:00", "NaT"], "M8[ns]")}, MICROS, [[1_714_521_600_000_000], [None]], "a:timestamp?"),
+        ({"a": np.array(["2024-05-01T12:00:00.25", "NaT"], "M8[ns]")}, MICROS, [[1_714_564_800_250_000], [None]], None),
+        ({"a": np.array(["2024-05-01T12:00:01"], "M8[s]")}, "Timestamp(Second, false)", [[1_714_564_801]], None),
+        ({"a": np.array(["1969-12-31T23:59:59.999"], ">M8[ms]")}, "Timestamp(Millisecond, false)", [[-1]], None),
+        ({"a": np.array(["2024-05-01T12:00:00.000000001"], "M8[ns]")}, "Timestamp(Nanosecond, false)",
+         [[1_714_564_800_000_000_001]], None),
+        ({"a": np.array(["2024-05-01T12:00:00"], "M8[m]")}, "Timestamp(Second, false)", [[1_714_564_800]], None),
+        ({"a": np.array(["2024-05-01T12:00:00.25"], "M8[ms]")}, "Timestamp(Nanosecond, true)", [[1_714_564_800_250_000_000]],
+         "a:timestamptz_ns"),
+        ({"a": [NOON.replace(tzinfo=datetime.timezone(datetime.timedelta(hours=2))), None]}, "Timestamp(Microsecond, true)",
+         [[1_714_557_600_250_000], [None]], None),
+        ({"a": [datetime.datetime(2024, 5, 1, 12)]}, "Timestamp(Second, true)", [[1_714_564_800]], "a:timestamptz_s"),
+        ({"a": [datetime.time(0, 0, 0, 1), None, datetime.time.max]}, "Time(Microsecond)", [[1], [None], [86_399_999_999]], None),
+        ({"a": [datetime.time(23, 59, 59)]}, "Time(Second)", [[86_399]], "a:time_s"),
+        ({"a": np.array([43_200, "NaT"], "m8[s]")}, "Time(Nanosecond)", [[43_200_000_000_000], [None]], "a:time_ns?"),
+        ({"a": [datetime.timedelta(days=-1, microseconds=1), None]}, "Duration(Microsecond)", [[-86_399_999_999], [None]], None),
+        ({"a": np.array([1, "NaT", -2], "m8[ms]")}, "Duration(Millisecond)", [[1], [None], [-2]], None),
+        ({"a": np.array([2], "m8[D]")}, "Duration(Second)", [[172_800]], None),
+        ({"a": np.array([5_000, 7_000], "m8[ps]")}, "Duration(Nanosecond)", [[5], [7]], None),
+        ({"a": np.array(["2024-05-01"], "M8[D]")}, MICROS, [[1_714_521_600_000_000]], "a:timestamp"),
         ({"a": np.array(["2024-05-01"], "M8[us]")}, "Date", [[19_844]], "a:date"),
-        ({"a": np.ma.MaskedArray(np.array([7, 2**63 - 1, 9], "M8[us]"), mask=[False, False, True])}, "Timestamp",
+        ({"a": np.ma.MaskedArray(np.array([7, 2**63 - 1, 9], "M8[us]"), mask=[False, False, True])}, MICROS,
          [[7], [2**63 - 1], [None]], None),
-        ({"a": np.ma.MaskedArray(np.array([1, 1_000], "M8[ns]"), mask=[True, False])}, "Timestamp", [[None], [1]], None),
+        ({"a": np.ma.MaskedArray(np.array([1, 1_000], "M8[ns]"), mask=[True, False])}, MICROS, [[None], [1]], None),
         ({"a": ["x", float("nan"), None]}, "Utf8", [["x"], [None], [None]], None),
         ({"a": np.ma.MaskedArray(np.array([Decimal(7), Decimal("NaN")], object), mask=[False, True])}, "Decimal128",
          [[7], [None]], None),
@@ -222,8 +248,12 @@ def bound_parameters(run: Run) -> None:
     same("numbers", "-5, 38, 7", literals.bound("?, ?, ?", (-5, np.int64(38).item(), Decimal(7))))
     same("times", "TIMESTAMP '2024-05-01 12:00:00.250000', TIMESTAMP '0001-01-01 00:00:00.000000'", literals.bound(
         "?, ?", (NOON, datetime.datetime.min)))
-    refused("a zone", flightscan.NotSupportedError, "a time with a zone has no literal", lambda: literals.bound(
-        "?", (NOON.replace(tzinfo=datetime.timezone.utc),)))
+    same("times with a zone, and of a day", "TIMESTAMP '2024-05-01 10:00:00.250000Z', TIME '12:00:00.000001'", literals.bound(
+        "?, ?", (NOON.replace(tzinfo=datetime.timezone(datetime.timedelta(hours=2))), datetime.time(12, 0, 0, 1))))
+    refused("a time before the year 1", flightscan.NotSupportedError, "a time outside the years", lambda: literals.bound(
+        "?", (datetime.datetime.min.replace(tzinfo=datetime.timezone(datetime.timedelta(hours=2))),)))
+    refused("a duration", flightscan.NotSupportedError, "timedelta has no literal", lambda: literals.bound(
+        "?", (datetime.timedelta(1),)))
     same("numbers of numpy", "-9223372036854775808, 255, 18446744073709551615, TRUE, FALSE, 'o''clock'", literals.bound(
         "?, ?, ?, ?, ?, ?", (np.int64(-(2**63)), np.uint8(255), np.uint64(2**64 - 1), np.bool_(True), np.bool_(False),
                              np.str_("o'clock"))))

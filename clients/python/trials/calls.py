@@ -28,7 +28,7 @@ def plain_rows(table: flightscan.Table) -> list[list[Any]]:
     found = []
     for column in table:
         of = column.field.type.name
-        if of in ("date", "timestamp"):
+        if of.startswith(("date", "timestamp", "time", "duration")):
             values = [None if null else one for one, null in zip(column.values.astype(np.int64).tolist(), nulls_of(column))]
         else:
             values = [int(value) if of == "decimal" and value is not None else value for value in column.objects()]

@@ -112,14 +112,12 @@ def look_at_far_times(connection: flightscan.Connection) -> None:
          [one.isoformat(timespec="microseconds") for one in connection.query(near).to_pandas()["t"]])
 
 
-@case("frames that can't be put: floats, nanoseconds, zones, names that are no strings; floats that are whole can, by a schema")
+@case("frames that can't be put: floats, names that are no strings; floats that are whole can, by a schema")
 def frames_refused(run: Run) -> None:
     pandas = wanted_package("pandas")
     with run.connected() as connection:
         times = pandas.Series(pandas.to_datetime(["2026-01-01 10:00"]))
-        fine = pandas.Series(pandas.to_datetime(["2026-01-01 10:00:00.000000001"]))
-        for what, column in (("float64", pandas.Series([0.5])), ("a time that is no whole number of microseconds", fine),
-                             ("datetime64[ns, UTC]", times.dt.tz_localize("UTC")), ("float64", pandas.Series([1.0, None]))):
+        for what, column in (("float64", pandas.Series([0.5])), ("float64", pandas.Series([1.0, None]))):
             refused(what, flightscan.NotSupportedError, f"column a: {what}", lambda column=column: connection.put(
                 "t", pandas.DataFrame({"a": column})))
         refused("a number as name", flightscan.InterfaceError, "a column is named 0", lambda: connection.put(
@@ -141,6 +139,37 @@ def frames_refused(run: Run) -> None:
         day = datetime.date(2026, 1, 1)
         connection.put("s", pandas.DataFrame({"s": pandas.array(["x", None], "string"), "d": [day, None]}))
         same("strings and dates", [("x", day), (None, None)], connection.query("SELECT * FROM s").rows())
+
+
+@case("times of each unit, with a zone or none, times of a day and durations come back as frames, rows and an empty answer")
+def times_come_back(run: Run) -> None:
+    pandas = wanted_package("pandas")
+    moments = pandas.Series(pandas.to_datetime(["2026-01-01 10:00:00.000000001", None, "1969-12-31 23:59:59.999999999"]))
+    spans = pandas.Series(pandas.to_timedelta([1, None, -(10**9)], unit="ns"))
+    days = pandas.Series(pandas.to_timedelta([0, 43_200 * 10**9 + 1, None], unit="ns"))
+    frame = pandas.DataFrame({"n": moments, "z": moments.dt.tz_localize("Europe/Vienna"), "e": spans, "c": days})
+    wanted = frame.assign(z=frame["z"].dt.tz_convert("UTC"))
+    spelled = "n:timestamp_ns?,z:timestamptz_ns?,e:duration_ns?,c:time_ns?"
+    clock, noon = datetime.time(12, 30, 15, 250_000), datetime.datetime(2026, 1, 1, 12)
+    aware, span = noon.replace(tzinfo=datetime.timezone.utc), datetime.timedelta(days=-1, microseconds=1)
+    with run.connected("--parts", "2") as connection:
+        connection.put("t", frame, schema=spelled)
+        same("the columns", spelled, str(connection.schema("SELECT * FROM t")).replace(", ", ","))
+        same_frame(pandas, "all rows", wanted, connection.query("SELECT * FROM t").to_pandas())
+        none = connection.query("SELECT * FROM t WHERE n IS NULL AND c IS NULL").to_pandas()
+        same("an empty answer", (0, wanted.dtypes.astype(str).to_dict()), (len(none), none.dtypes.astype(str).to_dict()))
+        connection.put("found", frame)
+        same("the types that are found", "n:timestamp_ns?, z:timestamptz_ns?, e:duration_ns?, c:duration_ns?",
+             str(connection.schema("SELECT * FROM found")))
+        rows = [(noon, aware, clock, span), (None, None, None, None)]
+        connection.put("objects", dict(zip("tzce", zip(*rows))))
+        same("the types of objects", "t:timestamp?, z:timestamptz?, c:time?, e:duration?",
+             str(connection.schema("SELECT * FROM objects")))
+        same("objects", rows, connection.query("SELECT * FROM objects").rows())
+        same("parameters", rows[:1], connection.cursor().execute(
+            "SELECT * FROM objects WHERE t = ? AND z = ? AND c = ? AND ? IN (t)", (noon, aware, clock, noon)).fetchall())
+        connection.put("seconds", connection.query("SELECT t, e FROM objects"), schema="t:timestamp?, e:duration?")
+        same("an answer that is put", [(noon, span), (None, None)], connection.query("SELECT * FROM seconds").rows())
 
 
 @case("the buffers that pyarrow is given are those that were received, as the second reader reads them (by a stand-in)")

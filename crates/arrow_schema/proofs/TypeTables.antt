@@ -1,13 +1,13 @@
 -- The table of each type is read as it is written, and as what it says.
-use Rattle.std.proofs.Common.{◌≡◌, ℕ, ◌≤◌, ◌<◌, ◌==◌, ◌&&◌, nat_le, IsTrue, not, Bool, true, false, List, [], ◌∷◌, codes, length, Option, Some, None, IsUtf8, Result, Ok, refl, ap, append-nil, arith, sym, subst}
+use Rattle.std.proofs.Common.{◌≡◌, ℕ, ◌≤◌, ◌<◌, ◌==◌, ◌&&◌, nat_le, IsTrue, not, Bool, true, false, List, [], ◌∷◌, codes, length, Option, Some, None, IsUtf8, Result, Ok, refl, ap, append-nil, arith, rules, sym, subst}
 use Rattle.std.proofs.lemmas.Bool.{and_parts, eq-eqb, eqb-true, leb-true, le-leb}
-use Rattle.std.proofs.lemmas.Str.{IsUtf8-from_is_utf8}
+use Rattle.std.proofs.lemmas.Str.{IsUtf8-from_ascii}
 use Rattle.scan_base.specs.declared.fault.Fault.{Fault}
 use Rattle.scan_base.specs.declared.fault.Fault.TheVariants.{UnsupportedArrow}
 use Rattle.scan_base.specs.Reading.{◌>>=◌, demand}
 use Rattle.flatbuf.specs.Layout.{TableAt, IsBytes, HasScalar, Stands}
 use Rattle.flatbuf.specs.Place.{field_of, scalar_of, text_of}
-use Rattle.flatbuf.specs.Block.{Given, Number as Scalar, IsWhole, AreWhole, table_part, text_part}
+use Rattle.flatbuf.specs.Block.{Given, Number as Scalar, Offset, IsWhole, AreWhole, table_part, text_part}
 use Rattle.flatbuf.specs.Fits.{FitsTable}
 use Rattle.flatbuf.specs.WrittenTables.{table_at}
 use Rattle.flatbuf.proofs.Written.{table_reads}
@@ -138,7 +138,7 @@ decimal_row table t is e =
       refl,
       record {
         precision = says_scalar 4 table 0 0 a.0 is a.1;
-        scale = says_scalar 4 table 1 0 b.0 is b.1;
+        places = says_scalar 4 table 1 0 b.0 is b.1;
         width = subst (λ (n : ℕ). HasScalar 4 table 2 128 n) (eqb-true c.0 128 both.1) (says_scalar 4 table 2 128 c.0 is c.1);
         taken = decimal_taken a.0 b.0 both.0;
       },
@@ -194,7 +194,7 @@ timestamp_row table t is e =
     let c = bind_ok (text_of table 1) _ t b.2 in
     let last = c.2 in
     let f : Number (Timestamp b.0 (is_zone c.0)) ≡ t = cc in
-    rw (← f) (refl, record { unit = says_unit table 0 a.0 b.0 is a.1 b.1; zone = c.0; named = says_text table 1 c.0 is c.1; zoned = refl })
+    rw (← f) (refl, record { counted = says_unit table 0 a.0 b.0 is a.1 b.1; zone = c.0; named = says_text table 1 c.0 is c.1; is = refl })
 
 time_row : IsTold 9 time_of
 unfolding time_of
@@ -208,7 +208,7 @@ time_row table t is e =
     let f : Number (Time b.0) ≡ t = cc in
     rw (← f) (
       refl,
-      record { unit = says_unit table 1 a.0 b.0 is a.1 b.1; width = subst (λ (n : ℕ). HasScalar 4 table 1 32 n) same (says_scalar 4 table 1 32 c.0 is c.1) },
+      record { counted = says_unit table 1 a.0 b.0 is a.1 b.1; width = subst (λ (n : ℕ). HasScalar 4 table 1 32 n) same (says_scalar 4 table 1 32 c.0 is c.1) },
     )
 
 duration_row : IsTold 18 duration_of
@@ -286,7 +286,7 @@ unfolding decimal_of
 decimal_read digits scale table is says =
     rw (
       reads_scalar 4 table 0 0 digits is says.precision,
-      reads_scalar 4 table 1 0 scale is says.scale,
+      reads_scalar 4 table 1 0 scale is says.places,
       reads_scalar 4 table 2 128 128 is says.width,
       taken_again digits scale says.taken,
     ) refl
@@ -311,7 +311,7 @@ absent_text t slot e = rw e refl
 -- the table of a timestamp
 
 zone_text : IsUtf8 (codes "UTC")
-zone_text = IsUtf8-from_is_utf8 (codes "UTC") refl
+zone_text = IsUtf8-from_ascii (codes "UTC") (search rules)
 
 whole_timestamp : (unit : TimeUnit) (zoned : Bool) → AreWhole (timestamp_slots unit zoned)
 whole_timestamp unit false = tt
@@ -325,12 +325,20 @@ short_timestamp unit true =
     let b = ap length (append-nil (text_part (codes "UTC")).bytes) in
     omega arith
 
-pub fits_timestamp : (unit : TimeUnit) (zoned : Bool) → FitsTable (timestamp_slots unit zoned)
-fits_timestamp unit false = fits_table (timestamp_slots unit false) (omega arith) (omega arith)
-fits_timestamp unit true =
+pub fits_zoneless : (number : ℕ) → FitsTable (Scalar number ∷ [])
+fits_zoneless number = fits_table (Scalar number ∷ []) (omega arith) (omega arith)
+
+pub fits_zoned : (number : ℕ) → FitsTable (Scalar number ∷ Offset (text_part (codes "UTC")) ∷ [])
+fits_zoned number =
     let a = short_text (codes "UTC") in
     let b = ap length (append-nil (text_part (codes "UTC")).bytes) in
-    fits_table (timestamp_slots unit true) (omega arith) (omega arith)
+    fits_table (Scalar number ∷ Offset (text_part (codes "UTC")) ∷ []) (omega arith) (omega arith)
+
+pub ruleset zones = (fits_zoneless, fits_zoned)
+
+fits_timestamp : (unit : TimeUnit) (zoned : Bool) → FitsTable (timestamp_slots unit zoned)
+fits_timestamp unit false = fits_zoneless (unit_number unit)
+fits_timestamp unit true = fits_zoned (unit_number unit)
 
 zone_again : (unit : TimeUnit) (zoned : Bool) (bytes : List ℕ) (at : ℕ) → Stands (table_part (timestamp_slots unit zoned)).bytes bytes at →
     (zone : Option (List ℕ)) × (text_of (table_at bytes at (table_part (timestamp_slots unit zoned))) 1 ≡ Ok zone) × (is_zone zone ≡ zoned)
@@ -362,7 +370,7 @@ timestamp_again unit zoned bytes at s =
 timestamp_read : (unit : TimeUnit) (zoned : Bool) (table : TableAt) → IsBytes table.bytes → SaysTimestamp table unit zoned → timestamp_of table ≡ Ok (Number (Timestamp unit zoned))
 unfolding timestamp_of
 timestamp_read unit zoned table is says =
-    rw (reads_scalar 2 table 0 0 (unit_number unit) is says.unit, unit_again unit, reads_text table 1 says.zone is says.named, says.zoned) refl
+    rw (reads_scalar 2 table 0 0 (unit_number unit) is says.counted, unit_again unit, reads_text table 1 says.zone is says.named, says.is) refl
 
 -- the table of a time
 
@@ -384,7 +392,7 @@ time_again unit bytes at s =
 time_read : (unit : TimeUnit) (table : TableAt) → IsBytes table.bytes → SaysTime table unit → time_of table ≡ Ok (Number (Time unit))
 unfolding time_of
 time_read unit table is says =
-    rw (reads_scalar 2 table 0 1 (unit_number unit) is says.unit, unit_again unit, reads_scalar 4 table 1 32 (time_bits unit) is says.width, eq-eqb (time_bits unit) (time_bits unit) refl) refl
+    rw (reads_scalar 2 table 0 1 (unit_number unit) is says.counted, unit_again unit, reads_scalar 4 table 1 32 (time_bits unit) is says.width, eq-eqb (time_bits unit) (time_bits unit) refl) refl
 
 -- the table of a duration
 

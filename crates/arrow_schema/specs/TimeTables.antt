@@ -36,10 +36,10 @@ is_zone (Some name) = nat_lt 0 (length name)
 
 -- a Timestamp table: its unit, SECOND (0) by default, and a zone or none
 pub record SaysTimestamp (table : TableAt) (unit : TimeUnit) (zoned : Bool) : Type 0 where
-  pub unit : HasScalar 2 table 0 0 (unit_number unit)
+  pub counted : HasScalar 2 table 0 0 (unit_number unit)
   pub zone : Option (List ℕ)
   pub named : HasText table 1 zone
-  pub zoned : is_zone zone ≡ zoned
+  pub is : is_zone zone ≡ zoned
 
 -- what a Timestamp table says: its unit, and whether there is a zone
 unfoldable pub timestamp_of : TableAt → Result DataType Fault
@@ -62,7 +62,7 @@ time_bits unit = bit_width (time_integer unit)
 
 -- a Time table: its unit, MILLISECOND (1) by default, and the bits of that, 32 by default
 pub record SaysTime (table : TableAt) (unit : TimeUnit) : Type 0 where
-  pub unit : HasScalar 2 table 0 1 (unit_number unit)
+  pub counted : HasScalar 2 table 0 1 (unit_number unit)
   pub width : HasScalar 4 table 1 32 (time_bits unit)
 
 -- what a Time table says: its unit, in the bits of that

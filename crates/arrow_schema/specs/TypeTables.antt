@@ -77,7 +77,7 @@ integer_part integer = table_part (integer_slots integer)
 -- is the default
 pub record SaysDecimal (table : TableAt) (digits scale : ℕ) : Type 0 where
   pub precision : HasScalar 4 table 0 0 digits
-  pub scale : HasScalar 4 table 1 0 scale
+  pub places : HasScalar 4 table 1 0 scale
   pub width : HasScalar 4 table 2 128 128
   pub taken : IsNumber (Decimal digits scale)
 

@@ -95,7 +95,7 @@ fn time_unit(number: u64) -> Result<TimeUnit, Fault>
 
 // Whether there is a zone. An empty name is none.
 fn is_zone(zone: Option<&str>) -> bool
-    ensures { result ≡ is_zone (option_map (λ name. name.now) zone) }
+    ensures { result ≡ is_zone (option_map (λ name. name.now) zone.entry) }
 {
     match zone {
         Some(name) => !name.is_empty(),
@@ -227,7 +227,7 @@ fn unit_number(unit: TimeUnit) -> u64
 }
 
 // The table of a timestamp. A zone is UTC.
-#[tactic(auto, using(crate::proofs::TypeTables::fits_timestamp))]
+#[tactic(auto, using(crate::proofs::TypeTables::zones))]
 fn timestamp_block(builder: &Builder, unit: TimeUnit, zoned: bool) -> Result<Block, AllocError>
     ensures { IfOk result (λ block. block ≡ table_part (timestamp_slots unit zoned)) }
 {

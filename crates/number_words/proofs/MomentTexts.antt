@@ -1,5 +1,5 @@
 -- The text of a timestamp reads back.
-use Rattle.std.proofs.Common.{◌≡◌, ℕ, ◌+◌, ◌-◌, ◌*◌, ◌/◌, ◌%◌, ◌<◌, ◌&&◌, ◌==◌, Bool, true, false, if◌then◌else◌, List, [], ◌∷◌, ◌++◌, append_assoc, append-nil, length, take, slice_index, nat_le, IsTrue, Option, Some, None, option_map, ℤ, pos, ◌≤ℤ◌, ◌+ℤ◌, ◌*ℤ◌, unsigned_abs, refl, sym, ap, ◌∙◌, arith}
+use Rattle.std.proofs.Common.{◌≡◌, ℕ, ◌+◌, ◌-◌, ◌*◌, ◌/◌, ◌%◌, ◌<◌, ◌&&◌, Bool, true, false, if◌then◌else◌, List, [], ◌∷◌, ◌++◌, append_assoc, append-nil, length, take, slice_index, nat_le, IsTrue, Option, Some, None, option_map, ℤ, pos, negsuc, ◌≤ℤ◌, ◌+ℤ◌, ◌*ℤ◌, unsigned_abs, refl, ap, ◌∙◌, arith}
 use Rattle.std.specs.Char.{is_ascii_digit}
 use Rattle.std.specs.Int.{int_div_euclid, int_rem_euclid}
 use Rattle.std.specs.Str.{byte}
@@ -10,8 +10,8 @@ use Rattle.arrow_types.specs.declared.data_type.TimeUnit.{TimeUnit}
 use Rattle.arrow_types.specs.declared.data_type.TimeUnit.TheVariants.{Second, Millisecond, Microsecond, Nanosecond}
 use Rattle.number_words.specs.Dates.{day_in, two_digits}
 use Rattle.number_words.specs.DateText.{date_text, date_of, date_within, has_date, DayReadsBack}
-use Rattle.number_words.specs.Moments.{is_clock_form, seconds_of, clock_in, is_fraction_form, three_digits, fraction_in, moment_of, moment_in, ends_with_zone, stamp_in, nanos_in, whole_in, in_unit, timestamp_in, time_in, time_said}
-use Rattle.number_words.specs.MomentText.{in_three_digits, clock_text, millis_text, micros_text, nanos_text, time_text, per_day, is_time, day_at, time_at, zone_text, timestamp_text, timestamp_within}
+use Rattle.number_words.specs.Moments.{is_clock_form, seconds_of, clock_in, is_fraction_form, three_digits, fraction_in, moment_of, moment_in, stamp_in, nanos_in, whole_in, in_unit, timestamp_in, time_in, time_said}
+use Rattle.number_words.specs.MomentText.{clock_text, millis_text, micros_text, nanos_text, time_text, per_day, is_time, day_at, time_at, zone_text, timestamp_text, timestamp_within}
 use Rattle.number_words.proofs.Parts.{from_to-parts}
 use Rattle.number_words.proofs.Texts.{all, digit_stands, said, two_stand_there}
 
@@ -187,17 +187,19 @@ time_back unit t low =
     ∙ ap (λ (nanos : ℕ). Some (pos 0 *ℤ pos 86400000000000 +ℤ pos nanos)) parts.all
     ∙ ap Some (omega (arith, signed_arith))
 
+-- a number that is not below 0 is a natural one
+natural : (n : ℤ) → pos 0 ≤ℤ n → pos (unsigned_abs n) ≡ n
+natural (pos k) low = refl
+natural (negsuc k) low = absurd (omega (arith, signed_arith))
+
 natural_is : (unit : TimeUnit) (n : ℤ) → pos 0 ≤ℤ n → pos (unsigned_abs n * nanos_in unit) ≡ n *ℤ pos (nanos_in unit)
-natural_is Second n low = omega (arith, signed_arith)
-natural_is Millisecond n low = omega (arith, signed_arith)
-natural_is Microsecond n low = omega (arith, signed_arith)
-natural_is Nanosecond n low = omega (arith, signed_arith)
+natural_is unit n low = ap (λ (m : ℤ). m *ℤ pos (nanos_in unit)) (natural n low)
 
 natural_low : (unit : TimeUnit) (n : ℤ) → (pos 0 ≤ℤ n) × (n ≤ℤ pos (per_day unit - 1)) → unsigned_abs n < per_day unit
-natural_low Second n ends = omega (arith, signed_arith, ends.0, ends.1)
-natural_low Millisecond n ends = omega (arith, signed_arith, ends.0, ends.1)
-natural_low Microsecond n ends = omega (arith, signed_arith, ends.0, ends.1)
-natural_low Nanosecond n ends = omega (arith, signed_arith, ends.0, ends.1)
+natural_low Second n ends = omega (arith, signed_arith, natural n ends.0, ends.1)
+natural_low Millisecond n ends = omega (arith, signed_arith, natural n ends.0, ends.1)
+natural_low Microsecond n ends = omega (arith, signed_arith, natural n ends.0, ends.1)
+natural_low Nanosecond n ends = omega (arith, signed_arith, natural n ends.0, ends.1)
 
 -- a time of a day is below a day
 pub natural_in : (unit : TimeUnit) (n : ℤ) → IsTrue (is_time unit n) → unsigned_abs n < per_day unit
@@ -240,6 +242,10 @@ timestamp_back unit zoned n day is =
     ∙ whole_unit unit n (n *ℤ pos (nanos_in unit)) refl
 
 -- ---- what is printed
+
+-- a clock and a fraction, one after the other
+pub then_fraction : (old clock fraction middle new : List ℕ) → middle ≡ old ++ clock → new ≡ middle ++ fraction → new ≡ old ++ (clock ++ fraction)
+then_fraction old clock fraction middle new m n = n ∙ ap (λ (b : List ℕ). b ++ fraction) m ∙ append_assoc old clock fraction
 
 with_time : (b : Bool) (text whole rest : List ℕ) → Some text ≡ (if b then Some whole else None) → Some (text ++ rest) ≡ (if b then Some (whole ++ rest) else None)
 with_time true text whole rest is = ap (option_map (λ (day : List ℕ). day ++ rest)) is

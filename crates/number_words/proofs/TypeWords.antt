@@ -1,9 +1,11 @@
 -- The words of types.
-use Rattle.std.proofs.Common.{◌≡◌, ◌≢◌, ◌==◌, ◌&&◌, ◌+◌, ◌/◌, ◌%◌, ◌<◌, ◌++◌, ℕ, true, false, if◌then◌else◌, List, [], ◌∷◌, codes, length, get_or, refl, arith}
+use Rattle.std.proofs.Common.{◌≡◌, ◌≢◌, ◌==◌, ◌&&◌, ◌+◌, ◌/◌, ◌%◌, ◌<◌, ◌∙◌, ◌++◌, ℕ, true, false, if◌then◌else◌, List, [], ◌∷◌, codes, length, get_or, ap, inl, inr, refl, arith}
 use Rattle.std.specs.Prelude.{◌||◌, Bool, nat_le, nat_lt}
 use Rattle.std.specs.Char.{is_ascii_digit}
 use Rattle.std.specs.List.{list_all}
 use Rattle.std.specs.Str.{byte}
+use Rattle.std.proofs.lemmas.Bool.{cases_lt}
+use Rattle.std.proofs.lemmas.List.{get_or_default}
 use Rattle.arrow_types.specs.declared.data_type.IntegerType.TheVariants.{Int8, Int16, Int32, Int64, UInt8, UInt16, UInt32, UInt64}
 use Rattle.arrow_types.specs.declared.data_type.NumberType.{NumberType}
 use Rattle.arrow_types.specs.declared.data_type.NumberType.TheVariants.{Integer, Decimal, Date, Timestamp, Time, Duration, Float}
@@ -71,6 +73,14 @@ plain_word (Duration Microsecond) = refl
 plain_word (Duration Nanosecond) = refl
 plain_word (Float Single) = refl
 plain_word (Float Double) = refl
+
+-- if none of the first types has the word, and the next has another, then none of one more has it
+pub one_more : (types : List NumberType) (text : List ℕ) (i : ℕ) (first : NumberType) → i < length types → ((k : ℕ) (d : NumberType) → k < i → text ≢ word (get_or types k d))
+    → text ≢ word (get_or types i first) → (k : ℕ) (d : NumberType) → k < i + 1 → text ≢ word (get_or types k d)
+one_more types text i first low before next k d less = elim (cases_lt k i) [
+  | inl lower ↦ before k d lower
+  | inr reached ↦ let same : k ≡ i = omega arith in λ h. next (h ∙ ap word (ap (λ (n : ℕ). get_or types n d) same ∙ get_or_default types i d first low))
+]
 
 -- a text that is the word of none of them, and of no decimals, is that of no type
 pub none_named : (text : List ℕ) → ((k : ℕ) (d : NumberType) → k < length TYPES → text ≢ word (get_or TYPES k d)) →

@@ -72,7 +72,7 @@ abbrev pub timestamp_text : TimeUnit → Bool → ℤ → List ℕ
 timestamp_text unit zoned number = (date_of (day_at unit number)
     ++ (byte " " ∷ time_text unit (time_at unit number))) ++ zone_text zoned
 
--- the same, where its day is of the years 1 to 9999
+-- the text of a timestamp, where its day is of the years 1 to 9999
 abbrev pub timestamp_within : TimeUnit → Bool → ℤ → Option (List ℕ)
 timestamp_within unit zoned number =
     if has_date (day_at unit number) then Some (timestamp_text unit zoned number) else None

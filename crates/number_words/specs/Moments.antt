@@ -60,7 +60,8 @@ moment_of _ _ _ = None
 abbrev pub has_time : List ℕ → Bool
 has_time text = nat_le 19 (length text) && (slice_index text 10 == byte " ")
 
--- the same to the moment that a text says: a date, a space, a clock and a fraction
+-- the nanoseconds from 1970-01-01 00:00:00 to the moment that a text says: a date, a space, a clock
+-- and a fraction
 unfoldable pub moment_in : List ℕ → Option ℤ
 moment_in text = if has_time text
     then moment_of (day_in (take 10 text)) (clock_in (slice_range text 11 19))
@@ -132,7 +133,7 @@ abbrev pub moment_zeptos : List ℕ → Option ℤ
 moment_zeptos text = if nat_le (length text) 29 then zeptos_of (moment_in text) (Some 0)
     else zeptos_of (moment_in (take 29 text)) (more_in (drop 28 text))
 
--- the same of the text of a literal, which may end with Z
+-- the zeptoseconds from then to the moment that the text of a literal says, which may end with Z
 abbrev pub zeptos_said : List ℕ → Option ℤ
 zeptos_said text = if ends_with_zone text then moment_zeptos (take (length text - 1) text)
     else moment_zeptos text

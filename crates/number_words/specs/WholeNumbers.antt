@@ -2,7 +2,6 @@
 use Rattle.std.specs.Prelude.{ℕ, ◌-◌, ◌^◌, ◌==◌, List, drop, slice_index, ℤ, pos, neg_ℤ, Bool}
 use Rattle.std.specs.Prelude.{Option, Some, None, option_map, if◌then◌else◌}
 use Rattle.std.specs.Str.{byte}
-use Rattle.arrow_types.specs.declared.data_type.IntegerType.{IntegerType}
 use Rattle.arrow_types.specs.declared.data_type.IntegerType.TheVariants.{Int8, Int16, Int32, Int64}
 use Rattle.arrow_types.specs.declared.data_type.IntegerType.TheVariants.{UInt8, UInt16, UInt32}
 use Rattle.arrow_types.specs.declared.data_type.IntegerType.TheVariants.{UInt64}

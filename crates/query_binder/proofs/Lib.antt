@@ -1,4 +1,5 @@
 pub mod Rows
+pub mod LeftLiterals
 pub mod Chains
 pub mod Found
 pub mod Outcomes

@@ -6,9 +6,8 @@ use Rattle.std.specs.List.{list_all, list_any}
 use Rattle.std.proofs.lemmas.Bool.{and_from, or_parts, eqb-true, eq-eqb, lt-ltb, ltb-true}
 use Rattle.std.proofs.lemmas.Option.{slice_get-map}
 use Rattle.std.proofs.Math.Numerals.{one-add}
-use Rattle.arrow_types.specs.declared.data_type.DataType.{DataType}
 use Rattle.arrow_types.specs.declared.data_type.DataType.TheVariants.{Utf8}
-use Rattle.arrow_types.specs.Answer.{answered_at, answered_from, answered_field}
+use Rattle.arrow_types.specs.Answer.{answered_at, answered_from}
 use Rattle.scan_base.specs.declared.fault.Fault.{Fault}
 use Rattle.scan_base.specs.declared.fault.Fault.TheVariants.{NotInSubset, TypeClash}
 use Rattle.sql_query.specs.declared.query.ColumnName.{ColumnName}

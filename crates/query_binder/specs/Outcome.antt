@@ -22,9 +22,11 @@ abbrev pub Finds : {X : Type 0} → Option Fault → (X → Type 0) → Result X
 Finds first IsFound (Ok x) = (first ≡ None) × IsFound x
 Finds first IsFound (Err fault) = first ≡ Some fault
 
--- a predicate's first fault from the left, or the predicate over numbers of columns, with its
--- literals next to columns
+-- the first fault of a settled predicate from the left, or it over numbers of columns
+abbrev pub BindsSettled : Scope → Pred Term → Result (Predicate ℕ) Fault → Type 0
+BindsSettled scope predicate = Binds (predicate_fault (class_of_term scope) predicate)
+    (λ bound. pred_of bound ≡ predicate_bind (term_operand scope) predicate)
+
+-- the same of a predicate as it is written, with its literals next to columns
 abbrev pub BindsPredicate : Scope → Pred Term → Result (Predicate ℕ) Fault → Type 0
-BindsPredicate scope predicate =
-    Binds (predicate_fault (class_of_term scope) (settled scope predicate))
-    (λ bound. pred_of bound ≡ predicate_bind (term_operand scope) (settled scope predicate))
+BindsPredicate scope predicate = BindsSettled scope (settled scope predicate)

@@ -2,20 +2,25 @@
 
 ghost use Rattle.std.specs.Prelude.{◌≡◌, IfOk, Ok, map};
 ghost use Rattle.scan_base.specs.Predicate.{truth_test, comparing, between, membership, null_test};
+ghost use Rattle.scan_base.specs.Predicate.{conjunction};
 ghost use Rattle.scan_base.specs.View.{pred_of};
 ghost use Rattle.typed_plan.specs.Class.{literal_value};
-ghost use Rattle.scan_base.specs.declared.comparison.Comparison.TheVariants.{Equal};
+ghost use Rattle.scan_base.specs.declared.comparison.Comparison.TheVariants.{LessOrEqual};
+ghost use Rattle.scan_base.specs.declared.comparison.Comparison.TheVariants.{GreaterOrEqual};
 ghost use Rattle.typed_plan.specs.Scope.{term_operand};
-ghost use Rattle.typed_plan.specs.SettledLiterals.{settled_operand as settled};
+ghost use Rattle.typed_plan.specs.SettledLiterals.{settled_item as settled, settled_range};
 ghost use Rattle.typed_plan.specs.Faults.{operand_class, compare_fault, items_fault, fault_in};
 ghost use Rattle.query_binder.specs.NameClasses.{class_of_name, class_of_term};
 ghost use Rattle.typed_plan.specs.NumberedPredicates.{operand_bind};
 ghost use Rattle.query_binder.specs.Chain.{connected};
-ghost use Rattle.query_binder.specs.Outcome.{Binds, BindsPredicate};
+ghost use Rattle.query_binder.specs.Outcome.{Binds, BindsSettled, BindsPredicate};
 
 use crate::chain::{ChainLink, Connective, first_of};
-use crate::literals::{settled_operand, settled_or, turned};
+use crate::literals::{
+    first_type, is_untyped, operand_by, settled_item, settled_operand, settled_or, turned,
+};
 use crate::scope::Scope;
+use arrow_types::DataType;
 use scan_base::{Comparison, Fault, Items, Operand, Predicate, Truth, Value};
 use sql_query::{ColumnName, Literal, Term};
 use std::alloc::{AllocError, Global};
@@ -93,10 +98,12 @@ fn number_operand(scope: &Scope<'_>, operand: &Operand<Term>) -> Result<Operand<
     }
 }
 
-// What the items of an IN are compared with: an operand, and its class.
+// What the items of an IN are compared with: an operand, its class, and the type of the first
+// column among the items.
 #[derive(Clone, Copy)]
 struct LeftSide<'a> {
     class: Class,
+    beside: Option<DataType>,
     operand: &'a Operand<Term>,
 }
 
@@ -108,13 +115,13 @@ fn number_items(
     items: &[Operand<Term>],
 ) -> Result<Items<Operand<usize>>, Fault>
     ensures { Binds (items_fault (class_of_term scope.now) (Ok left.entry.class)
-        (map (settled scope.now Equal left.entry.operand.now) items.now))
+        (map (settled scope.now left.entry.beside left.entry.operand.now) items.now))
         (λ bound. bound ≡ map (operand_bind (term_operand scope.now))
-        (map (settled scope.now Equal left.entry.operand.now) items.now)) result }
+        (map (settled scope.now left.entry.beside left.entry.operand.now) items.now)) result }
 {
     let mut bound = Items::new(alloc);
     for item in items {
-        let settled = settled_operand(scope, Comparison::Equal, left.operand, item);
+        let settled = settled_item(scope, left.beside, left.operand, item);
         let item = settled_or(&settled, item);
         agree(left.class, operand_class(scope, item))?;
         bound.push(number_operand(scope, item)?)?;
@@ -143,29 +150,68 @@ fn number_comparison(
     })
 }
 
-// `operand BETWEEN low AND high`: the operand, then each end's name and class.
-fn number_between(
-    scope: &Scope<'_>,
+// The parts of `operand BETWEEN low AND high`.
+#[derive(Clone, Copy)]
+struct RangeTest<'a> {
     negated: bool,
-    operand: &Operand<Term>,
-    low: &Operand<Term>,
-    high: &Operand<Term>,
-) -> Result<Predicate<usize>, Fault>
-    ensures { BindsPredicate scope.now (between negated operand.now low.now high.now) result }
+    operand: &'a Operand<Term>,
+    low: &'a Operand<Term>,
+    high: &'a Operand<Term>,
+}
+
+// `operand BETWEEN low AND high`, where the operand is a column or has a type.
+fn number_range(scope: &Scope<'_>, test: RangeTest<'_>) -> Result<Predicate<usize>, Fault>
+    ensures { BindsSettled scope.now (settled_range scope.now test.entry.negated
+        test.entry.operand.now test.entry.low.now test.entry.high.now) result }
 {
-    let low_settled = settled_operand(scope, Comparison::GreaterOrEqual, operand, low);
-    let high_settled = settled_operand(scope, Comparison::LessOrEqual, operand, high);
-    let low = settled_or(&low_settled, low);
-    let high = settled_or(&high_settled, high);
-    let class = operand_class(scope, operand)?;
+    let low_settled = settled_operand(scope, Comparison::GreaterOrEqual, test.operand, test.low);
+    let high_settled = settled_operand(scope, Comparison::LessOrEqual, test.operand, test.high);
+    let low = settled_or(&low_settled, test.low);
+    let high = settled_or(&high_settled, test.high);
+    let class = operand_class(scope, test.operand)?;
     agree(class, operand_class(scope, low))?;
     agree(class, operand_class(scope, high))?;
     Ok(Predicate::Between {
-        negated,
-        operand: number_operand(scope, operand)?,
+        negated: test.negated,
+        operand: number_operand(scope, test.operand)?,
         low: number_operand(scope, low)?,
         high: number_operand(scope, high)?,
     })
+}
+
+// `operand >= low AND operand <= high`.
+fn number_ends(
+    alloc: Global,
+    scope: &Scope<'_>,
+    test: RangeTest<'_>,
+) -> Result<Predicate<usize>, Fault>
+    ensures { BindsPredicate scope.now (conjunction
+        (comparing GreaterOrEqual test.entry.operand.now test.entry.low.now)
+        (comparing LessOrEqual test.entry.operand.now test.entry.high.now)) result }
+{
+    let low = number_comparison(scope, Comparison::GreaterOrEqual, test.operand, test.low)?;
+    let high = number_comparison(scope, Comparison::LessOrEqual, test.operand, test.high)?;
+    Ok(Connective::And.connect(alloc, low, high)?)
+}
+
+// `operand BETWEEN low AND high`: the operand, then each end's name and class.
+fn number_between(
+    alloc: Global,
+    scope: &Scope<'_>,
+    test: RangeTest<'_>,
+) -> Result<Predicate<usize>, Fault>
+    ensures { BindsPredicate scope.now (between test.entry.negated test.entry.operand.now
+        test.entry.low.now test.entry.high.now) result }
+{
+    if !is_untyped(test.operand) {
+        return number_range(scope, test);
+    }
+    let ends = number_ends(alloc, scope, test)?;
+    if test.negated {
+        Ok(Predicate::Not(Box::new(alloc, ends)?))
+    } else {
+        Ok(ends)
+    }
 }
 
 // `operand IN (items)`: the operand, then each item's name and class.
@@ -178,11 +224,19 @@ fn number_in(
 ) -> Result<Predicate<usize>, Fault>
     ensures { BindsPredicate scope.now (membership negated operand.now items.now) result }
 {
-    let class = operand_class(scope, operand)?;
-    let items = number_items(alloc, scope, LeftSide { class, operand }, items)?;
+    let beside = first_type(scope, items);
+    let settled = operand_by(beside, operand);
+    let left = settled_or(&settled, operand);
+    let class = operand_class(scope, left)?;
+    let side = LeftSide {
+        class,
+        beside,
+        operand,
+    };
+    let items = number_items(alloc, scope, side, items)?;
     Ok(Predicate::In {
         negated,
-        operand: number_operand(scope, operand)?,
+        operand: number_operand(scope, left)?,
         items,
     })
 }
@@ -229,7 +283,15 @@ pub(crate) fn number_predicate(
             operand,
             low,
             high,
-        } => number_between(scope, *negated, operand, low, high),
+        } => {
+            let test = RangeTest {
+                negated: *negated,
+                operand,
+                low,
+                high,
+            };
+            number_between(alloc, scope, test)
+        }
         Predicate::In {
             negated,
             operand,

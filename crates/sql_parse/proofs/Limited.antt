@@ -14,7 +14,7 @@ use Rattle.grammar.specs.Reading.{nullable}
 use Rattle.grammar.proofs.Rules.{solid_of}
 use Rattle.sql_parse.specs.Limits.{TallyAt, passes_from, passes}
 use Rattle.sql_parse.specs.Parse.{IsSentence}
-use Rattle.sql_parse.specs.Productions.{name, column, minus, unsigned, fraction, digits, date, number, string, literal, operand}
+use Rattle.sql_parse.specs.Productions.{name, column, minus, unsigned, fraction, digits, plain_literal, number, string, literal, operand}
 use Rattle.sql_parse.specs.Productions.{compare}
 use Rattle.sql_parse.specs.Notation.{Condition}
 use Rattle.sql_parse.specs.Productions.{negated}
@@ -39,12 +39,12 @@ use Rattle.sql_parse.proofs.Limiting.{IsShort, Fit, Fits, announces, all_fit, no
 
 filled : nullable factor ≡ false
 unfolding factor simple comparison_of range_of membership_of null_test_of literal operand column name string number minus
-    unsigned fraction digits date
+    unsigned fraction digits plain_literal
 filled = refl
 
 factor_ends : ends_apart kinds announces factor ≡ true
 unfolding factor simple comparison_of range_of membership_of null_test_of literal operand column name string number minus
-    unsigned fraction digits date compare negated conj pred truth_value same_word same_symbol
+    unsigned fraction digits plain_literal compare negated conj pred truth_value same_word same_symbol
 factor_ends = refl
 
 query_filled : nullable query ≡ false
@@ -53,7 +53,7 @@ query_filled = refl
 
 query_ends : ends_apart kinds announces query ≡ true
 unfolding query list item selection source ending filter group join equal place alias simple comparison_of range_of
-    membership_of null_test_of literal operand column name string number minus unsigned fraction digits date compare negated conj pred truth_value
+    membership_of null_test_of literal operand column name string number minus unsigned fraction digits plain_literal compare negated conj pred truth_value
     same_word same_symbol
 query_ends = refl
 

@@ -20,7 +20,7 @@ use Rattle.sql_query.specs.Sentence.{Sentence}
 use Rattle.grammar.specs.Rule.{both, either, many, make, Language, Spells, Any}
 use Rattle.sql_parse.specs.Parse.{IsSentence}
 use Rattle.sql_parse.specs.Notation.{Condition, Of, a_word, a_symbol, symbol_for, ◌⊳◌, ◌⊲◌, maybe, listed}
-use Rattle.sql_parse.specs.Productions.{name, column, minus, unsigned, fraction, digits, date, number, string, literal, operand}
+use Rattle.sql_parse.specs.Productions.{name, column, minus, unsigned, fraction, digits, plain_literal, number, string, literal, operand}
 use Rattle.sql_parse.specs.Productions.{compare}
 use Rattle.sql_parse.specs.Productions.{negated}
 use Rattle.sql_parse.specs.PredicateProductions.{conj, pred, comparison_of, range_of, membership_of}
@@ -192,11 +192,11 @@ module _ (D : Language Mark Condition) where
   -- ---- predicates
 
   operand_silent : Silent steps_at D operand
-  unfolding literal operand column name string number minus unsigned fraction digits date same_word same_symbol
+  unfolding literal operand column name string number minus unsigned fraction digits plain_literal same_word same_symbol
   operand_silent = silent operand refl
 
   says_comparison : Steps comparison_of condition_steps
-  unfolding comparison_of literal operand column name string number minus unsigned fraction digits date compare same_word same_symbol
+  unfolding comparison_of literal operand column name string number minus unsigned fraction digits plain_literal compare same_word same_symbol
   says_comparison =
       gathers_make steps_at D
       (λ (p : Operand Term × (Comparison × Operand Term)). comparing p.1.0 p.0 p.1.1)
@@ -207,14 +207,14 @@ module _ (D : Language Mark Condition) where
   range = both operand (both negated (a_word word.Between ⊳ both operand (a_word word.And ⊳ operand)))
 
   says_range : Steps range_of condition_steps
-  unfolding range_of literal operand column name string number minus unsigned fraction digits date negated same_word same_symbol
+  unfolding range_of literal operand column name string number minus unsigned fraction digits plain_literal negated same_word same_symbol
   says_range =
       gathers_make steps_at D
       (λ (p : Operand Term × (Bool × (Operand Term × Operand Term))).
       between p.1.0 p.0 p.1.1.0 p.1.1.1) range (λ v. []) condition_steps (silent range refl) (λ p. refl)
 
   says_null_test : Steps null_test_of condition_steps
-  unfolding null_test_of literal operand column name string number minus unsigned fraction digits date negated same_word same_symbol
+  unfolding null_test_of literal operand column name string number minus unsigned fraction digits plain_literal negated same_word same_symbol
   says_null_test =
       gathers_make steps_at D (λ (p : Operand Term × Bool). null_test p.1 p.0)
       (both operand (a_word word.Is ⊳ negated ⊲ a_word word.Null)) (λ v. []) condition_steps
@@ -402,7 +402,7 @@ module _ (D : Language Mark Condition) (deep : Gathers places_at D (λ v. [])) w
 
   factor_silent : Silent places_at D factor
   unfolding factor simple comparison_of range_of membership_of null_test_of literal operand column name string number minus
-      unsigned fraction digits date compare negated conj pred truth_value same_word same_symbol
+      unsigned fraction digits plain_literal compare negated conj pred truth_value same_word same_symbol
   factor_silent = no_place factor refl
 
   selecting_silent : Silent places_at D (a_word word.Select ⊳ list)

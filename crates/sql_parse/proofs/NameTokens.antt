@@ -31,7 +31,7 @@ use Rattle.sql_parse.specs.SentenceLimits.{equality_names, join_names, operand_n
 use Rattle.sql_parse.specs.SentenceLimits.{sentence_names}
 use Rattle.sql_parse.specs.Parse.{IsSentence}
 use Rattle.sql_parse.specs.Notation.{Condition, Of, a_word, a_symbol, word_for, symbol_for, ◌⊳◌, ◌⊲◌, maybe, listed}
-use Rattle.sql_parse.specs.Productions.{name, column_name, column, minus, unsigned, fraction, digits, date, number}
+use Rattle.sql_parse.specs.Productions.{name, column_name, column, minus, unsigned, fraction, digits, plain_literal, number}
 use Rattle.sql_parse.specs.Productions.{string, literal, operand, compare}
 use Rattle.sql_parse.specs.Productions.{negated}
 use Rattle.sql_parse.specs.PredicateProductions.{pred, comparison_of, range_of, membership_of}
@@ -128,7 +128,7 @@ module _ (D : Language Mark Condition) where
   -- ---- operands
 
   literal_silent : Silent names_at D literal
-  unfolding literal date string number minus unsigned fraction digits same_word same_symbol
+  unfolding literal plain_literal string number minus unsigned fraction digits same_word same_symbol
   literal_silent = silent literal refl
 
   says_operand : Names operand operand_names

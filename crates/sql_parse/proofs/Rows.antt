@@ -40,7 +40,7 @@ use Rattle.sql_parse.specs.QuerySteps.{whole_at, ended}
 use Rattle.sql_parse.specs.FactoredGrammar.{compared, nulled, ranged, among, tail, forms, primary, test, factor_by_operand}
 use Rattle.sql_parse.specs.Limits.{counted, is_past, is_long_name, passes}
 use Rattle.sql_parse.specs.Parse.{IsSentence, IsShallow, fault_or, Refuses, Answered, Parsed}
-use Rattle.sql_parse.specs.Productions.{name, column, minus, unsigned, fraction, digits, date, number, string, literal, operand}
+use Rattle.sql_parse.specs.Productions.{name, column, minus, unsigned, fraction, digits, plain_literal, number, string, literal, operand}
 use Rattle.sql_parse.specs.Productions.{compare, negated}
 use Rattle.sql_parse.specs.PredicateProductions.{conj}
 use Rattle.sql_parse.specs.PredicateProductions.{pred, truth_value}
@@ -85,7 +85,7 @@ answer_of end (Ok lexemes) = answered end (map mark_of lexemes) (outcome (map ma
 
 answer : List ℕ → Result Sentence Fault
 unfolding plain_tokens_in tokens_in tokens_from tokens_within front_at mark_front pair single word_kind number_of unquoted same_word
-    same_symbol begins token seen counted is_past is_long_name passes name column minus unsigned fraction digits date number string literal operand
+    same_symbol begins token seen counted is_past is_long_name passes name column minus unsigned fraction digits plain_literal number string literal operand
     compare negated conj pred truth_value alias selection item list place equal join group filter source ending query
     compared nulled ranged among tail forms primary test factor_by_operand
 answer text = answer_of (length text) (tokens_in text)

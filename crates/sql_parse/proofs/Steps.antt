@@ -1,7 +1,7 @@
 -- Reading by the grammar is these steps.
 use Rattle.std.proofs.Common.{◌≡◌, ℕ, zero, suc, ◌-◌, Bool, true, false, cond, List, [], ◌∷◌, ◌++◌, Option, Some}
 use Rattle.std.proofs.Common.{None, Ok, Err, refl, ◌∙◌, ap, sym, append_assoc, arith, append-nil}
-use Rattle.std.specs.Prelude.{◌==◌, ℤ}
+use Rattle.std.specs.Prelude.{◌==◌}
 use Rattle.sql_text.specs.Values.{number_of}
 use Rattle.std.proofs.lemmas.Bool.{ne_eqb}
 use Rattle.jiff_core.specs.Calendar.{days_from_civil, day_count, days_of_years, days_of_months}
@@ -14,14 +14,15 @@ use Rattle.grammar.specs.Reading.{starts}
 use Rattle.grammar.proofs.Determined.{well_made}
 use Rattle.sql_text.specs.Words.{is_name}
 use Rattle.sql_text.specs.Values.{unquoted}
-use Rattle.sql_parse.specs.Tokens.{Mark, is_word, is_symbol, same_word, same_symbol, date_token}
+use Rattle.sql_parse.specs.Tokens.{Mark, is_word, is_symbol, same_word, same_symbol}
 use Rattle.sql_parse.specs.Answers.{Answer, seen, ◌>>=◌}
 use Rattle.scan_base.specs.declared.predicate.Operand.{Operand}
 use Rattle.scan_base.specs.Predicate.{conjunction, disjunction, negation}
 use Rattle.grammar.specs.Rule.{many, make}
 use Rattle.grammar.proofs.Deep.{flat_alike}
 use Rattle.sql_query.specs.declared.query.Term.{Term}
-use Rattle.sql_parse.specs.Productions.{name, column, minus, unsigned, fraction, digits, literal_after, date, number, string, literal, operand}
+use Rattle.sql_parse.specs.Productions.{name, column, minus, unsigned, fraction, digits, number, string, literal, operand}
+use Rattle.sql_parse.specs.Productions.{literal_words, literal_after, worded_literal, plain_literal}
 use Rattle.sql_parse.specs.Productions.{compare}
 use Rattle.sql_parse.specs.Notation.{Condition}
 use Rattle.sql_parse.specs.Productions.{negated}
@@ -29,7 +30,7 @@ use Rattle.sql_parse.specs.PredicateProductions.{truth_value, conj, pred, inner}
 use Rattle.sql_parse.specs.Notation.{a_word, a_symbol, ◌⊳◌, ◌⊲◌}
 use Rattle.sql_parse.specs.FactoredGrammar.{compared, nulled, ranged, among, tail, forms, primary, test, factor_by_operand}
 use Rattle.sql_parse.specs.Steps.{at, token_at, name_at, column_at, minus_at, given, digits_at, fraction_at, unsigned_at, literal_after_at, number_at}
-use Rattle.sql_parse.specs.Steps.{literal_at, operand_at, compare_at}
+use Rattle.sql_parse.specs.Steps.{plain_literal_at, word_at, literal_by, literal_at, operand_at, compare_at}
 use Rattle.sql_parse.specs.PredicateSteps.{negated_at, truth_at, compared_at, nulled_at, ranged_at}
 use Rattle.sql_parse.specs.PredicateSteps.{operands_at, among_at, tail_at, factor_at, ands_at, conj_at, ors_at, pred_at}
 use Rattle.sql_parse.specs.PredicateSteps.{inside_at, form_at, primary_at, tested_at, test_at, negation_at}
@@ -91,15 +92,6 @@ then_same : {A : Type 0} (o : Answer A) → (o >>= λ p. Ok (p.0, p.1)) ≡ o
 then_same (Ok p) = refl
 then_same (Err e) = refl
 
-literal_after_same : (before : Keyword) (D : Nest) (t : Mark) (ts : List Mark) →
-    seen (reads D (literal_after before t) ts) ≡ literal_after_at before ts
-unfolding literal_after_at token_at
-literal_after_same before D t ts = simp (flat, seen_kept, then_same)
-
-date_same : (D : Nest) (ts : List Mark) → seen (reads D date ts) ≡ literal_after_at word.Date ts
-unfolding date
-date_same D ts = literal_after_same word.Date D date_token ts
-
 fraction_same : (D : Nest) (ts : List Mark) → seen (reads D fraction ts) ≡ fraction_at ts
 unfolding fraction fraction_at token_at
 fraction_same D ts = simp (flat, seen_kept)
@@ -116,13 +108,30 @@ pub column_starts : (ts : List Mark) → begins (starts column) ts ≡ at is_nam
 unfolding column name at
 column_starts ts = refl
 
-date_starts : (ts : List Mark) → begins (starts date) ts ≡ at (is_word word.Date) ts
-unfolding date at
-date_starts ts = refl
+plain_same : (D : Nest) (ts : List Mark) → seen (reads D plain_literal ts) ≡ plain_literal_at ts
+unfolding plain_literal plain_literal_at token_at at string
+plain_same D ts = simp (flat, number_same)
+
+row_starts : (row : Keyword × List ℕ) (ts : List Mark) →
+    begins (starts (literal_after row)) ts ≡ at (is_word row.0) ts
+unfolding at
+row_starts row ts = refl
+
+literal_by_cond : (b : Bool) (before : Keyword) (others : Option Keyword) (ts : List Mark) →
+    literal_by (cond b (Some before) others) ts ≡ cond b (literal_after_at before ts) (literal_by others ts)
+literal_by_cond true before others ts = refl
+literal_by_cond false before others ts = refl
+
+worded_same : (rows : List (Keyword × List ℕ)) (D : Nest) (ts : List Mark) →
+    seen (reads D (worded_literal rows plain_literal) ts) ≡ literal_by (word_at rows ts) ts
+unfolding literal_after_at token_at
+worded_same [] D ts = plain_same D ts
+worded_same (row ∷ rows) D ts =
+    simp (flat, row_starts, seen_kept, then_same, literal_by_cond, worded_same rows D ts)
 
 literal_same : (D : Nest) (ts : List Mark) → seen (reads D literal ts) ≡ literal_at ts
-unfolding literal literal_at literal_after_at token_at at string
-literal_same D ts = simp (flat, date_starts, date_same, seen_kept, then_same, number_same)
+unfolding literal literal_at
+literal_same D ts = worded_same literal_words D ts
 
 pub operand_same : (D : Nest) (ts : List Mark) → seen (reads D operand ts) ≡ operand_at ts
 unfolding operand operand_at
@@ -170,7 +179,7 @@ unfolding among at
 among_starts ts = refl
 
 among_flat : (D : Nest) (ts : List Mark) → reads D among ts ≡ reads None among ts
-unfolding among literal operand column name number minus unsigned fraction digits date string
+unfolding among literal operand column name number minus unsigned fraction digits plain_literal string
 among_flat D ts = flat_alike D None among refl ts
 
 among_first : (n : Bool) (a : Operand Term) (ts : List Mark) →
@@ -274,13 +283,13 @@ pub nil_after : {A : Type 0} (xs ys : List A) (x : A) → (xs ++ x ∷ []) ++ ys
 nil_after xs ys x = append_assoc xs (x ∷ []) ys
 
 operand_made : well_made (a_symbol symbol.Comma ⊳ operand) ≡ true
-unfolding literal operand column name number minus unsigned fraction digits date string same_symbol same_word number_of unquoted days_from_civil day_count days_of_years days_of_months
+unfolding literal operand column name number minus unsigned fraction digits plain_literal string same_symbol same_word number_of unquoted days_from_civil day_count days_of_years days_of_months
     clock_in fraction_in moment_in time_in
 operand_made = refl
 
 operands_flat : (D : Nest) (ts : List Mark) →
     reads D (many (a_symbol symbol.Comma ⊳ operand)) ts ≡ reads None (many (a_symbol symbol.Comma ⊳ operand)) ts
-unfolding literal operand column name number minus unsigned fraction digits date string
+unfolding literal operand column name number minus unsigned fraction digits plain_literal string
 operands_flat D ts = flat_alike D None (many (a_symbol symbol.Comma ⊳ operand)) refl ts
 
 pub operands_step : (front : List (Operand Term)) (ts : List Mark) →

@@ -1,5 +1,6 @@
 -- The grammar of predicates, production by production.
 use Rattle.std.specs.Prelude.{Bool, [], ◌∷◌, Option, Some, None}
+use Rattle.std.specs.List.{list_any}
 use Rattle.scan_base.specs.declared.truth.Truth.{Truth}
 use Rattle.scan_base.specs.declared.truth.Truth.TheVariants as truth
 use Rattle.scan_base.specs.Predicate.{conjunction, disjunction, negation, truth_test, comparing}
@@ -13,14 +14,18 @@ use Rattle.sql_parse.specs.Tokens.{is_word, is_symbol, is_string, is_digits, wor
 use Rattle.sql_parse.specs.Tokens.{symbol_token}
 use Rattle.sql_parse.specs.Notation.{Condition, Of, a_word, a_symbol, word_for, ◌⊳◌}
 use Rattle.sql_parse.specs.Notation.{◌⊲◌, maybe, listed, joined, is_one_of}
-use Rattle.sql_parse.specs.Productions.{operand, compare, negated}
+use Rattle.sql_parse.specs.Productions.{literal_words, operand, compare, negated}
+
+-- a word that begins a literal
+abbrev pub begins_literal : TokenKind → Bool
+begins_literal k = list_any (λ row. is_word row.0 k) literal_words
 
 -- what begins a factor
 abbrev pub begins_factor : TokenKind → Bool
 begins_factor = is_one_of
     (is_name ∷ is_symbol symbol.Plus ∷ is_symbol symbol.Minus ∷ is_digits ∷ is_string ∷
-    is_word word.True ∷ is_word word.False ∷ is_word word.Date ∷ is_symbol symbol.LeftParenthesis
-    ∷ is_word word.Not ∷ is_word word.Timestamp ∷ is_word word.Time ∷ [])
+    is_word word.True ∷ is_word word.False ∷ begins_literal ∷ is_symbol symbol.LeftParenthesis
+    ∷ is_word word.Not ∷ [])
 
 -- a factor within a factor
 abbrev pub inner : Of Condition

@@ -1,6 +1,7 @@
 -- The grammar of operands, production by production.
 use Rattle.std.specs.Prelude.{Bool, true, false, ℕ, ◌-◌, ◌^◌, ◌==◌, ℤ, pos, ◌-ℤ◌, neg_ℤ, List}
-use Rattle.std.specs.Prelude.{Option, Some, None, option_map, unwrap_or, if◌then◌else◌}
+use Rattle.std.specs.Prelude.{[], ◌∷◌, codes, Option, Some, None, option_map, unwrap_or}
+use Rattle.std.specs.Prelude.{if◌then◌else◌}
 use Rattle.arrow_types.specs.declared.data_type.NumberType.TheVariants.{Decimal, Date}
 use Rattle.scan_base.specs.declared.comparison.Comparison.{Comparison}
 use Rattle.scan_base.specs.declared.comparison.Comparison.TheVariants as comparison
@@ -20,9 +21,7 @@ use Rattle.number_words.specs.DecimalTexts.{parts_in}
 use Rattle.number_words.specs.NumberTexts.{number_read}
 use Rattle.number_words.specs.Moments.{time_zeptos, zeptos_said}
 use Rattle.sql_text.specs.Words.{is_name}
-use Rattle.sql_parse.specs.Tokens.{Mark, is_string, is_digits}
-use Rattle.sql_parse.specs.Tokens.{name_token, string_token, digits_token, date_token}
-use Rattle.sql_parse.specs.Tokens.{time_token, timestamp_token}
+use Rattle.sql_parse.specs.Tokens.{is_string, is_digits, name_token, string_token, digits_token}
 use Rattle.sql_text.specs.Calls.{said, numeral}
 use Rattle.sql_parse.specs.Notation.{Of, a_word, a_symbol, word_for, symbol_for, ◌⊳◌}
 use Rattle.sql_parse.specs.Notation.{maybe}
@@ -77,31 +76,41 @@ number = make (λ p. number_literal p.0 p.1.0 p.1.1) (both minus unsigned)
 
 -- a text in single quotes
 unfoldable pub string : Of (List ℕ)
-string = one is_string (λ t. Some (said t.0 t.1.1)) string_token
+string = one is_string (λ t. Some (said t.0 t.1.1)) (string_token (codes "''"))
 
--- the literal that a text says after a word
+-- the literal that a string says after this word, if it says one
 abbrev pub literal_said : Keyword → List ℕ → Option Literal
 literal_said word.Date text = option_map (Number Date) (number_read Date text)
 literal_said word.Timestamp text = option_map Timestamp (zeptos_said text)
 literal_said word.Time text = option_map Time (time_zeptos text)
 literal_said other text = None
 
--- a word and a string, where the string says a literal; and such a string
-abbrev pub literal_after : Keyword → Mark → Of Literal
-literal_after before token =
-    a_word before ⊳ one is_string (λ t. literal_said before (said t.0 t.1.1)) token
+-- the words that begin a literal, each with a string that may follow it
+abbrev pub literal_words : List (Keyword × List ℕ)
+literal_words =
+    (word.Date, codes "'1970-01-01'") ∷
+    (word.Timestamp, codes "'1970-01-01 00:00:00'") ∷
+    (word.Time, codes "'00:00:00'") ∷ []
 
--- DATE string, where the string is a date
-unfoldable pub date : Of Literal
-date = literal_after word.Date date_token
+-- the word of such a row, and a string that says a literal after it
+abbrev pub literal_after : Keyword × List ℕ → Of Literal
+literal_after row = a_word row.0
+    ⊳ one is_string (λ t. literal_said row.0 (said t.0 t.1.1)) (string_token row.1)
+
+-- one of these words and a string, or the other form
+abbrev pub worded_literal : List (Keyword × List ℕ) → Of Literal → Of Literal
+worded_literal [] other = other
+worded_literal (row ∷ rows) other = either (literal_after row) (worded_literal rows other)
+
+-- string | TRUE | FALSE | number
+unfoldable pub plain_literal : Of Literal
+plain_literal = either (make Text string)
+    (either (word_for word.True (Truth true)) (either (word_for word.False (Truth false))
+    number))
 
 -- DATE string | TIMESTAMP string | TIME string | string | TRUE | FALSE | number
 unfoldable pub literal : Of Literal
-literal = either date
-    (either (literal_after word.Timestamp timestamp_token)
-    (either (literal_after word.Time time_token) (either (make Text string)
-    (either (word_for word.True (Truth true)) (either (word_for word.False (Truth false))
-    number)))))
+literal = worded_literal literal_words plain_literal
 
 -- column | literal
 unfoldable pub operand : Of (Operand Term)

@@ -1,6 +1,6 @@
 -- Inside: what the parser of names, numbers and operands answers, step by step.
-use Rattle.std.specs.Prelude.{ℕ, Bool, true, false, if◌then◌else◌, List, length, Option}
-use Rattle.std.specs.Prelude.{Some, None, Ok, Err, ℤ}
+use Rattle.std.specs.Prelude.{ℕ, Bool, true, false, if◌then◌else◌, List, [], ◌∷◌, length}
+use Rattle.std.specs.Prelude.{Option, Some, None, Ok, Err, ℤ}
 use Rattle.scan_base.specs.declared.comparison.Comparison.{Comparison}
 use Rattle.scan_base.specs.declared.comparison.Comparison.TheVariants as comparison
 use Rattle.scan_base.specs.declared.predicate.Operand.{Operand}
@@ -21,7 +21,7 @@ use Rattle.sql_parse.specs.Tokens.{Mark, is_word, is_symbol, is_string, is_digit
 use Rattle.sql_parse.specs.Tokens.{number_in}
 use Rattle.sql_parse.specs.Answers.{Answer, seen, ◌>>=◌}
 use Rattle.number_words.specs.DecimalTexts.{parts_in}
-use Rattle.sql_parse.specs.Productions.{column_name, literal_said, number_literal}
+use Rattle.sql_parse.specs.Productions.{column_name, literal_said, literal_words, number_literal}
 
 unfoldable pub at : (TokenKind → Bool) → List Mark → Bool
 at p ts = begins p ts
@@ -87,18 +87,28 @@ literal_after_at before ts = do
   t ← token_at is_string w.1
   given (literal_said before (value_of t.0)) w.1 t.1
 
-unfoldable pub literal_at : List Mark → Answer Literal
-literal_at ts =
-    if at (is_word word.Date) ts then literal_after_at word.Date ts
-    else (if at (is_word word.Timestamp) ts then literal_after_at word.Timestamp ts
-    else (if at (is_word word.Time) ts then literal_after_at word.Time ts
-    else (if at is_string ts then (do
+unfoldable pub plain_literal_at : List Mark → Answer Literal
+plain_literal_at ts =
+    if at is_string ts then (do
       t ← token_at is_string ts
       Ok (Text (value_of t.0), t.1)) else (if at (is_word word.True) ts then (do
         t ← token_at (is_word word.True) ts
         Ok (Truth true, t.1)) else (if at (is_word word.False) ts then (do
           t ← token_at (is_word word.False) ts
-          Ok (Truth false, t.1)) else number_at ts)))))
+          Ok (Truth false, t.1)) else number_at ts))
+
+-- the first of these words that comes next
+abbrev pub word_at : List (Keyword × List ℕ) → List Mark → Option Keyword
+word_at [] ts = None
+word_at (row ∷ rows) ts = if at (is_word row.0) ts then Some row.0 else word_at rows ts
+
+-- a literal that begins with this word, or with none
+abbrev pub literal_by : Option Keyword → List Mark → Answer Literal
+literal_by (Some before) ts = literal_after_at before ts
+literal_by None ts = plain_literal_at ts
+
+unfoldable pub literal_at : List Mark → Answer Literal
+literal_at ts = literal_by (word_at literal_words ts) ts
 
 unfoldable pub operand_at : List Mark → Answer (Operand Term)
 operand_at ts =

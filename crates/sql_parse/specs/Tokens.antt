@@ -83,22 +83,10 @@ symbol_token symbol = (kind.Symbol symbol, (0, []))
 abbrev pub name_token : Mark
 name_token = (kind.Name, (0, codes "a"))
 
--- a token that is a text
-abbrev pub string_token : Mark
-string_token = (kind.String, (0, codes "''"))
+-- a token that is this text in single quotes
+abbrev pub string_token : List ℕ → Mark
+string_token text = (kind.String, (0, text))
 
 -- a token that is digits
 abbrev pub digits_token : Mark
 digits_token = (kind.Digits, (0, codes "0"))
-
--- a token that is the text of a date
-abbrev pub date_token : Mark
-date_token = (kind.String, (0, codes "'1970-01-01'"))
-
--- a token that is the text of a timestamp
-abbrev pub timestamp_token : Mark
-timestamp_token = (kind.String, (0, codes "'1970-01-01 00:00:00'"))
-
--- a token that is the text of a time of a day
-abbrev pub time_token : Mark
-time_token = (kind.String, (0, codes "'00:00:00'"))

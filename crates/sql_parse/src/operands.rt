@@ -3,7 +3,7 @@
 ghost use Rattle.std.specs.Prelude.{◌≡◌, ◌<◌, ◌≤◌, ◌^◌, ◌≤ℤ◌, pos, IfOk};
 ghost use Rattle.sql_parse.specs.Answers.{Gives};
 ghost use Rattle.sql_parse.specs.Calls.{unread, remaining};
-ghost use Rattle.sql_parse.specs.Productions.{literal_said, number_literal};
+ghost use Rattle.sql_parse.specs.Productions.{literal_said, literal_words, number_literal};
 ghost use Rattle.sql_parse.specs.Steps as steps;
 
 use crate::refusal::Refusal;
@@ -12,7 +12,7 @@ use arrow_types::{MOST_DIGITS, NumberType};
 use number_words::{parts_in, read, time_zeptos, zeptos_said};
 use scan_base::{Comparison, Operand, Text};
 use sql_query::{ColumnName, Literal, Term};
-use sql_text::{Keyword, Symbol};
+use sql_text::{Keyword, Symbol, TokenKind};
 use std::alloc::Global;
 
 // name
@@ -162,7 +162,7 @@ fn literal_after<'t>(
     }
 }
 
-// The literal that a text says after a word.
+// the literal that a string says after this word, if it says one
 fn literal_said(word: Keyword, text: &str) -> Option<Literal>
     ensures { result ≡ literal_said word text.now }
 {
@@ -174,19 +174,30 @@ fn literal_said(word: Keyword, text: &str) -> Option<Literal>
     }
 }
 
-// DATE string | TIMESTAMP string | TIME string | string | TRUE | FALSE | number
-#[tactic(auto, unfolding(crate::specs::Steps::literal_at))]
-fn literal<'t>(alloc: Global, tokens: Rest<'t>) -> Result<(Literal, Rest<'t>), Refusal>
-    ensures exact { Gives (λ x. (x.0, unread x.1)) result (steps.literal_at (unread tokens.entry)) }
+// the word that comes next, where it begins a literal
+#[tactic(auto, unfolding(crate::specs::Steps::at, grammar::specs::Reading::begins, crate::specs::Tokens::same_word))]
+fn literal_word<'t>(tokens: Rest<'t>) -> Option<Keyword>
+    ensures { result ≡ steps.word_at literal_words (unread tokens.entry) }
+{
+    match tokens.tokens {
+        [] => None,
+        [first, ..] => match first.kind {
+            TokenKind::Keyword(word @ (Keyword::Date | Keyword::Timestamp | Keyword::Time)) => {
+                Some(word)
+            }
+            _ => None,
+        },
+    }
+}
+
+// string | TRUE | FALSE | number
+#[tactic(auto, unfolding(crate::specs::Steps::plain_literal_at))]
+fn plain_literal<'t>(alloc: Global, tokens: Rest<'t>) -> Result<(Literal, Rest<'t>), Refusal>
+    ensures exact { Gives (λ x. (x.0, unread x.1)) result
+        (steps.plain_literal_at (unread tokens.entry)) }
     ensures shorter { IfOk result (λ x. remaining x.1 < remaining tokens.entry) }
 {
-    if tokens.at(Class::Word(Keyword::Date)) {
-        literal_after(alloc, tokens, Keyword::Date)
-    } else if tokens.at(Class::Word(Keyword::Timestamp)) {
-        literal_after(alloc, tokens, Keyword::Timestamp)
-    } else if tokens.at(Class::Word(Keyword::Time)) {
-        literal_after(alloc, tokens, Keyword::Time)
-    } else if tokens.at(Class::String) {
+    if tokens.at(Class::String) {
         let (token, rest) = tokens.take(Class::String)?;
         Ok((Literal::Text(token.value(alloc)?), rest))
     } else if tokens.at(Class::Word(Keyword::True)) {
@@ -197,6 +208,18 @@ fn literal<'t>(alloc: Global, tokens: Rest<'t>) -> Result<(Literal, Rest<'t>), R
         Ok((Literal::Truth(false), rest))
     } else {
         number(tokens)
+    }
+}
+
+// DATE string | TIMESTAMP string | TIME string | string | TRUE | FALSE | number
+#[tactic(auto, unfolding(crate::specs::Steps::literal_at))]
+fn literal<'t>(alloc: Global, tokens: Rest<'t>) -> Result<(Literal, Rest<'t>), Refusal>
+    ensures exact { Gives (λ x. (x.0, unread x.1)) result (steps.literal_at (unread tokens.entry)) }
+    ensures shorter { IfOk result (λ x. remaining x.1 < remaining tokens.entry) }
+{
+    match literal_word(tokens) {
+        Some(word) => literal_after(alloc, tokens, word),
+        None => plain_literal(alloc, tokens),
     }
 }
 

@@ -14,8 +14,10 @@ use Rattle.arrow_types.proofs.ScaledSteps.{rest_is, tens}
 use Rattle.scan_base.specs.declared.comparison.Comparison.{Comparison}
 use Rattle.scan_base.specs.declared.comparison.Comparison.TheVariants.{Equal, NotEqual, Less, LessOrEqual, Greater, GreaterOrEqual}
 use Rattle.scan_base.specs.Comparison.{satisfies}
-use Rattle.typed_plan.specs.SettledLiterals.{no_number, number_between, decimal_beside, DecimalsCompareExactly}
-use Rattle.typed_plan.proofs.ExactLiterals.{after, before, cases_of, less, more, same}
+use Rattle.typed_plan.specs.SettledLiterals.{no_number, number_between, decimal_beside, alike, turned, DecimalsCompareExactly}
+use Rattle.arrow_types.specs.declared.data_type.NumberType.TheVariants.{Decimal}
+use Rattle.sql_query.specs.declared.query.Literal.TheVariants as literal
+use Rattle.typed_plan.proofs.ExactLiterals.{after, before, cases_of, less, more, same, turned_is}
 
 -- a decimal stands to a bounded number as to the number
 bounded_cmp : (n q : ℤ) → neg_ℤ no_number <ℤ n → n <ℤ no_number → int_cmp n (bounded q) ≡ int_cmp n q
@@ -28,8 +30,9 @@ bounded_le n q low high h = grind (arith, ints)
 bounded_lt : (n q : ℤ) → neg_ℤ no_number <ℤ n → n <ℤ no_number → q <ℤ n → bounded q <ℤ n
 bounded_lt n q low high h = grind (arith, ints)
 
-pub decimals_compare : (comparison : Comparison) (scale : ℕ) (whole : ℤ) (part : ℕ) → DecimalsCompareExactly comparison scale whole part
-decimals_compare c scale whole part n low high =
+on_the_right : (comparison : Comparison) (scale : ℕ) (whole : ℤ) (part : ℕ) (n : ℤ) → neg_ℤ no_number <ℤ n → n <ℤ no_number →
+    satisfies comparison (int_cmp n (decimal_beside comparison scale whole part)) ≡ satisfies comparison (int_cmp (n *ℤ pos (step_of scale)) (all_parts whole part))
+on_the_right c scale whole part n low high =
     let step = step_of scale in
     let units = all_parts whole part in
     let q = int_div_euclid units (pos step) in
@@ -71,6 +74,13 @@ decimals_compare c scale whole part n low high =
     more_back : (x t : ℤ) → int_cmp x t ≡ ordering.Greater → t <ℤ x
     more_back x t e = grind (arith, ints)
 
+pub decimals_compare : (comparison : Comparison) (scale : ℕ) (whole : ℤ) (part : ℕ) → DecimalsCompareExactly comparison scale whole part
+decimals_compare c scale whole part n low high = (
+  on_the_right c scale whole part n low high,
+  sym (turned_is c n (decimal_beside (turned c) scale whole part)) ∙ on_the_right (turned c) scale whole part n low high
+      ∙ turned_is c (n *ℤ pos (step_of scale)) (all_parts whole part),
+)
+
 -- ---- worked rows: 12.505 next to a scale of 2
 
 abbrev half : ℕ
@@ -94,3 +104,14 @@ cent_below_0 = refl
 
 beyond_all : decimal_beside Less 10 (pos (10 ^ 37)) 0 ≡ no_number
 beyond_all = refl
+
+-- next to 12.5 on the left of IN, another fraction and the same one
+another_half : alike (Decimal 12 2) (literal.Fraction (pos 12) half) (literal.Fraction (pos 12) 1) ≡ literal.Number (Decimal 12 2) (pos 0)
+another_half = refl
+
+same_half : alike (Decimal 12 3) (literal.Fraction (pos 12) half) (literal.Fraction (pos 12) half) ≡ literal.Number (Decimal 12 3) (pos 12505)
+same_half = refl
+
+-- a whole number next to a fraction
+whole_beside_half : alike (Decimal 12 3) (literal.Fraction (pos 12) half) (literal.Number (Decimal 38 0) (pos 12505)) ≡ literal.Number (Decimal 12 3) (pos 0)
+whole_beside_half = refl

@@ -51,8 +51,9 @@ literal_class (literal.Fraction whole part) = Fraction
 literal_class (literal.Timestamp zeptos) = Moment
 literal_class (literal.Time zeptos) = Clock
 
--- the value of a literal: of a number the number, whatever its type, of a timestamp and a time the
--- zeptoseconds. A fraction is compared with nothing: it has that of what is before its point.
+-- the value of a literal: of a number the number, whatever its type, and of a timestamp or a time
+-- that stands next to no column of such the zeptoseconds. A fraction that stands so is compared with
+-- nothing: it has that of what is before its point.
 abbrev pub literal_value : Literal → Value
 literal_value (literal.Text bytes) = value.Text bytes
 literal_value (literal.Truth flag) = value.Bool flag

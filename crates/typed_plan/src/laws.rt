@@ -4,7 +4,8 @@ ghost use Rattle.std.specs.Prelude.{ℕ, ℤ};
 ghost use Rattle.arrow_types.specs.declared.data_type.TimeUnit.{TimeUnit};
 ghost use Rattle.scan_base.specs.declared.comparison.Comparison.{Comparison};
 ghost use Rattle.typed_plan.specs.Meaning.{RangesJoin};
-ghost use Rattle.typed_plan.specs.SettledLiterals.{ComparesExactly, DecimalsCompareExactly};
+ghost use Rattle.typed_plan.specs.SettledLiterals.{ComparesExactly, AgreesExactly};
+ghost use Rattle.typed_plan.specs.SettledLiterals.{DecimalsCompareExactly};
 ghost use Rattle.typed_plan.specs.TypedPlans.{TypedPredicatesNameColumns};
 
 /// Two neighboring ranges of a query that is not grouped give the rows of the range that they make
@@ -20,10 +21,12 @@ pub fn typed_predicates_name_columns()
 {}
 
 /// A literal of a timestamp or a time compares with the numbers of a column exactly as it is
-/// written, however many digits its fraction has.
+/// written, however many digits its fraction has. And two of one IN are equal as they are written.
 pub fn literals_compare_exactly()
-    ensures { (comparison : Comparison) (unit : TimeUnit) (number zeptos : ℤ) →
+    ensures with_columns { (comparison : Comparison) (unit : TimeUnit) (number zeptos : ℤ) →
         ComparesExactly comparison unit number zeptos }
+    ensures with_literals { (unit : TimeUnit) (left zeptos : ℤ) →
+        AgreesExactly unit left zeptos }
 {}
 
 /// A literal of a number compares with the numbers of a column of decimals or integers exactly as it

@@ -76,7 +76,7 @@ pub fn zeptos_said(text: &str) -> Option<i128>
     }
 }
 
-// The same of a text without a zone.
+// The zeptoseconds from then to the moment that a text without a zone says.
 fn moment_zeptos(text: &[u8]) -> Option<i128>
     ensures { result ≡ moment_zeptos text.now }
 {
