@@ -161,6 +161,7 @@ STEPS = [Script("pages", ["--check"], of_program=False), Script("session"), Scri
          Script("cut_input"), Script("lying_bytes"), Script("large_answers", ["--workers", "1,4"]),
          Script("interleavings", ["--count", "200", "--large", "2", *WORKERS]),
          Script("sqlite_answers", ["--count", "100", "--wide", "1", "--large", "1", "--batched", "5", *WORKERS]),
+         Script("public_tables", ["--expect", "277", "15"]),
          Script("drive", ["--seconds", "10", "--connections", "16", "--large", "--workers", "1,4"]),
          Script("drive", ["--seconds", "5", "--connections", "16", "--keep", "5"]),
          Script("expiries", ["--puts", "2000"]), Script("expiries", ["--puts", "600", "--keep", "1"]),

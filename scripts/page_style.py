@@ -6,15 +6,15 @@ import re
 # The most words of each page, as `wc -w` counts them; and of a crate's README.
 MOST_WORDS_OF = {
     "README.md": 1_000, "CONTRIBUTING.md": 2_030, "CHANGELOG.md": 600, "SECURITY.md": 750,
-    "docs/USING.md": 3_250, "docs/PROTOCOL.md": 8_240, "docs/FORMATS.md": 5_110,
+    "docs/USING.md": 3_270, "docs/PROTOCOL.md": 8_240, "docs/FORMATS.md": 5_110,
     "docs/SQL.md": 5_520, "docs/PROMISE.md": 5_740, "docs/ARCHITECTURE.md": 6_000,
     "docs/DECISIONS.md": 6_020, "docs/SCALING.md": 950, "bench/README.md": 2_500,
-    "scripts/README.md": 1_950, "clients/python/README.md": 780,
+    "scripts/README.md": 2_000, "clients/python/README.md": 780,
     "gateway/README.md": 1_050, "plants/README.md": 1_250, "vectors/README.md": 400,
     "vectors/arrow/README.md": 1_200, "vectors/flight/README.md": 350, "vectors/puts/README.md": 320,
 }
 MOST_WORDS_OF_A_CRATE = 1_000
-MOST_WORDS_OF_CRATES, MOST_WORDS_OF_OTHERS = 33_690, 54_460  # of all crates' READMEs, and of all other pages
+MOST_WORDS_OF_CRATES, MOST_WORDS_OF_OTHERS = 33_860, 54_640  # of all crates' READMEs, and of all other pages
 MOST_WORDS_OF_A_PARAGRAPH = 80
 MOST_COLUMNS = 100
 AVOIDED = re.compile(r"\b(behind|beside|anew|whoever|house)\b", re.I)
