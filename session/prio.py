@@ -1,7 +1,7 @@
 """Every 4 seconds: checks of rt ci whose chain of dependents is longest get the most of the processors."""
 import os,re,glob,time
 d={}
-for l in open('/work/trees/moments/crates.txt'):
+for l in open('/work/trees/NAME/crates.txt'):
     m=re.match(r'([a-z_]+):(.*)',l)
     if m: d[m[1]]=m[2].split()
 def below(n,s=None):
@@ -9,7 +9,7 @@ def below(n,s=None):
     for x in d.get(n,[]):
         if x in d and x not in s: s.add(x); below(x,s)
     return s
-cost={n:17+1.28*sum(len(re.findall(r'\bfn ',open(f).read())) for f in glob.glob(f'/work/trees/moments/crates/{n}/src/**/*.rt',recursive=True))+1.24*len(below(n)) for n in d}
+cost={n:17+1.28*sum(len(re.findall(r'\bfn ',open(f).read())) for f in glob.glob(f'/work/trees/NAME/crates/{n}/src/**/*.rt',recursive=True))+1.24*len(below(n)) for n in d}
 up={n:[m for m in d if n in d[m]] for n in d}
 T={}
 def tail(n):
@@ -33,12 +33,16 @@ while True:
             except OSError: pass
         if '--crate-name' not in a or not a[0].endswith('rattle'): continue
         n=a[a.index('--crate-name')+1]
+        if any(cwd.startswith('/work/trees/'+x) for x in open('/work/lowtrees').read().split()):
+            try: setall(p,5)
+            except OSError: pass
+            continue
         if 'rt-edit' in cwd:
             try: setall(p,-9)
             except OSError: pass
             continue
         if 'build' not in a[:3] and n not in ('sql_parse','fault_hints','flightscan','call_cases','server_cases','worker_cases','query_cases','format_cases','column_cases'):
-            want=-2
+            want=int(open('/work/hands').read() or -2)
             try: setall(p,want)
             except OSError: pass
             continue
